@@ -296,7 +296,7 @@ module _ (f : NamedTrees) (was : AllTables) (held : IsDoc f.names f.trees was) (
       (names : g.names ≡ f.names ++ next_name new f.names ∷ [])
       (trees : g.trees ≡ with_node (new_root (next_name new f.names) Shadow document) f.trees)
       (hosts : slots.hosts ≡ was.slots.hosts ++ record { host = host; root = length f.names; owner = new } ∷ [])
-      (free : slots.begun ≡ None) (of : AreSlotsOf g slots) where
+      (of : AreSlotsOf g slots) where
     abbrev now : AllTables
     now = record was { slots = slots }
 
@@ -310,7 +310,6 @@ module _ (f : NamedTrees) (was : AllTables) (held : IsDoc f.names f.trees was) (
       signalled = refl;
       ranges = refl;
       hosts = hosts ∙ ap (λ o. was.slots.hosts ++ record { host = host; root = length f.names; owner = o } ∷ []) new_is;
-      free = free;
       slots = of;
     }
 

@@ -1,6 +1,6 @@
 -- A shadow root is attached: what is held has one host more, so it is still a legal `Doc`, and its world is that of the
 -- definitions.
-use Rattle.std.proofs.Common.{◌≡◌, ◌≢◌, ℕ, ◌<◌, ◌≤◌, ◌⊎◌, inl, inr, true, false, List, [], ◌∷◌, ◌++◌, Option, None, length}
+use Rattle.std.proofs.Common.{◌≡◌, ◌≢◌, ℕ, ◌<◌, ◌≤◌, ◌⊎◌, inl, inr, true, false, List, [], ◌∷◌, ◌++◌, Option, length}
 use Rattle.std.proofs.Common.{refl, sym, ap, subst, ◌∙◌, arith}
 use Rattle.std.specs.List.{AllByRecursion}
 use Rattle.std.proofs.lemmas.Bool.{cases_Bool, false_from_ne_true}
@@ -61,7 +61,6 @@ pub record HasOneHostMore (f g : NamedTrees) (was now : AllTables) (host : ℕ) 
   pub signalled : now.signalled ≡ was.signalled
   pub ranges : now.ranges ≡ was.ranges
   pub hosts : now.slots.hosts ≡ was.slots.hosts ++ record { host = host; root = length f.names; owner = component_for f was host } ∷ []
-  pub free : now.slots.begun ≡ None
   pub slots : AreSlotsOf g now.slots
 
 module _ (f g : NamedTrees) (was now : AllTables) (host : ℕ) (d : Option NodeName) (held : IsDoc f.names f.trees was) (within : host < length f.names)
@@ -249,7 +248,7 @@ module _ (f g : NamedTrees) (was now : AllTables) (host : ℕ) (d : Option NodeN
     own = own_after;
     idle = λ q off. own_rest q ∙ held.idle q (absent_before q off);
     made = subst (AreMadeBehind g.names []) (sym more.hosts) (hosts_after room).made;
-    signals = record { free = more.free; slots = more.slots; nodes = nodes_after };
+    signals = record { slots = more.slots; nodes = nodes_after };
     speaks = λ p. subst (λ ns. SpeaksOf (IsKey ns) (now.observers p)) (sym more.names)
         (subst (λ (os : Owner → TablesOf ℕ). SpeaksOf (IsKey grown) (os p)) (sym more.observers)
         (speaks_grown f.names (shadow_root_of c) (was.observers p) (held.speaks p)));

@@ -19,7 +19,7 @@ use Rattle.dom_model.specs.TreeChanges.{with_node}
 use Rattle.dom_model.specs.DocumentMachine.{new_root, part_with_root, attaching}
 use Rattle.dom_model.specs.Part.{Part}
 use Rattle.dom_model.specs.World.{World, MayAttach, with_part, is_there, component_made, made_by, shadow_root_of}
-use Rattle.dom_model.proofs.OwnerLaws.{owner_eq-true, owner_eq-false, owner_eq-same, ne-owner_eq, made_by-made, component_made-no_page, component_made-other}
+use Rattle.dom_model.proofs.OwnerLaws.{owner_eq-true, owner_eq-false, owner_eq-same, ne-owner_eq, made_by-made, component_made-no_page}
 use Rattle.dom_slots.specs.Hosts.{ShadowHost, HostsAreNodes}
 use Rattle.dom_tree.specs.Forest.{name_at, count_of}
 use Rattle.dom_tree.specs.Owners.{AreOwned, IsOwnChange, trees_of_owner}
@@ -75,10 +75,6 @@ module _ (a : Contents) (hosts : List ShadowHost) (held : AreHostsOf a hosts) (m
 
   pub component_new : is_there (world_of a) next_component ≡ false
   component_new = component_absent (count_hosts a.names hosts m) (omega arith)
-
-  -- nor its maker
-  pub next_other : next_component ≢ m
-  next_other = component_made-other m (count_hosts a.names hosts m)
 
   module _ (present : (k : ℕ) → k < length a.names → is_there (world_of a) (name_at a.names k).owner ≡ true) (b : Contents) (x : NodeName)
       (own : x.owner ≡ m) (there : is_there (world_of a) m ≡ true)

@@ -15,7 +15,7 @@ use Rattle.dom_model.specs.World.{World, part_of, host_of, host_above, some_if, 
 use Rattle.dom_model.proofs.OwnerLaws.{name_eq-true}
 use Rattle.dom_slots.specs.Hosts.{host_named}
 use Rattle.dom_slots.specs.Shadows.{ShadowTrees, IsShownBy, shadows}
-use Rattle.dom_slots.proofs.Ended.{host-key}
+use Rattle.dom_slots.proofs.Hosted.{host-key}
 use Rattle.dom_laws.proofs.Lists.{name_eq-from}
 use Rattle.dom_tree.specs.Forest.{NamedTrees, name_at}
 use Rattle.dom_tree.proofs.Owned.{read_own, stays_own}

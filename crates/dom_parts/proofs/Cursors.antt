@@ -111,9 +111,6 @@ module _ (names : List NodeName) (ts : Trees) (tables : AllTables) (held : IsDoc
   )
 
   module _ (u : KeyedTables) where
-    abbrev pub set_tables : AllTables
-    set_tables = with_table tables o u
-
     -- what holds of the others
     pub held_set : AreTablesOf (named_trees names ts) o u → IsDoc names ts (with_table tables o u)
     held_set h =
@@ -130,7 +127,7 @@ module _ (names : List NodeName) (ts : Trees) (tables : AllTables) (held : IsDoc
           idle = λ p off.
               with-other tables.each o u p (λ same. true≢false (sym there ∙ ap (is_there (world_from names ts tables)) (sym same) ∙ off)) ∙ held.idle p off;
           made = held.made;
-          signals = record { free = held.signals.free; slots = held.signals.slots; nodes = held.signals.nodes };
+          signals = record { slots = held.signals.slots; nodes = held.signals.nodes };
           speaks = held.speaks;
           unobserved = held.unobserved;
           due = held.due;

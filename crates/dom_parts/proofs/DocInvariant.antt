@@ -13,7 +13,7 @@ use Rattle.dom_tree.specs.Owners.{AreOwned, trees_of_owner, IsOwnChange}
 use Rattle.dom_observers.specs.Tables.{TablesOf, no_tables as no_observers}
 use Rattle.dom_observers.specs.Naming.{IsKey, SpeaksOf}
 use Rattle.dom_traversal.specs.OwnTables.{no_keyed_tables}
-use Rattle.dom_parts.specs.AllTables.{AreTablesOf, AllTables, signals_of, with_queue, with_observers}
+use Rattle.dom_parts.specs.AllTables.{AreTablesOf, AllTables, trees_with, with_queue, with_observers}
 use Rattle.dom_node_trees.specs.Signalled.{AreSignals}
 use Rattle.dom_parts.specs.Hosting.{maker_of, hosts_of, host_names, host_owners, AreMadeBehind, AreHostsOf}
 use Rattle.dom_parts.specs.Numbering.{AreNumbered}
@@ -83,7 +83,7 @@ pub record StaysHeld (names : List NodeName) (ts : Trees) (tables : AllTables) (
   pub own : (p : Owner) → AreTablesOf (named_trees more us) p (others.each p)
   pub idle : (p : Owner) → is_there (world_from names ts tables) p ≡ false → others.each p ≡ no_keyed_tables
   pub made : AreMadeBehind more [] tables.slots.hosts
-  pub signals : AreSignals more us (signals_of others)
+  pub signals : AreSignals (trees_with more us others)
   pub speaks : (p : Owner) → SpeaksOf (IsKey more) (others.observers p)
   pub unobserved : (p : Owner) → is_there (world_from names ts tables) p ≡ false → others.observers p ≡ no_observers
   pub due : AllByRecursion (IsDue (world_from names ts tables)) others.tasks
@@ -130,7 +130,7 @@ module _ (names : List NodeName) (ts : Trees) (tables : AllTables) (held : IsDoc
         own = λ p. tables_kept names ts (f ts) keeps (held.own p);
         idle = held.idle;
         made = held.made;
-        signals = record { free = held.signals.free; slots = slots; nodes = held.signals.nodes };
+        signals = record { slots = slots; nodes = held.signals.nodes };
         speaks = held.speaks;
         unobserved = held.unobserved;
         due = held.due;
@@ -149,7 +149,7 @@ module _ (names : List NodeName) (ts : Trees) (tables : AllTables) (held : IsDoc
     own = held.own;
     idle = λ o off. held.idle o (sym (who o) ∙ off);
     made = held.made;
-    signals = record { free = held.signals.free; slots = held.signals.slots; nodes = held.signals.nodes };
+    signals = record { slots = held.signals.slots; nodes = held.signals.nodes };
     speaks = speaks;
     unobserved = λ o off. unobserved o (sym (who o) ∙ off);
     due = due_kept (world_from names ts tables) (world_from names ts (with_observers tables observers)) (λ o on. who o ∙ on) tables.tasks held.due;
@@ -170,7 +170,7 @@ module _ (names : List NodeName) (ts : Trees) (tables : AllTables) (held : IsDoc
     own = held.own;
     idle = held.idle;
     made = held.made;
-    signals = record { free = held.signals.free; slots = held.signals.slots; nodes = held.signals.nodes };
+    signals = record { slots = held.signals.slots; nodes = held.signals.nodes };
     speaks = held.speaks;
     unobserved = held.unobserved;
     due = due_kept (world_from names ts tables) (world_from names ts (with_queue tables tasks)) (λ o on. on) tasks due;

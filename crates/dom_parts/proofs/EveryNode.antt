@@ -1,12 +1,11 @@
 -- What holds of each node of trees holds of each after the elementary changes.
-use Rattle.std.proofs.Common.{Bool, true, false, List, [], ◌∷◌, ◌++◌, Option, refl, inl, inr}
+use Rattle.std.proofs.Common.{Bool, true, false, List, [], ◌∷◌, ◌++◌, Option}
 use Rattle.std.specs.Prelude.{if◌then◌else◌}
 use Rattle.std.specs.List.{AllByRecursion}
 use Rattle.dom_base.specs.declared.NodeName.{NodeName}
 use Rattle.dom_model.specs.Names.{name_eq, name_before}
-use Rattle.dom_model.specs.Tree.{Trees, none, tree, Node, nodes, or_else, subtree}
+use Rattle.dom_model.specs.Tree.{Trees, none, tree, Node, or_else, subtree}
 use Rattle.dom_model.specs.TreeChanges.{followed_by, without, is_given, put_before, put_below, put_root, placed, taken_out, map_nodes}
-use Rattle.dom_slots.proofs.NamesOfNodes.{InNodes}
 
 -- each node
 abbrev pub EachNode : (Node → Type 0) → Trees → Type 0
@@ -74,30 +73,6 @@ module _ (P : Node → Type 0) where
 
   -- ---- the same of the list of nodes
 
-  all_both : (ms ns : List Node) → AllByRecursion P ms → AllByRecursion P ns → AllByRecursion P (ms ++ ns)
-  all_both [] ns a b = b
-  all_both (m ∷ ms) ns a b = (a.0, all_both ms ns a.1 b)
-
   all_front : (ms ns : List Node) → AllByRecursion P (ms ++ ns) → AllByRecursion P ms
   all_front [] ns a = tt
   all_front (m ∷ ms) ns a = (a.0, all_front ms ns a.1)
-
-  all_back : (ms ns : List Node) → AllByRecursion P (ms ++ ns) → AllByRecursion P ns
-  all_back [] ns a = a
-  all_back (m ∷ ms) ns a = all_back ms ns a.1
-
-  pub each_listed : (ts : Trees) → EachNode P ts → AllByRecursion P (nodes ts)
-  each_listed none h = tt
-  each_listed (tree n c r) h = (h.0, all_both (nodes c) (nodes r) (each_listed c h.1) (each_listed r h.2))
-
-  listed_each : (ts : Trees) → AllByRecursion P (nodes ts) → EachNode P ts
-  listed_each none a = tt
-  listed_each (tree n c r) a = (a.0, listed_each c (all_front (nodes c) (nodes r) a.1), listed_each r (all_back (nodes c) (nodes r) a.1))
-
-  all_among : (ns : List Node) → ((m : Node) → InNodes m ns → P m) → AllByRecursion P ns
-  all_among [] h = tt
-  all_among (n ∷ ns) h = (h n (inl refl), all_among ns (λ m i. h m (inr i)))
-
-  -- what holds of the nodes that stand there
-  pub each_among : (ts : Trees) → ((m : Node) → InNodes m (nodes ts) → P m) → EachNode P ts
-  each_among ts h = listed_each ts (all_among (nodes ts) h)

@@ -93,7 +93,6 @@ module _ (names : List NodeName) (ts : Trees) (tables : AllTables) (held : IsDoc
         idle = held.idle;
         made = made_renamed names grown (names_pushed names (next_name o names)) [] tables.slots.hosts tt held.signals.slots.hosts held.made;
         signals = record {
-          free = held.signals.free;
           slots = slots;
           nodes = names_grown names (next_name o names) tables.signalled held.signals.nodes;
         };
@@ -252,7 +251,7 @@ empty_held rs empty = record {
   absent = λ o off. refl;
   limited = λ o. omega arith;
   made = tt;
-  signals = record { free = refl; slots = no_slots_of (named_trees [] none); nodes = All-nil (λ x. is_in name_eq x [] ≡ true) };
+  signals = record { slots = no_slots_of (named_trees [] none); nodes = All-nil (λ x. is_in name_eq x [] ≡ true) };
   own = no_cursors (named_trees [] none);
   idle = λ o off. refl;
   speaks = λ o. speaks_none (IsKey []);

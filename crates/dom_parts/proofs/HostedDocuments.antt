@@ -1,5 +1,5 @@
 -- Node documents in the world of what is held with hosts: a tree's, and those of the shadow trees of the hosts in it, at any depth.
-use Rattle.std.proofs.Common.{◌≡◌, ℕ, zero, suc, true, List, [], ◌∷◌, ◌++◌, Option, Some, None, fold, map, filter_map, flat_map, refl, sym, ap, subst, ◌∙◌}
+use Rattle.std.proofs.Common.{◌≡◌, ℕ, zero, suc, true, List, [], ◌∷◌, ◌++◌, Option, Some, None, fold, map, filter_map, flat_map, refl, sym, ap, ◌∙◌}
 use Rattle.std.specs.Prelude.{option_map}
 use Rattle.std.specs.List.{AllByRecursion, cons_option}
 use Rattle.std.proofs.lemmas.List.{map-append}
@@ -59,14 +59,6 @@ shadows_stepped a hosts d (o ∷ os) held there =
     shadows_stepped next hosts d os (document_hosted a hosts held o there.0 (shadow_root_of o) d refl) (all_there a next refl os there.1)
     ∙ ap (λ (w : World). fold (with_shadow_document d) w os) (document_stepped a hosts held o there.0 (shadow_root_of o) d refl)
 
--- and the hosts stay
-shadows_hosted : (a : Contents) (hosts : List ShadowHost) (d : NodeName) (os : List Owner) → AreHostsOf a hosts →
-    AllByRecursion (λ o. is_there (world_of a) o ≡ true) os → AreHostsOf (fold (document_in d) a (map shadow_root_of os)) hosts
-shadows_hosted a hosts d [] held there = held
-shadows_hosted a hosts d (o ∷ os) held there =
-    let next = document_in d a (shadow_root_of o) in
-    shadows_hosted next hosts d os (document_hosted a hosts held o there.0 (shadow_root_of o) d refl) (all_there a next refl os there.1)
-
 -- the shadow roots of hosts are those of their components
 roots_components : (a : Contents) (hosts : List ShadowHost) → AreHostsOf a hosts → (ys : List NodeName) →
     filter_map (root_named a.names hosts) ys ≡ map shadow_root_of (filter_map (component_named a.names hosts) ys)
@@ -110,9 +102,3 @@ module _ (a : Contents) (hosts : List ShadowHost) (held : AreHostsOf a hosts) (o
       ∙ (shadows_stepped (document_in d a x) hosts d (components_below max_depth (world_of a) x) (document_hosted a hosts held o there x d own)
       below_are_there
       ∙ ap (λ (w : World). fold (with_shadow_document d) w (components_below max_depth (world_of a) x)) (document_stepped a hosts held o there x d own))
-
-  -- and the hosts stay
-  pub documents_hosted : AreHostsOf (documents_in d a hosts x) hosts
-  documents_hosted =
-      subst (λ rs. AreHostsOf (fold (document_in d) (document_in d a x) rs) hosts) (sym (roots_below a hosts held max_depth x))
-      (shadows_hosted (document_in d a x) hosts d (components_below max_depth (world_of a) x) (document_hosted a hosts held o there x d own) below_are_there)

@@ -47,20 +47,6 @@ pub signalled_world : (c : Contents) (ss : List NodeName) → world_of (signals_
 signalled_world c [] = refl
 signalled_world c (s ∷ ss) = signalled_world (signal_in c s) ss
 
--- and the hosts stay
-pub hosts_signalled : (c : Contents) (hosts : List ShadowHost) (ss : List NodeName) → AreHostsOf c hosts → AreHostsOf (signals_in c ss) hosts
-hosts_signalled c hosts [] held = held
-hosts_signalled c hosts (s ∷ ss) held =
-    hosts_signalled (signal_in c s) hosts ss record {
-      owners = held.owners;
-      made = held.made;
-      nodes = held.nodes;
-      attached = held.attached;
-      unhosted = held.unhosted;
-      owned = held.owned;
-      absent = held.absent;
-    }
-
 -- ---- the hosts stay where one owner's part changes
 
 -- names of keys stay where names are added

@@ -1,22 +1,21 @@
 -- The plans of changes set the node documents of their owner's nodes alone.
-use Rattle.std.proofs.Common.{◌≡◌, ℕ, Bool, true, false, not, List, [], ◌∷◌, ◌++◌, Option, Some, None, map, filter, drop, length, flat_map, ◌+◌, ◌-◌, ◌∙◌}
-use Rattle.std.specs.Prelude.{if◌then◌else◌, ◌&&◌, ◌==◌}
+use Rattle.std.proofs.Common.{◌≡◌, ℕ, Bool, true, false, not, List, [], ◌∷◌, ◌++◌, Option, Some, None, drop, length, flat_map, ◌+◌, ◌-◌, ◌∙◌}
+use Rattle.std.specs.Prelude.{if◌then◌else◌, ◌==◌}
 use Rattle.std.specs.List.{AllByRecursion}
 use Rattle.std.specs.Option.{option_map_or}
 use Rattle.dom_base.specs.declared.NodeName.{NodeName}
 use Rattle.dom_base.specs.declared.Owner.{Owner}
-use Rattle.dom_model.specs.Names.{Word, DomString, is_empty}
-use Rattle.dom_model.specs.Tree.{Trees, roots, names_of, node_in, children_of, descendants, kind_of, is_document, is_fragment, is_text, has_data}
-use Rattle.dom_model.specs.Tree.{attribute_value, length_of, index_of, next_sibling, previous_sibling, parent_of, subtree, trees_below, none, tree}
-use Rattle.dom_model.specs.Output.{Change, attributes, child_list}
+use Rattle.dom_model.specs.Names.{DomString, is_empty}
+use Rattle.dom_model.specs.Tree.{Trees, roots, names_of, node_in, children_of, kind_of, is_fragment}
+use Rattle.dom_model.specs.Tree.{length_of, index_of, next_sibling, parent_of, subtree, trees_below, none, tree}
+use Rattle.dom_model.specs.Output.{Change, child_list}
 use Rattle.dom_model.specs.Part.{Part, next_name}
-use Rattle.dom_model.specs.Steps.{Step, make, make_room, place, set_document, set_attribute, queue_record, split_at, part_step, after}
-use Rattle.dom_model.specs.Changes.{Plan, ◌and_then◌, in_turn, doing, steps_of, only_if, Observing, observed, suppressed, telling, removing}
+use Rattle.dom_model.specs.Steps.{Step, make, make_room, place, set_document, queue_record, split_at, part_step, after}
+use Rattle.dom_model.specs.Changes.{Plan, ◌and_then◌, in_turn, doing, steps_of, Observing, observed, suppressed, telling, removing}
 use Rattle.dom_model.specs.Changes.{removing_from, document_below, has_document, changing_document, adopting, placed_nodes, emptying, making_room}
-use Rattle.dom_model.specs.Changes.{placing, sibling_before, inserting_nodes, inserting, reference_for, pre_inserting, replacing, setting_attribute}
-use Rattle.dom_model.specs.Changes.{unsetting_attribute}
-use Rattle.dom_model.specs.TextChanges.{replacing_data, replacing_all_data, new_text_node, placing_tail, splitting, joins, joining, texts_after}
-use Rattle.dom_model.specs.TextChanges.{normalizing_text, normalizing, replacing_children, setting_text}
+use Rattle.dom_model.specs.Changes.{placing, sibling_before, inserting_nodes, inserting}
+use Rattle.dom_model.specs.TextChanges.{replacing_data, new_text_node, placing_tail, splitting, joins, joining, texts_after}
+use Rattle.dom_model.specs.TextChanges.{normalizing_text}
 use Rattle.dom_model.proofs.StepLaws.{owner-part_step}
 use Rattle.dom_tree.specs.Owners.{AreOf}
 use Rattle.dom_parts.specs.Hosting.{SetsOwnDocuments, IsOwnPart, PlansOwn}
@@ -137,24 +136,6 @@ module _ (o : Owner) where
       plans_if (is_empty moved) [] (inserting_nodes how node moved parent before p) tt
       (plans_inserting_nodes how node moved parent before (placed_own p.trees node own.own is) p own)
 
-  pub plans_pre_inserting : (node parent : NodeName) (child : Option NodeName) → node.owner ≡ o → PlansOwn o (pre_inserting node parent child)
-  plans_pre_inserting node parent child is p own = plans_inserting observed node parent (reference_for p.trees node child) is p own
-
-  pub plans_replacing : (parent node child : NodeName) → node.owner ≡ o → PlansOwn o (replacing parent node child)
-  plans_replacing parent node child is p own =
-      let reference = reference_for p.trees node (next_sibling p.trees child) in
-      let told = child_list parent (placed_nodes p.trees node) (child ∷ []) (previous_sibling p.trees child) reference in
-      plans_then (removing suppressed child and_then inserting suppressed node parent reference) (doing (queue_record told))
-      (plans_then (removing suppressed child) (inserting suppressed node parent reference) (plans_removing suppressed child)
-      (plans_inserting suppressed node parent reference is)) (λ q own. (tt, tt)) p own
-
-  pub plans_attribute : (x : NodeName) (a : Word) (v : DomString) → PlansOwn o (setting_attribute x a v)
-  plans_attribute x a v p own = (tt, (tt, tt))
-
-  pub plans_no_attribute : (x : NodeName) (a : Word) → PlansOwn o (unsetting_attribute x a)
-  plans_no_attribute x a p own = plans_map (λ old. queue_record (attributes x a (Some old)) ∷ set_attribute x a None ∷ []) (λ old. (tt, (tt, tt)))
-      (attribute_value (node_in p.trees x) a)
-
   -- ---- of data and of text
 
   pub plans_data : (x : NodeName) (offset count : ℕ) (new : DomString) → PlansOwn o (replacing_data x offset count new)
@@ -197,36 +178,3 @@ module _ (o : Owner) where
       let join : NodeName → List Step = λ parent. if is_empty nexts then [] else joining x parent nexts p in
       plans_if (length_of p.trees x == 0) (removing observed x p) (option_map_or join (parent_of p.trees x) []) (plans_removing observed x p own)
       (plans_map join (λ parent. plans_if (is_empty nexts) [] (joining x parent nexts p) tt (plans_joining x parent nexts p own)) (parent_of p.trees x))
-
-  pub plans_normalizing : (x : NodeName) → PlansOwn o (normalizing x)
-  plans_normalizing x p own = plans_each normalizing_text plans_normalizing_text (filter (λ y. is_text (kind_of p.trees y)) (descendants p.trees x)) p own
-
-  pub plans_children : (x : NodeName) (new : DomString) → PlansOwn o (replacing_children x new)
-  plans_children x new p own =
-      let old = children_of p.trees x in
-      let added = if is_empty new then [] else next_name p ∷ [] in
-      let nodes = map (λ y. make (new_text_node y (Some (document_below p.trees x)) new)) added in
-      let told = only_if (not (is_empty old && is_empty new)) (queue_record (child_list x added old None None)) in
-      let out = in_turn (removing suppressed) old in
-      let put = in_turn (λ y. inserting suppressed y x None) added in
-      plans_then (steps_of nodes and_then out and_then put) (steps_of told)
-      (plans_then (steps_of nodes and_then out) put
-      (plans_then (steps_of nodes) out (λ q own. made_all added) (plans_each (removing suppressed) (plans_removing suppressed) old))
-      (plans_turn (λ y. inserting suppressed y x None) added
-      (plans_each_own (λ y. inserting suppressed y x None) (λ y is. plans_inserting suppressed y x None is) added
-      (named (is_empty new) own.owner))))
-      (λ q own. plans_if (not (is_empty old && is_empty new)) (queue_record (child_list x added old None None) ∷ []) [] (tt, tt) tt) p own
-    where
-      made_all : (ys : List NodeName) → AllOwn (map (λ y. make (new_text_node y (Some (document_below p.trees x)) new)) ys)
-      made_all [] = tt
-      made_all (y ∷ ys) = (tt, made_all ys)
-
-      named : (b : Bool) → p.owner ≡ o → AllByRecursion (λ (y : NodeName). y.owner ≡ o) (if b then [] else next_name p ∷ [])
-      named true is = tt
-      named false is = (is, tt)
-
-  pub plans_text : (x : NodeName) (new : DomString) → PlansOwn o (setting_text x new)
-  plans_text x new p own =
-      plans_if (has_data (kind_of p.trees x)) (replacing_all_data x new p)
-      (if is_document (kind_of p.trees x) then [] else replacing_children x new p) (tt, (tt, tt))
-      (plans_if (is_document (kind_of p.trees x)) [] (replacing_children x new p) tt (plans_children x new p own))

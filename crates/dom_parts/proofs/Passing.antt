@@ -3,6 +3,7 @@
 use Rattle.std.proofs.Common.{◌≡◌, ◌≢◌, ℕ, ◌<◌, ◌≤◌, Bool, true, List, [], ◌∷◌, ◌++◌, length, Option, Some, None, Result, Ok, Err, option_map}
 use Rattle.std.proofs.Common.{refl, sym, ap, subst, ◌∙◌, arith}
 use Rattle.std.specs.Prelude.{is_some, slice_get, slice_set, IfOk, OnOk, OnErr, ◌↔◌}
+use Rattle.std.proofs.lemmas.Result.{on_err_weaker}
 use Rattle.std.proofs.lemmas.List.{length-set, length-map, length_push}
 use Rattle.dom_base.specs.declared.Fault.{Fault}
 use Rattle.dom_base.specs.declared.Fault.TheVariants.{Refused}
@@ -15,7 +16,7 @@ use Rattle.dom_model.specs.Traversal.{Iterator, Walker, walker_move}
 use Rattle.dom_model.specs.Output.{Value, an_iterator, a_walker}
 use Rattle.dom_model.specs.CommandRefusals.{past_limit}
 use Rattle.dom_model.specs.World.{part_of, is_there}
-use Rattle.dom_model.specs.Effects.{Effect}
+use Rattle.dom_model.specs.Effects.{Effect, node_or_null}
 use Rattle.dom_tree.specs.Forest.{NamedTrees, name_at}
 use Rattle.dom_traversal.specs.Iterators.{KeyedIterator, IsIteratorOf, iterator_view, iterator_at}
 use Rattle.dom_traversal.specs.Walkers.{KeyedWalker, IsWalkerOf, walker_view, walker_at}
@@ -24,13 +25,14 @@ use Rattle.dom_laws.proofs.Shapes.{above-itself}
 use Rattle.dom_traversal.specs.OwnTables.{KeyedTables, EachItem}
 use Rattle.dom_traversal.specs.Cursors.{with_cursors}
 use Rattle.dom_parts.specs.AllTables.{IsOwnIterator, IsOwnWalker, AreTablesOf, AllTables}
-use Rattle.dom_parts.specs.Doc.{DocState, world_from, state_from, IsDoc, Makes}
+use Rattle.dom_parts.specs.Doc.{DocState, owner_in, world_from, state_from, IsDoc, Makes}
 use Rattle.dom_traversal.proofs.Items.{set_items, push_items}
 use Rattle.dom_tree.specs.Owners.{AreOwned}
 use Rattle.dom_parts.proofs.OwnNodes.{moved_own}
 use Rattle.dom_parts.proofs.Limits.{limit_count}
 use Rattle.dom_parts.proofs.Cursors.{iterators_in, walkers_in, iterator_effect_new, walker_effect_new, has_iterator, has_walker, there_iterator}
-use Rattle.dom_parts.proofs.Cursors.{there_walker, with_own, makes_read, makes_set, held_set}
+use Rattle.dom_parts.proofs.Cursors.{there_walker, with_own, with_iterator, with_walker, walk_effect, makes_read, makes_set, held_set}
+use Rattle.dom_laws.proofs.Options.{was_some}
 
 module _ (f : NamedTrees) {tables : AllTables} (held : IsDoc f.names f.trees tables) {d : DocState}
     (is_d : state_from f.names f.trees tables ≡ d) (o : Owner) where
@@ -59,6 +61,14 @@ module _ (f : NamedTrees) {tables : AllTables} (held : IsDoc f.names f.trees tab
 
   pub walk_there : (k : ℕ) → is_some (slice_get (part_of d.world o).walkers k) ≡ true → is_some (slice_get (tables.each o).walkers k) ≡ true
   walk_there k h = walk_is k ∙ h
+
+  -- the iterator of a number, and the walker
+  pub the_iterator : (k : ℕ) → is_some (slice_get (part_of d.world o).iterators k) ≡ true →
+      (i : KeyedIterator) × (slice_get (tables.each o).iterators k ≡ Some i)
+  the_iterator k h = was_some (slice_get (tables.each o).iterators k) (iter_there k h)
+
+  pub the_walker : (k : ℕ) → is_some (slice_get (part_of d.world o).walkers k) ≡ true → (w : KeyedWalker) × (slice_get (tables.each o).walkers k ≡ Some w)
+  the_walker k h = was_some (slice_get (tables.each o).walkers k) (walk_there k h)
 
   pub iters_of : EachItem (IsIteratorOf f) (tables.each o).iterators
   iters_of k i e = ((held.own o).iterators k i e).stands
@@ -160,6 +170,53 @@ walk_stays {f} owned {o} {w} h m (Some j) value kept =
       own_current = moved_own f.trees owned o (walker_view f.names w) h.own h.own_current m (name_at f.names j) (sym value);
     }
 
+-- what a command that moves an owner's cursor leaves: what is held, the node that it answers, and the world
+pub record Moves (f : NamedTrees) (tables : AllTables) (d : DocState) (o : Owner) (each : Owner → KeyedTables) (c : Command) (r : Option ℕ) :
+    Type 0 where
+  pub held : IsDoc f.names f.trees (record tables { each = each })
+  pub node : (j : ℕ) → r ≡ Some j → j < length d.names
+  pub world : Makes o c (node_or_null (option_map (name_at d.names) r)) d.world (world_from f.names f.trees (record tables { each = each }))
+
+module _ (f : NamedTrees) {tables : AllTables} (held : IsDoc f.names f.trees tables) {d : DocState}
+    (is_d : state_from f.names f.trees tables ≡ d) (o : Owner) (k : ℕ) (each : Owner → KeyedTables) {r : Option ℕ} where
+  pub iter_moves : (h : is_some (slice_get (part_of d.world o).iterators k) ≡ true) (before : Bool) (c : Command)
+      → each ≡ with_cursors tables.each o (with_iterator f.names f.trees tables held o (there_iter f held is_d o k h) k
+      (iterator_at (the_iterator f held is_d o k h).0 before r))
+      → IsIteratorOf f (iterator_at (the_iterator f held is_d o k h).0 before r)
+      → effect (with_own f.names f.trees tables held o (there_iter f held is_d o k h) (tables.each o)) c
+      ≡ Effect.tables (with_own f.names f.trees tables held o (there_iter f held is_d o k h) (with_iterator f.names f.trees tables held o
+      (there_iter f held is_d o k h) k (iterator_at (the_iterator f held is_d o k h).0 before r))) []
+      (node_or_null (option_map (name_at f.names) r))
+      → Moves f tables d o each c r
+  iter_moves h before c state kept does =
+      let there = there_iter f held is_d o k h in
+      let item = the_iterator f held is_d o k h in
+      let w = with_iterator f.names f.trees tables held o there k (iterator_at item.0 before r) in
+      record {
+        held = held_written f held is_d o there each w state (iter_moved f held is_d o k item.0 before r item.1 kept);
+        node = λ j e. name_known f held is_d o j (subst (λ q. IsIteratorOf f (iterator_at item.0 before q)) e kept).reference.node;
+        world = writes f held is_d o there each w state (λ ns. c) (λ ns. node_or_null (option_map (name_at ns) r)) does;
+      }
+
+  pub walk_moves : (h : is_some (slice_get (part_of d.world o).walkers k) ≡ true) (m : Move)
+      → each ≡ with_cursors tables.each o (with_walker f.names f.trees tables held o (there_walk f held is_d o k h) k
+      (walker_at (the_walker f held is_d o k h).0 r))
+      → IsWalkerOf f (walker_at (the_walker f held is_d o k h).0 r)
+      → option_map (name_at f.names) r ≡ walker_move f.trees (walker_view f.names (the_walker f held is_d o k h).0) m
+      → Moves f tables d o each (Command.walk k m) r
+  walk_moves h m state kept value =
+      let there = there_walk f held is_d o k h in
+      let item = the_walker f held is_d o k h in
+      let w = with_walker f.names f.trees tables held o there k (walker_at item.0 r) in
+      record {
+        held = held_written f held is_d o there each w state
+            (walk_moved f held is_d o k item.0 (walker_at item.0 r) item.1
+            (walk_stays held.owned ((held.own o).walkers k item.0 item.1) m r value kept));
+        node = λ j e. name_known f held is_d o j (subst (λ q. IsWalkerOf f (walker_at item.0 q)) e kept).current;
+        world = writes f held is_d o there each w state (λ ns. Command.walk k m) (λ ns. node_or_null (option_map (name_at ns) r))
+            (walk_effect f.names f.trees tables held o there k item.0 m r item.1 value);
+      }
+
 -- ---- cursors that are made
 
 -- an owner's cursors with an iterator more, and with a walker more
@@ -170,7 +227,7 @@ abbrev pub one_walker : KeyedTables → ℕ → Filter → KeyedTables
 one_walker t root filter = record t { walkers = t.walkers ++ record { root = root; current = root; filter = filter } ∷ [] }
 
 module _ (f : NamedTrees) {tables : AllTables} (held : IsDoc f.names f.trees tables) {d : DocState}
-    (is_d : state_from f.names f.trees tables ≡ d) (o : Owner) (there : is_there (world_from f.names f.trees tables) o ≡ true) where
+    (is_d : state_from f.names f.trees tables ≡ d) (o : Owner) where
   full : (n m : ℕ) → m ≡ n → n ≤ 1000000 → {P : Type 0} → (P ↔ (n ≡ 1000000)) → P ↔ (past_limit m 1 ≡ true)
   full n m same few limit = let both = limit_count n m same few in (λ p. both.0 (limit.0 p), λ e. limit.1 (both.1 e))
 
@@ -188,12 +245,26 @@ module _ (f : NamedTrees) {tables : AllTables} (held : IsDoc f.names f.trees tab
       (ap (length {A = Walker}) (walkers_in f.names f.trees tables held o) ∙ length-map (tables.each o).walkers (walker_view f.names))
       (held.own o).few_walkers limit)
 
-  module _ (root : ℕ) (filter : Filter) (own_root : (name_at f.names root).owner ≡ o) where
-    pub iter_made : root < length f.names → StandOnce f → (each : Owner → KeyedTables) {r : Result ℕ Fault} →
+  -- where none is made the state stays
+  pub none_made : (each : Owner → KeyedTables) (r : Result ℕ Fault) → OnErr r (each ≡ tables.each) →
+      OnErr r (state_from f.names f.trees (record tables { each = each }) ≡ d)
+  none_made each r same = on_err_weaker r (λ e. ap (λ (x : Owner → KeyedTables). state_from f.names f.trees (record tables { each = x })) e ∙ is_d) same
+
+  module _ (root : ℕ) (filter : Filter) (is_node : root < length d.names) (is_own : owner_in d root ≡ o) where
+    node : root < length f.names
+    node = subst (λ (e : DocState). root < length e.names) (sym is_d) is_node
+
+    own_root : (name_at f.names root).owner ≡ o
+    own_root = subst (λ (e : DocState). owner_in e root ≡ o) (sym is_d) is_own
+
+    there : is_there (world_from f.names f.trees tables) o ≡ true
+    there = subst (λ p. is_there (world_from f.names f.trees tables) p ≡ true) own_root (held.present root node)
+
+    pub iter_made : StandOnce f → (each : Owner → KeyedTables) {r : Result ℕ Fault} →
         OnOk r (each ≡ with_cursors tables.each o (one_iterator (tables.each o) root filter))
         → ((r ≡ Err (Refused Limit)) ↔ (length (tables.each o).iterators ≡ 1000000))
         → OnErr r (each ≡ tables.each) → IsDoc f.names f.trees (record tables { each = each })
-    iter_made node once each {r = Ok n} is limit same =
+    iter_made once each {r = Ok n} is limit same =
         held_written f held is_d o there each
         (one_iterator (tables.each o) root filter) is
         (iter_pushed f held is_d o (record { root = root; reference = root; before = true; filter = filter })
@@ -205,44 +276,47 @@ module _ (f : NamedTrees) {tables : AllTables} (held : IsDoc f.names f.trees tab
           own = own_root;
         })
         (λ e. let h = limit.1 e in cc))
-    iter_made node once each {r = Err e} is limit same = subst (λ (x : Owner → KeyedTables). IsDoc f.names f.trees (record tables { each = x })) (sym same) held
+    iter_made once each {r = Err e} is limit same = subst (λ (x : Owner → KeyedTables). IsDoc f.names f.trees (record tables { each = x })) (sym same) held
 
-    pub walk_made : root < length f.names → (each : Owner → KeyedTables) (r : Result ℕ Fault) →
+    pub walk_made : (each : Owner → KeyedTables) (r : Result ℕ Fault) →
         OnOk r (each ≡ with_cursors tables.each o (one_walker (tables.each o) root filter))
         → ((r ≡ Err (Refused Limit)) ↔ (length (tables.each o).walkers ≡ 1000000))
         → OnErr r (each ≡ tables.each) → IsDoc f.names f.trees (record tables { each = each })
-    walk_made node each (Ok n) is limit same =
+    walk_made each (Ok n) is limit same =
         held_written f held is_d o there each
         (one_walker (tables.each o) root filter) is
         (walk_pushed f held is_d o (record { root = root; current = root; filter = filter })
         (record { stands = record { root = node; current = node }; own = own_root; own_current = own_root })
         (λ e. let h = limit.1 e in cc))
-    walk_made node each (Err e) is limit same = subst (λ (x : Owner → KeyedTables). IsDoc f.names f.trees (record tables { each = x })) (sym same) held
+    walk_made each (Err e) is limit same = subst (λ (x : Owner → KeyedTables). IsDoc f.names f.trees (record tables { each = x })) (sym same) held
+
+    -- what was made is what the command makes
+    module _ (each : Owner → KeyedTables) (w : KeyedTables) (n : ℕ) where
+      made_writes : (r : Result ℕ Fault) (c : List NodeName → Command) (v : ℕ → Value)
+          → effect (with_own f.names f.trees tables held o there (tables.each o)) (c f.names)
+          ≡ Effect.tables (with_own f.names f.trees tables held o there w) [] (v n) → OnOk r (each ≡ with_cursors tables.each o w) →
+          IfOk r (λ m. m ≡ n) → IfOk r (λ m. Makes o (c d.names) (v m) d.world (world_from f.names f.trees (record tables { each = each })))
+      made_writes (Ok m) c v does is number =
+          subst (λ k. Makes o (c d.names) (v k) d.world (world_from f.names f.trees (record tables { each = each }))) (sym number)
+          (writes f held is_d o there each w is c (λ ns. v n) does)
+      made_writes (Err e) c v does is number = tt
 
     pub iter_made_writes : (each : Owner → KeyedTables) (r : Result ℕ Fault) →
         OnOk r (each ≡ with_cursors tables.each o (one_iterator (tables.each o) root filter)) →
         IfOk r (λ n. n ≡ length (tables.each o).iterators)
         → IfOk r (λ n. Makes o (Command.iterator_new (own (name_at d.names root).number) filter) (an_iterator n) d.world
         (world_from f.names f.trees (record tables { each = each })))
-    iter_made_writes each (Ok n) is number =
-        subst (λ k. Makes o (Command.iterator_new (own (name_at d.names root).number) filter) (an_iterator k) d.world
-        (world_from f.names f.trees (record tables { each = each }))) (sym number)
-        (writes f held is_d o there each
-        (one_iterator (tables.each o) root filter) is
-        (λ ns. Command.iterator_new (own (name_at ns root).number) filter) (λ ns. an_iterator (length (tables.each o).iterators))
-        (iterator_effect_new f.names f.trees tables held o there root filter own_root))
-    iter_made_writes each (Err e) is number = tt
+    iter_made_writes each r =
+        made_writes each (one_iterator (tables.each o) root filter) (length (tables.each o).iterators) r
+        (λ ns. Command.iterator_new (own (name_at ns root).number) filter) an_iterator
+        (iterator_effect_new f.names f.trees tables held o there root filter own_root)
 
     pub walk_made_writes : (each : Owner → KeyedTables) (r : Result ℕ Fault) →
         OnOk r (each ≡ with_cursors tables.each o (one_walker (tables.each o) root filter)) →
         IfOk r (λ n. n ≡ length (tables.each o).walkers)
         → IfOk r (λ n. Makes o (Command.walker_new (own (name_at d.names root).number) filter) (a_walker n) d.world
         (world_from f.names f.trees (record tables { each = each })))
-    walk_made_writes each (Ok n) is number =
-        subst (λ k. Makes o (Command.walker_new (own (name_at d.names root).number) filter) (a_walker k) d.world
-        (world_from f.names f.trees (record tables { each = each }))) (sym number)
-        (writes f held is_d o there each
-        (one_walker (tables.each o) root filter) is
-        (λ ns. Command.walker_new (own (name_at ns root).number) filter) (λ ns. a_walker (length (tables.each o).walkers))
-        (walker_effect_new f.names f.trees tables held o there root filter own_root))
-    walk_made_writes each (Err e) is number = tt
+    walk_made_writes each r =
+        made_writes each (one_walker (tables.each o) root filter) (length (tables.each o).walkers) r
+        (λ ns. Command.walker_new (own (name_at ns root).number) filter) a_walker
+        (walker_effect_new f.names f.trees tables held o there root filter own_root)

@@ -14,7 +14,7 @@ use Rattle.dom_model.specs.Effects.{Effect, changes_range, collapsed_to}
 use Rattle.dom_model.specs.Extract.{both_at}
 use Rattle.dom_model.specs.Names.{owner_eq, node_of}
 use Rattle.dom_model.specs.Output.{Value, nothing, a_range, boundaries}
-use Rattle.dom_model.specs.Part.{Part, range_at}
+use Rattle.dom_model.specs.Part.{range_at}
 use Rattle.dom_model.specs.Ranges.{Range, at, from_to, with_start, with_end}
 use Rattle.dom_model.specs.World.{part_of, with_part, is_there}
 use Rattle.dom_model.proofs.OwnerLaws.{owner_eq-same, owner_eq-true, owner_eq-false, ne-owner_eq}
@@ -41,10 +41,6 @@ module _ (c : Contents) (t u : RangeLists) (ranges : AreRangesOf c t) (o : Owner
 
   other_set : (q : Owner) → q ≢ o → ranges_of u q ≡ ranges_of t q
   other_set q other = set q ∙ ap (λ b. cond b rs (ranges_of t q)) (ne-owner_eq o q (λ e. other (sym e)))
-
-  -- the owner's part then
-  abbrev pub part_set : Part
-  part_set = record (part_in c o) { ranges = named_ranges c.names rs }
 
   pub set_change : IsChangeOf c (ranged u c) o (record (part_in c o) { ranges = named_ranges c.names rs })
   set_change = record {

@@ -4,6 +4,7 @@ use Rattle.std.proofs.Common.{◌≡◌, ℕ, ◌<◌, ◌≤◌, ◌^◌, ◌�
 use Rattle.std.proofs.Common.{None, Result, Ok, Err, is_some, refl, sym, ap, subst, ◌∙◌}
 use Rattle.std.specs.Prelude.{⊤, not, ◌&&◌, if◌then◌else◌, IsSome, IfOk, IfErr, OnOk, OnErr, ◌↔◌, option_map, slice_set}
 use Rattle.std.proofs.lemmas.Bool.{cases_Bool, false_from_ne_true}
+use Rattle.std.proofs.lemmas.Result.{on_ok_weaker}
 use Rattle.dom_base.specs.declared.Fault.{Fault}
 use Rattle.dom_base.specs.declared.Fault.TheVariants.{Refused}
 use Rattle.dom_base.specs.declared.Refusal.{Refusal}
@@ -44,6 +45,15 @@ ranges_equal c t u same h = record {
   few = λ q. subst (λ (rs : RangeList). length rs ≤ 1000000) (sym (same q)) (h.few q);
   absent = λ q off. same q ∙ h.absent q (sym (there_same (ranged u c) c refl q) ∙ off);
 }
+
+-- what a call leaves that sets one end of a range by a command, or is refused
+pub record SetsEnd (f : NamedTrees) (tables : AllTables) (d : DocState) (o : Owner) (node offset : ℕ) (u : RangeLists) (command : Command)
+    (r : Result ⊤ Refusal) : Type 0 where
+  pub held : IsDoc f.names f.trees (with_live tables u)
+  pub makes : OnOk r (Makes o command nothing d.world (world_from f.names f.trees (with_live tables u)))
+  pub refused : (r ≡ Err IndexSize) ↔ (past_end (part_of d.world o) (name_in d node) offset ≡ true)
+  pub other : IfErr r (λ e. e ≡ IndexSize)
+  pub same : OnErr r (state_from f.names f.trees (with_live tables u) ≡ d)
 
 pub some_of : {X Y : Type 0} (g : X → Y) (m : Option X) → is_some (option_map g m) ≡ is_some m
 some_of g None = refl
@@ -97,9 +107,33 @@ module _ (f : NamedTrees) {tables : AllTables} (held : IsDoc f.names f.trees tab
       pub live_held : EachRange (BothEnds (IsOwnPoint f.names o)) rs → length rs ≤ 1000000 → IsDoc f.names f.trees (with_live tables u)
       live_held stand few = held_live f.names f.trees tables held u (set_ranges c tables.ranges u held.ranges o there rs set stand few)
 
-    -- ---- a range is made
+  -- where a call fails
+  pub same_if : (u : RangeLists) {T E : Type 0} (r : Result T E) → OnErr r ((q : Owner) → ranges_of u q ≡ ranges_of tables.ranges q) →
+      OnErr r (state_from f.names f.trees (with_live tables u) ≡ d)
+  same_if u (Ok x) same = tt
+  same_if u (Err e) same = same_live u same
 
-    module _ (node : ℕ) (at_node : node < length f.names) (first : name_at f.names node ≡ node_of o 0) where
+  -- ---- a range is made
+
+  module _ (node : ℕ) (is_node : node < length d.names) (is_first : name_in d node ≡ node_of o 0) where
+    at_node : node < length f.names
+    at_node = subst (λ (e : DocState). node < length e.names) (sym is_d) is_node
+
+    first : name_at f.names node ≡ node_of o 0
+    first = subst (λ (e : DocState). name_in e node ≡ node_of o 0) (sym is_d) is_first
+
+    there_first : is_there (world_from f.names f.trees tables) o ≡ true
+    there_first = subst (λ p. is_there (world_from f.names f.trees tables) p ≡ true) (ap (λ (x : NodeName). x.owner) first) (held.present node at_node)
+
+    -- where an owner has as many as it may
+    pub range_limit : {P : Type 0} → (P ↔ (past_limit (length own) 1 ≡ true)) →
+        P ↔ (past_limit (length (part_of d.world o).ranges) 1 ≡ true)
+    range_limit {P} limit =
+        subst (λ (e : DocState). P ↔ (past_limit (length (part_of e.world o).ranges) 1 ≡ true)) is_d
+        (subst (λ (p : Part). P ↔ (past_limit (length p.ranges) 1 ≡ true)) (sym (part_at c o there_first))
+        (subst (λ b. P ↔ (b ≡ true)) (limit_read c tables.ranges held.ranges o) limit))
+
+    module _ (u : RangeLists) where
       abbrev one_more : RangeList
       one_more = own ++ Some (from_to (at node 0) (at node 0)) ∷ []
 
@@ -107,7 +141,7 @@ module _ (f : NamedTrees) {tables : AllTables} (held : IsDoc f.names f.trees tab
           ((r ≡ Err (Refused Limit)) ↔ (past_limit (length own) 1 ≡ true))
           → OnErr r ((q : Owner) → ranges_of u q ≡ ranges_of tables.ranges q) → IsDoc f.names f.trees (with_live tables u)
       make_held (Ok n) set limit same =
-          live_held one_more set (made_own c tables.ranges held.ranges o node at_node (ap (λ (x : NodeName). x.owner) first))
+          live_held there_first u one_more set (made_own c tables.ranges held.ranges o node at_node (ap (λ (x : NodeName). x.owner) first))
           (made_few c tables.ranges held.ranges o node (false_from_ne_true (past_limit (length own) 1) (λ h. let full = limit.1 h in cc)))
       make_held (Err e) set limit same = same_held u same
 
@@ -115,22 +149,8 @@ module _ (f : NamedTrees) {tables : AllTables} (held : IsDoc f.names f.trees tab
           → IfOk r (λ n. Makes o Command.range_new (a_range n) d.world (world_from f.names f.trees (with_live tables u)))
       make_makes (Ok n) set number =
           subst (λ k. Makes o Command.range_new (a_range k) d.world (world_from f.names f.trees (with_live tables u))) (sym number)
-          (live_makes one_more set (λ ns. Command.range_new) (a_range (length own)) (make_effect c tables.ranges held.ranges o node first))
+          (live_makes there_first u one_more set (λ ns. Command.range_new) (a_range (length own)) (make_effect c tables.ranges held.ranges o node first))
       make_makes (Err e) set number = tt
-
-  -- where an owner has as many as it may
-  pub range_limit : is_there (world_from f.names f.trees tables) o ≡ true → {P : Type 0} → (P ↔ (past_limit (length own) 1 ≡ true)) →
-      P ↔ (past_limit (length (part_of d.world o).ranges) 1 ≡ true)
-  range_limit there {P} limit =
-      subst (λ (e : DocState). P ↔ (past_limit (length (part_of e.world o).ranges) 1 ≡ true)) is_d
-      (subst (λ (p : Part). P ↔ (past_limit (length p.ranges) 1 ≡ true)) (sym (part_at c o there))
-      (subst (λ b. P ↔ (b ≡ true)) (limit_read c tables.ranges held.ranges o) limit))
-
-  -- where a call fails
-  pub same_if : (u : RangeLists) {T E : Type 0} (r : Result T E) → OnErr r ((q : Owner) → ranges_of u q ≡ ranges_of tables.ranges q) →
-      OnErr r (state_from f.names f.trees (with_live tables u) ≡ d)
-  same_if u (Ok x) same = tt
-  same_if u (Err e) same = same_live u same
 
   -- ---- a range that is there is rewritten, or dropped, or read
 
@@ -207,65 +227,65 @@ module _ (f : NamedTrees) {tables : AllTables} (held : IsDoc f.names f.trees tab
       point : IsOwnPoint f.names o (at node offset)
       point = record { node = node_is; owner = node_own; fits = small }
 
-      abbrev started : RangeList
-      started = slice_set own k (option_map (start_set f (at node offset)) (range_in own k))
-
-      abbrev ended : RangeList
-      ended = slice_set own k (option_map (end_set f (at node offset)) (range_in own k))
-
       -- one of two ranges at the owner's points
       either : (b : Bool) (r s : Range ℕ) → BothEnds (IsOwnPoint f.names o) r → BothEnds (IsOwnPoint f.names o) s →
           BothEnds (IsOwnPoint f.names o) (if b then r else s)
       either true r s h g = h
       either false r s h g = g
 
-      pub start_held : (r : Result ⊤ Refusal) → OnOk r ((q : Owner) → ranges_of u q ≡ with_ranges tables.ranges o started q) →
-          OnErr r ((q : Owner) → ranges_of u q ≡ ranges_of tables.ranges q) → IsDoc f.names f.trees (with_live tables u)
-      start_held (Ok x) set same =
-          live_held there_now u started set
-          (rewritten_own c tables.ranges held.ranges o k (start_set f (at node offset))
-          (λ r h. either (have_one_root f (at node offset) r.end && not (is_key_before f r.end (at node offset)))
-          (from_to (at node offset) r.end) (from_to (at node offset) (at node offset)) (point, h.1) (point, point)))
-          (written_few c tables.ranges held.ranges o k (option_map (start_set f (at node offset)) (range_in own k)))
-      start_held (Err e) set same = same_held u same
+      -- what a call says that sets one of the ends, or is refused: g is what it does to the range
+      pub record Says (g : Range ℕ → Range ℕ) (r : Result ⊤ Refusal) : Type 0 where
+        pub set : OnOk r ((q : Owner) → ranges_of u q ≡ with_ranges tables.ranges o (slice_set own k (option_map g (range_in own k))) q)
+        pub same : OnErr r ((q : Owner) → ranges_of u q ≡ ranges_of tables.ranges q)
+        pub refused : (r ≡ Err IndexSize) ↔ (IsSome (range_in own k) × (length_of f.trees (name_at f.names node) < offset))
+        pub unknown : (r ≡ Err Unknown) ↔ (range_in own k ≡ None)
+        pub other : IfErr r (λ e. (e ≡ Unknown) ⊎ (e ≡ IndexSize))
 
-      pub start_makes : (r : Result ⊤ Refusal) → OnOk r ((q : Owner) → ranges_of u q ≡ with_ranges tables.ranges o started q)
-          → OnOk r (Makes o (Command.range_start k (NodeWord.own (name_in d node).number) offset) nothing d.world
-          (world_from f.names f.trees (with_live tables u)))
-      start_makes (Ok x) set =
-          live_makes there_now u started set (λ ns. Command.range_start k (NodeWord.own (name_at ns node).number) offset) nothing
+      module _ (g : Range ℕ → Range ℕ) (r : Result ⊤ Refusal) (says : Says g r) where
+        end_held : ((q : Range ℕ) → BothEnds (IsOwnPoint f.names o) q → BothEnds (IsOwnPoint f.names o) (g q)) → IsDoc f.names f.trees (with_live tables u)
+        end_held keeps = by r says.set says.same
+          where
+            by : (r : Result ⊤ Refusal)
+                → OnOk r ((q : Owner) → ranges_of u q ≡ with_ranges tables.ranges o (slice_set own k (option_map g (range_in own k))) q)
+                → OnErr r ((q : Owner) → ranges_of u q ≡ ranges_of tables.ranges q) → IsDoc f.names f.trees (with_live tables u)
+            by (Ok x) set same =
+                live_held there_now u (slice_set own k (option_map g (range_in own k))) set (rewritten_own c tables.ranges held.ranges o k g keeps)
+                (written_few c tables.ranges held.ranges o k (option_map g (range_in own k)))
+            by (Err e) set same = same_held u same
+
+        faults : (r : Result ⊤ Refusal) → ((r ≡ Err Unknown) ↔ (range_in own k ≡ None)) → IfErr r (λ e. (e ≡ Unknown) ⊎ (e ≡ IndexSize)) →
+            IfErr r (λ e. e ≡ IndexSize)
+        faults (Ok x) unknown other = tt
+        faults (Err e) unknown (inl is) = absurd (true≢false (sym (range_is k ∙ known) ∙ ap is_some (unknown.0 (ap Err is))))
+        faults (Err e) unknown (inr is) = is
+
+        end_sets : (command : List NodeName → Command) → ((q : Range ℕ) → BothEnds (IsOwnPoint f.names o) q → BothEnds (IsOwnPoint f.names o) (g q))
+            → effect (part_in c o) (command f.names)
+            ≡ Effect.tables (record (part_in c o) { ranges = named_ranges f.names (slice_set own k (option_map g (range_in own k))) }) [] nothing
+            → SetsEnd f tables d o node offset u (command d.names) r
+        end_sets command keeps does = record {
+          held = end_held keeps;
+          makes = on_ok_weaker r (λ is. live_makes there_now u (slice_set own k (option_map g (range_in own k))) is command nothing does) says.set;
+          refused = subst (λ (e : DocState). (r ≡ Err IndexSize) ↔ (past_end (part_of e.world o) (name_in e node) offset ≡ true)) is_d
+              (subst (λ p. (r ≡ Err IndexSize) ↔ (past_end p (name_at f.names node) offset ≡ true)) (sym (part_at c o there_now))
+              (let both = end_read c tables.ranges held.ranges o held.owned node offset node_own in
+              (λ p. both.0 (says.refused.0 p).1, λ e. says.refused.1 (range_is k ∙ known, both.1 e))));
+          other = faults r says.unknown says.other;
+          same = same_if u r says.same;
+        }
+
+      pub start_sets : (r : Result ⊤ Refusal) → Says (start_set f (at node offset)) r
+          → SetsEnd f tables d o node offset u (Command.range_start k (NodeWord.own (name_in d node).number) offset) r
+      start_sets r says =
+          end_sets (start_set f (at node offset)) r says (λ ns. Command.range_start k (NodeWord.own (name_at ns node).number) offset)
+          (λ q h. either (have_one_root f (at node offset) q.end && not (is_key_before f q.end (at node offset)))
+          (from_to (at node offset) q.end) (from_to (at node offset) (at node offset)) (point, h.1) (point, point))
           (start_effect c tables.ranges held.ranges held.owned once only o node node_is node_own k offset)
-      start_makes (Err e) set = tt
 
-      pub end_held : (r : Result ⊤ Refusal) → OnOk r ((q : Owner) → ranges_of u q ≡ with_ranges tables.ranges o ended q) →
-          OnErr r ((q : Owner) → ranges_of u q ≡ ranges_of tables.ranges q) → IsDoc f.names f.trees (with_live tables u)
-      end_held (Ok x) set same =
-          live_held there_now u ended set
-          (rewritten_own c tables.ranges held.ranges o k (end_set f (at node offset))
-          (λ r h. either (have_one_root f (at node offset) r.start && not (is_key_before f (at node offset) r.start))
-          (from_to r.start (at node offset)) (from_to (at node offset) (at node offset)) (h.0, point) (point, point)))
-          (written_few c tables.ranges held.ranges o k (option_map (end_set f (at node offset)) (range_in own k)))
-      end_held (Err e) set same = same_held u same
-
-      pub end_makes : (r : Result ⊤ Refusal) → OnOk r ((q : Owner) → ranges_of u q ≡ with_ranges tables.ranges o ended q)
-          → OnOk r (Makes o (Command.range_end k (NodeWord.own (name_in d node).number) offset) nothing d.world
-          (world_from f.names f.trees (with_live tables u)))
-      end_makes (Ok x) set =
-          live_makes there_now u ended set (λ ns. Command.range_end k (NodeWord.own (name_at ns node).number) offset) nothing
+      pub end_is_set : (r : Result ⊤ Refusal) → Says (end_set f (at node offset)) r
+          → SetsEnd f tables d o node offset u (Command.range_end k (NodeWord.own (name_in d node).number) offset) r
+      end_is_set r says =
+          end_sets (end_set f (at node offset)) r says (λ ns. Command.range_end k (NodeWord.own (name_at ns node).number) offset)
+          (λ q h. either (have_one_root f (at node offset) q.start && not (is_key_before f (at node offset) q.start))
+          (from_to q.start (at node offset)) (from_to (at node offset) (at node offset)) (h.0, point) (point, point))
           (end_effect c tables.ranges held.ranges held.owned once only o node node_is node_own k offset)
-      end_makes (Err e) set = tt
-
-      -- what it is refused for: the range is there
-      pub end_refused : {P : Type 0} → (P ↔ (IsSome (range_in own k) × (length_of f.trees (name_at f.names node) < offset))) →
-          P ↔ (past_end (part_of d.world o) (name_in d node) offset ≡ true)
-      end_refused {P} refused =
-          subst (λ (e : DocState). P ↔ (past_end (part_of e.world o) (name_in e node) offset ≡ true)) is_d
-          (subst (λ p. P ↔ (past_end p (name_at f.names node) offset ≡ true)) (sym (part_at c o there_now))
-          (let both = end_read c tables.ranges held.ranges o held.owned node offset node_own in
-          (λ p. both.0 (refused.0 p).1, λ e. refused.1 (range_is k ∙ known, both.1 e))))
-
-      pub end_faults : (r : Result ⊤ Refusal) → ((r ≡ Err Unknown) ↔ (range_in own k ≡ None)) → IfErr r (λ e. (e ≡ Unknown) ⊎ (e ≡ IndexSize)) →
-          IfErr r (λ e. e ≡ IndexSize)
-      end_faults (Ok x) unknown other = tt
-      end_faults (Err e) unknown (inl is) = absurd (true≢false (sym (range_is k ∙ known) ∙ ap is_some (unknown.0 (ap Err is))))
-      end_faults (Err e) unknown (inr is) = is

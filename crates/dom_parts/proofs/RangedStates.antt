@@ -55,7 +55,7 @@ held_live names ts tables held live stand = record {
   own = held.own;
   idle = λ o off. held.idle o (sym (who o) ∙ off);
   made = held.made;
-  signals = record { free = held.signals.free; slots = held.signals.slots; nodes = held.signals.nodes };
+  signals = record { slots = held.signals.slots; nodes = held.signals.nodes };
   speaks = held.speaks;
   unobserved = λ o off. held.unobserved o (sym (who o) ∙ off);
   due = due_kept (world_from names ts tables) (world_from names ts (with_live tables live)) (λ o on. who o ∙ on) tables.tasks held.due;
@@ -236,24 +236,24 @@ module _ (f : NamedTrees) {tables : AllTables} (held : IsDoc f.names f.trees tab
                 others = λ q other. ap (λ us. part_with q us (count_of q f.names) (was.tables q)) (change.others q other);
               }).1 (subst (λ n. EachFits tables.ranges (after_replace_data nat_eq node offset count n)) is_size data_asks)
 
-          pub data_held : AreSlotsOf (named_trees f.names (change_node (with_data_replaced offset count new) (name_at f.names node) f.trees))
-              tables.slots → IsDoc g.names g.trees (with_live tables live)
-          data_held slots =
-              subst (λ (ns : List NodeName). IsDoc ns g.trees (with_live tables live)) (sym names)
-              (subst (λ (us : Trees). IsDoc f.names us (with_live tables live)) (sym trees)
-              (held_live f.names (h f.trees) tables
-              (held_changed f.names f.trees tables held own (owner_there f held is_d node node<) h change
-              (keeps_changed (with_data_replaced offset count new) (λ n. refl) (name_at f.names node) f.trees) slots) live stand))
-
-          pub data_state : state_from g.names g.trees (with_live tables live) ≡ stepped (owner_in d node) (replace_data (name_in d node) offset count new) d
-          data_state =
-              subst (λ (e : DocState). state_from g.names g.trees (with_live tables live) ≡ stepped (owner_in e node)
-              (replace_data (name_in e node) offset count new) e) is_d
-              (ap (λ ns. state_from ns g.trees (with_live tables live)) names
-              ∙ (ap (λ us. state_from f.names us (with_live tables live)) trees
-              ∙ ap (λ w. state_with f.names w)
-              (data_told (contents f.names f.trees tables) tables.slots.hosts (are_hosts f.names f.trees tables held) tables.ranges live
-              held.ranges apart own (owner_there f held is_d node node<) node node_is refl offset count new moved_new change)))
+          -- what is held then, and the state
+          pub data_done : AreSlotsOf (named_trees f.names (change_node (with_data_replaced offset count new) (name_at f.names node) f.trees)) tables.slots
+              → IsDoc g.names g.trees (with_live tables live)
+              × (state_from g.names g.trees (with_live tables live) ≡ stepped (owner_in d node) (replace_data (name_in d node) offset count new) d)
+          data_done slots = (
+            subst (λ (ns : List NodeName). IsDoc ns g.trees (with_live tables live)) (sym names)
+                (subst (λ (us : Trees). IsDoc f.names us (with_live tables live)) (sym trees)
+                (held_live f.names (h f.trees) tables
+                (held_changed f.names f.trees tables held own (owner_there f held is_d node node<) h change
+                (keeps_changed (with_data_replaced offset count new) (λ n. refl) (name_at f.names node) f.trees) slots) live stand)),
+            subst (λ (e : DocState). state_from g.names g.trees (with_live tables live) ≡ stepped (owner_in e node)
+                (replace_data (name_in e node) offset count new) e) is_d
+                (ap (λ ns. state_from ns g.trees (with_live tables live)) names
+                ∙ (ap (λ us. state_from f.names us (with_live tables live)) trees
+                ∙ ap (λ w. state_with f.names w)
+                (data_told (contents f.names f.trees tables) tables.slots.hosts (are_hosts f.names f.trees tables held) tables.ranges live
+                held.ranges apart own (owner_there f held is_d node node<) node node_is refl offset count new moved_new change))),
+          )
 
 -- each owner's part in the world, whoever is there
 pub part_everywhere : (f : NamedTrees) {tables : AllTables} → IsDoc f.names f.trees tables → StandOnce f → StandAlone f → (o : Owner) →

@@ -1,5 +1,5 @@
 -- The record of a change, and what a `Doc` holds after it.
-use Rattle.std.proofs.Common.{◌≡◌, ℕ, ◌<◌, Bool, true, false, List, [], ◌∷◌, length, map, Result, Ok, Err, refl, sym, ap, subst, ◌∙◌}
+use Rattle.std.proofs.Common.{◌≡◌, ℕ, ◌<◌, Bool, true, false, List, length, map, Result, Ok, Err, refl, sym, ap, subst, ◌∙◌}
 use Rattle.std.specs.Prelude.{nat_eq, if◌then◌else◌, OnOk, OnErr}
 use Rattle.std.specs.List.{AllByRecursion}
 use Rattle.dom_base.specs.declared.NodeName.{NodeName}
@@ -18,7 +18,7 @@ use Rattle.dom_tree.specs.Apart.{TellApart}
 use Rattle.dom_tree.proofs.Standing.{StandOnce, StandAlone}
 use Rattle.dom_observers.specs.Tables.{TablesOf, is_taken as keyed_taken, told as keyed_told}
 use Rattle.dom_observers.specs.Paths.{path_keys}
-use Rattle.dom_observers.specs.Naming.{named_tables, named_change, IsKey, IsChangeAt, AreAll}
+use Rattle.dom_observers.specs.Naming.{named_tables, named_change, IsKey, IsChangeAt}
 use Rattle.dom_observers.proofs.Naming.{taken_law, told_law}
 use Rattle.dom_observers.proofs.Ascending.{path_keys-named}
 use Rattle.dom_observers.proofs.Speaking.{speaks_told}
@@ -43,11 +43,6 @@ target_at : (P : ℕ → Type 0) (c : Change ℕ) → IsChangeAt P c → P (targ
 target_at P (child_list x added removed before after) h = h.0
 target_at P (attributes x a old) h = h
 target_at P (character_data x old) h = h
-
--- all are, one after another
-pub all_by : {X : Type 0} (P : X → Type 0) (xs : List X) → AllByRecursion P xs → AreAll P xs
-all_by P [] all = tt
-all_by P (x ∷ xs) all = (all.0, all_by P xs all.1)
 
 module _ (f : NamedTrees) {tables : AllTables} (held : IsDoc f.names f.trees tables) (once : StandOnce f) (only : StandAlone f)
     (apart : TellApart f.names) (c : Change ℕ) (speaks : IsChangeAt (IsKey f.names) c) where

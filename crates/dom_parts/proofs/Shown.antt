@@ -11,14 +11,11 @@ use Rattle.dom_model.specs.Output.{Change}
 use Rattle.dom_model.specs.Steps.{Step, queue_record}
 use Rattle.dom_model.specs.WorldSteps.{world_step}
 use Rattle.dom_tree.specs.Forest.{NamedTrees, name_at}
-use Rattle.dom_tree.specs.Owners.{trees_of_owner, IsReadOwn, IsOwnChange}
+use Rattle.dom_tree.specs.Owners.{trees_of_owner, IsReadOwn}
 use Rattle.dom_tree.proofs.Owned.{read_own}
 use Rattle.dom_parts.specs.AllTables.{AllTables}
-use Rattle.dom_parts.specs.Doc.{DocState, named_trees, contents, state_from, world_from, IsDoc, name_in, owner_in, trees_in, stepped}
+use Rattle.dom_parts.specs.Doc.{DocState, contents, state_from, world_from, IsDoc, name_in, owner_in, trees_in, stepped}
 use Rattle.dom_parts.proofs.Worlds.{part_at, part_off}
-use Rattle.dom_laws.proofs.KeptAncestors.{KeepsAbove}
-use Rattle.dom_slots.specs.Kept.{AreSlotsOf}
-use Rattle.dom_parts.proofs.DocInvariant.{held_changed}
 use Rattle.dom_parts.proofs.Steps.{record_world}
 
 abbrev pub state_with : List NodeName → World → DocState
@@ -69,13 +66,6 @@ module _ (f : NamedTrees) {tables : AllTables} (held : IsDoc f.names f.trees tab
 
   -- a change of a node's owner's trees: what holds after it, and that it is a step
   module _ (k : ℕ) (h : Trees → Trees) (g : NamedTrees) (names : g.names ≡ f.names) (trees : g.trees ≡ h f.trees) where
-    pub step_held : k < length d.names → IsOwnChange (name_at f.names k).owner h f.trees → KeepsAbove f.trees (h f.trees) →
-        AreSlotsOf (named_trees f.names (h f.trees)) tables.slots → IsDoc g.names g.trees tables
-    step_held k< change keeps slots =
-        subst (λ (ns : List NodeName). IsDoc ns g.trees tables) (sym names)
-        (subst (λ (us : Trees). IsDoc f.names us tables) (sym trees)
-        (held_changed f.names f.trees tables held (name_at f.names k).owner (owner_there k k<) h change keeps slots))
-
     pub step_done : (s : List NodeName → Step) →
         world_from f.names (h f.trees) tables ≡ world_step (name_at f.names k).owner (world_from f.names f.trees tables) (s f.names)
         → state_from g.names g.trees tables ≡ stepped (owner_in d k) (s d.names) d

@@ -1,5 +1,6 @@
 -- Steps that signal slots: what holds after them, and the state then; and what holds where they were refused memory.
-use Rattle.std.proofs.Common.{◌≡◌, ℕ, ◌^◌, arith, ◌<◌, true, false, List, [], ◌∷◌, fold, length, Result, Ok, Err, Option, Some, None, refl, sym, ap, subst, ◌∙◌}
+use Rattle.std.proofs.Common.{◌≡◌, ℕ, ◌^◌, arith, ◌<◌, true, false, List, [], ◌∷◌, fold, length, Result, Ok, Err, Option, Some, refl, sym, ap, subst, ◌∙◌}
+use Rattle.std.proofs.lemmas.Result.{on_ok_weaker}
 use Rattle.std.specs.Prelude.{OnOk, OnErr, nat_eq, if◌then◌else◌}
 use Rattle.std.specs.List.{AllByRecursion}
 use Rattle.dom_base.specs.declared.NodeName.{NodeName}
@@ -12,8 +13,7 @@ use Rattle.dom_model.specs.Steps.{Step as ModelStep, take_out}
 use Rattle.dom_model.specs.World.{Task, is_there}
 use Rattle.dom_model.specs.WorldSteps.{world_step}
 use Rattle.dom_slots.specs.Hosts.{ShadowHost}
-use Rattle.dom_slots.specs.Shadows.{shadow_trees}
-use Rattle.dom_slots.specs.Steps.{step_signals}
+use Rattle.dom_slots.specs.Kept.{AreSlotsOf}
 use Rattle.dom_slots.specs.declared.step.Step.{Step}
 use Rattle.dom_slots.specs.declared.step.Step.TheVariants.{Removal}
 use Rattle.dom_tree.specs.Forest.{NamedTrees, name_at}
@@ -30,10 +30,11 @@ use Rattle.dom_observers.specs.Paths.{path_keys}
 use Rattle.dom_observers.specs.Naming.{IsKey, SpeaksOf}
 use Rattle.dom_parts.specs.Contents.{Contents, part_in, world_of}
 use Rattle.dom_parts.specs.Hosting.{host_owners, signals_in}
-use Rattle.dom_node_trees.specs.Signalled.{SignalTables, HasSignalled, HasLeft}
+use Rattle.dom_node_trees.specs.declared.steps.NodeTrees.{NodeTrees}
+use Rattle.dom_node_trees.specs.Signalled.{AreNames, HasStepped, signals_of}
 use Rattle.dom_traversal.specs.OwnTables.{KeyedTables, AreLeft, no_keyed_tables}
 use Rattle.dom_traversal.specs.Cursors.{with_cursors}
-use Rattle.dom_parts.specs.AllTables.{AllTables, AreTablesOf, AreFirst, signals_of, with_live, with_signals, with_observers}
+use Rattle.dom_parts.specs.AllTables.{AllTables, AreTablesOf, AreFirst, trees_with, with_live, with_signals, with_observers}
 use Rattle.dom_parts.specs.Ranging.{AreRangesOf, ranged}
 use Rattle.dom_parts.specs.Doc.{DocState, named_trees, shown_tables, contents, world_from, state_from, IsDoc, IsDue, name_in, owner_in, stepped}
 use Rattle.dom_parts.proofs.BoundedPlans.{index_few}
@@ -68,28 +69,27 @@ module _ (f : NamedTrees) {tables : AllTables} (held : IsDoc f.names f.trees tab
   abbrev pub before_signals : Contents
   before_signals = record (contents f.names f.trees tables) { trees = h f.trees; tables = (contents f.names (h f.trees) next).tables }
 
-  module _ (m : NamedTrees) (names : m.names ≡ f.names) (trees : m.trees ≡ h f.trees) (s : Step) (left : Option ℕ) (after : SignalTables)
-      (signals : HasSignalled f.names f.trees m.trees s left (signals_of tables) after) where
-    here : HasSignalled f.names f.trees (h f.trees) s left (signals_of tables) after
-    here = subst (λ us. HasSignalled f.names f.trees us s left (signals_of tables) after) trees signals
-
+  module _ (s : Step) {after : NodeTrees} (here : HasStepped s (h f.trees) (trees_with f.names f.trees tables) after) where
     abbrev signalled : List NodeName
-    signalled = step_signals f.names (shadow_trees f.names f.trees tables.slots.hosts) (shadow_trees f.names (h f.trees) tables.slots.hosts) s left
+    signalled = signals_of s here.left (h f.trees) (trees_with f.names f.trees tables)
+
+    nodes_then : AreNames f.names after.signalled
+    nodes_then = subst (λ ns. AreNames ns after.signalled) here.names here.held.nodes
 
     -- the notifications that are queued are of owners that are there
-    due_then : AllByRecursion (IsDue (world_from f.names f.trees tables)) after.tasks
+    due_then : AllByRecursion (IsDue (world_from f.names f.trees tables)) after.queue
     due_then =
         let there : NodeName → Type 0 = λ s. is_there (world_from f.names f.trees tables) s.owner ≡ true in
         subst (AllByRecursion (IsDue (world_from f.names f.trees tables))) (sym here.tasks)
         (due_signalled (world_from f.names f.trees tables) signalled
         (all_appended there tables.signalled signalled
-        (subst (AllByRecursion there) here.signalled (all_named there f.names held.present after.signalled here.held.nodes))).1
+        (subst (AllByRecursion there) here.signalled (all_named there f.names held.present after.signalled nodes_then))).1
         tables.tasks held.due)
 
-    pub signalled_held : IsDoc m.names m.trees (with_signals next after)
+    pub signalled_held : IsDoc after.forest.names after.forest.trees (with_signals next after)
     signalled_held =
-        subst (λ (ns : List NodeName). IsDoc ns m.trees (with_signals next after)) (sym names)
-        (subst (λ (us : Trees). IsDoc f.names us (with_signals next after)) (sym trees)
+        subst (λ (ns : List NodeName). IsDoc ns after.forest.trees (with_signals next after)) (sym here.names)
+        (subst (λ (us : Trees). IsDoc f.names us (with_signals next after)) (sym here.trees)
         (held_with f.names f.trees tables held (name_at f.names k).owner (owner_there f held is_d k k<) f.names (h f.trees)
         (with_signals next after) here.hosts record {
           owned = change.owned;
@@ -99,7 +99,11 @@ module _ (f : NamedTrees) {tables : AllTables} (held : IsDoc f.names f.trees tab
           own = own;
           idle = idle;
           made = held.made;
-          signals = record { free = here.held.free; slots = here.held.slots; nodes = here.held.nodes };
+          signals = record {
+            slots = subst (λ (g : NamedTrees). AreSlotsOf g after.slots)
+                (λ j. record { names = here.names j; trees = here.trees j }) here.held.slots;
+            nodes = nodes_then;
+          };
           speaks = speaks;
           unobserved = unobserved;
           due = due_then;
@@ -121,43 +125,21 @@ module _ (f : NamedTrees) {tables : AllTables} (held : IsDoc f.names f.trees tab
     contents_now : contents f.names (h f.trees) (with_signals next after) ≡ signals_in before_signals signalled
     unfolding build
     contents_now =
-        ap (λ (hs : List ShadowHost). build hs after.signalled after.tasks) here.hosts
-        ∙ (ap (λ xs. build tables.slots.hosts xs after.tasks) here.signalled
+        ap (λ (hs : List ShadowHost). build hs after.signalled after.queue) here.hosts
+        ∙ (ap (λ xs. build tables.slots.hosts xs after.queue) here.signalled
         ∙ (ap (build tables.slots.hosts (fold (append_once name_eq) tables.signalled signalled)) here.tasks
         ∙ sym (signalled_fields before_signals signalled)))
 
     pub signalled_state : (t : List NodeName → ModelStep)
-        → world_of (signals_in before_signals
-        (step_signals f.names (shadow_trees f.names f.trees tables.slots.hosts) (shadow_trees f.names (h f.trees) tables.slots.hosts) s left))
-        ≡ world_step (name_at f.names k).owner (world_from f.names f.trees tables) (t f.names)
-        → state_from m.names m.trees (with_signals next after) ≡ stepped (owner_in d k) (t d.names) d
+        → world_of (signals_in before_signals signalled) ≡ world_step (name_at f.names k).owner (world_from f.names f.trees tables) (t f.names)
+        → state_from after.forest.names after.forest.trees (with_signals next after) ≡ stepped (owner_in d k) (t d.names) d
     signalled_state t e =
-        subst (λ (e : DocState). state_from m.names m.trees (with_signals next after) ≡ stepped (owner_in e k) (t e.names) e) is_d
-        (ap (λ ns. state_from ns m.trees (with_signals next after)) names
-        ∙ (ap (λ us. state_from f.names us (with_signals next after)) trees
+        subst (λ (e : DocState). state_from after.forest.names after.forest.trees (with_signals next after) ≡ stepped (owner_in e k) (t e.names) e) is_d
+        (ap (λ ns. state_from ns after.forest.trees (with_signals next after)) here.names
+        ∙ (ap (λ us. state_from f.names us (with_signals next after)) here.trees
         ∙ (ap (λ c. state_with f.names (world_of c)) contents_now ∙ ap (state_with f.names) e)))
 
 -- ---- where memory was refused
-
--- what follows from three facts of a call that succeeds
-pub on_three : {T E A B C D : Type 0} (r : Result T E) → OnOk r A → OnOk r B → OnOk r C → (A → B → C → D) → OnOk r D
-on_three (Ok x) a b c f = f a b c
-on_three (Err e) a b c f = tt
-
-module _ {T E : Type 0} (m g : NamedTrees) (mid last : AllTables) where
-  pub settled_held : (r : Result T E) → OnOk r (g ≡ m) → OnOk r (last ≡ mid) → OnErr r (g ≡ record { names = []; trees = none }) →
-      OnErr r (AreFirst last) → OnOk r (IsDoc m.names m.trees mid) → IsDoc g.names g.trees last
-  settled_held (Ok x) forest tables empty first held =
-      subst (λ (p : NamedTrees). IsDoc p.names p.trees last) (sym forest) (subst (IsDoc m.names m.trees) (sym tables) held)
-  settled_held (Err e) forest tables empty first held = given_up g last empty first
-
-  pub settled_state : (d : DocState) {r q : Result T E} → q ≡ r → OnOk r (g ≡ m) → OnOk r (last ≡ mid) →
-      OnOk r (state_from m.names m.trees mid ≡ d) → OnOk q (state_from g.names g.trees last ≡ d)
-  settled_state d {r} same forest tables state = subst (λ p. OnOk p (state_from g.names g.trees last ≡ d)) (sym same) (by r forest tables state)
-    where
-      by : (p : Result T E) → OnOk p (g ≡ m) → OnOk p (last ≡ mid) → OnOk p (state_from m.names m.trees mid ≡ d) → OnOk p (state_from g.names g.trees last ≡ d)
-      by (Ok x) forest tables state = ap (λ (p : NamedTrees). state_from p.names p.trees last) forest ∙ (ap (state_from m.names m.trees) tables ∙ state)
-      by (Err e) forest tables state = tt
 
 -- what a call that settles a step says
 pub record Settled {T E : Type 0} (m g : NamedTrees) (mid last : AllTables) (r q : Result T E) : Type 0 where
@@ -167,37 +149,48 @@ pub record Settled {T E : Type 0} (m g : NamedTrees) (mid last : AllTables) (r q
   pub empty : OnErr r (g ≡ record { names = []; trees = none })
   pub first : OnErr r (AreFirst last)
 
+-- what is held then, and the state, if the step was done
+pub record IsAfter (g : NamedTrees) (last : AllTables) {T E : Type 0} (q : Result T E) (d : DocState) : Type 0 where
+  pub held : IsDoc g.names g.trees last
+  pub state : OnOk q (state_from g.names g.trees last ≡ d)
+
+pub settled : {T E : Type 0} {m g : NamedTrees} {mid last : AllTables} (r : Result T E) {q : Result T E} {d : DocState} → Settled m g mid last r q →
+    OnOk r (IsDoc m.names m.trees mid × (state_from m.names m.trees mid ≡ d)) → IsAfter g last q d
+settled {T} {E} {m} {g} {mid} {last} (Ok x) {q} {d} s done = record {
+  held = subst (λ (p : NamedTrees). IsDoc p.names p.trees last) (sym s.forest) (subst (IsDoc m.names m.trees) (sym s.tables) done.0);
+  state = subst (λ p. OnOk p (state_from g.names g.trees last ≡ d)) (sym s.result)
+      (ap (λ (p : NamedTrees). state_from p.names p.trees last) s.forest ∙ (ap (state_from m.names m.trees) s.tables ∙ done.1));
+}
+settled {T} {E} {m} {g} {mid} {last} (Err e) {q} {d} s done = record {
+  held = given_up g last s.empty s.first;
+  state = subst (λ p. OnOk p (state_from g.names g.trees last ≡ d)) (sym s.result) tt;
+}
+
 -- ---- steps that change one owner's trees alone
 
 module _ (f : NamedTrees) {tables : AllTables} (held : IsDoc f.names f.trees tables) {d : DocState}
     (is_d : state_from f.names f.trees tables ≡ d) (k : ℕ) (k< : k < length d.names)
     (h : Trees → Trees) (change : IsOwnChange (name_at f.names k).owner h f.trees) (keeps : KeepsAbove f.trees (h f.trees)) (s : Step)
-    (m g : NamedTrees) (after : SignalTables) (last : AllTables) {T E : Type 0} (r q : Result T E)
-    (names : OnOk r (m.names ≡ f.names)) (trees : OnOk r (m.trees ≡ h f.trees))
-    (signals : OnOk r (HasSignalled f.names f.trees m.trees s None (signals_of tables) after))
-    (settled : Settled m g (with_signals tables after) last r q) where
+    {E : Type 0} {r q : Result (Unit {0}) E} (after : NodeTrees) {g : NamedTrees} {last : AllTables}
+    (did : OnOk r (HasStepped s (h f.trees) (trees_with f.names f.trees tables) after))
+    (settles : Settled after.forest g (with_signals tables after) last r q) where
   pub own_kept : (p : Owner) → AreTablesOf (named_trees f.names (h f.trees)) p (tables.each p)
   own_kept p = tables_kept f.names f.trees (h f.trees) keeps (held.own p)
 
   pub ranges_kept : AreRangesOf (contents f.names (h f.trees) tables) tables.ranges
   ranges_kept = ranges_stay (contents f.names (h f.trees) tables) held.ranges refl refl (λ p. refl)
 
-  pub tree_held : IsDoc g.names g.trees last
-  tree_held =
-      settled_held m g (with_signals tables after) last r settled.forest settled.tables settled.empty settled.first
-      (on_three r names trees signals (λ ns us sig. signalled_held f held is_d k k< tables.each h change own_kept held.idle tables.observers
-      held.speaks held.unobserved tables.ranges ranges_kept m ns us s None after sig))
-
-  pub tree_state : (t : List NodeName → ModelStep)
-      → world_of (signals_in (before_signals f held is_d k k< tables.each h change own_kept held.idle tables.observers held.speaks held.unobserved
-      tables.ranges ranges_kept) (step_signals f.names (shadow_trees f.names f.trees tables.slots.hosts)
-      (shadow_trees f.names (h f.trees) tables.slots.hosts) s None)) ≡ world_step (name_at f.names k).owner
-      (world_from f.names f.trees tables) (t f.names)
-      → OnOk q (state_from g.names g.trees last ≡ stepped (owner_in d k) (t d.names) d)
-  tree_state t e =
-      settled_state m g (with_signals tables after) last (stepped (owner_in d k) (t d.names) d) settled.result settled.forest settled.tables
-      (on_three r names trees signals (λ ns us sig. signalled_state f held is_d k k< tables.each h change own_kept held.idle tables.observers
-      held.speaks held.unobserved tables.ranges ranges_kept m ns us s None after sig t e))
+  -- what is held then, and the state, where the step of the model does the same with the left parent that it had
+  pub tree_step : (t : List NodeName → ModelStep) → ((left : Option ℕ) →
+      world_of (signals_in (before_signals f held is_d k k< tables.each h change own_kept held.idle tables.observers held.speaks held.unobserved
+      tables.ranges ranges_kept) (signals_of s left (h f.trees) (trees_with f.names f.trees tables)))
+      ≡ world_step (name_at f.names k).owner (world_from f.names f.trees tables) (t f.names))
+      → IsAfter g last q (stepped (owner_in d k) (t d.names) d)
+  tree_step t e = settled r settles (on_ok_weaker r (λ here. (
+    signalled_held f held is_d k k< tables.each h change own_kept held.idle tables.observers held.speaks held.unobserved tables.ranges ranges_kept s here,
+    signalled_state f held is_d k k< tables.each h change own_kept held.idle tables.observers held.speaks held.unobserved tables.ranges ranges_kept s
+        here t (e here.left),
+  )) did)
 
 -- ---- a removal
 
@@ -213,11 +206,9 @@ module _ (f : NamedTrees) {tables : AllTables} (held : IsDoc f.names f.trees tab
     (tables.observers (name_at f.names k).owner) else tables.observers q))
     (live : RangeLists) (is_live : (q : Owner) →
     ranges_of live q ≡ ends_by (after_removal nat_eq (is_inside f k) parent (index_of f.trees (name_at f.names k))) (ranges_of tables.ranges q))
-    (m g : NamedTrees) (after : SignalTables) (last : AllTables)
-    {T E : Type 0} (r q : Result T E)
-    (names : OnOk r (m.names ≡ f.names)) (trees : OnOk r (m.trees ≡ taken_out (name_at f.names k) f.trees))
-    (left : OnOk r (HasLeft f.names f.trees m.trees k (signals_of tables) after))
-    (settled : Settled m g (with_signals (with_live (with_observers (record tables { each = each }) seen) live) after) last r q) where
+    {E : Type 0} {r q : Result (Unit {0}) E} (after : NodeTrees) {g : NamedTrees} {last : AllTables}
+    (did : OnOk r (HasStepped (Removal k) (taken_out (name_at f.names k) f.trees) (trees_with f.names f.trees tables) after))
+    (settles : Settled after.forest g (with_signals (with_live (with_observers (record tables { each = each }) seen) live) after) last r q) where
   o : Owner
   o = (name_at f.names k).owner
 
@@ -291,22 +282,14 @@ module _ (f : NamedTrees) {tables : AllTables} (held : IsDoc f.names f.trees tab
       (removal_fits was tables.ranges held.ranges (name_at f.names k).owner (is_inside f k) parent (index_of f.trees (name_at f.names k)) small))
       refl refl (λ p. refl)
 
-  pub removal_held : IsDoc g.names g.trees last
-  removal_held =
-      settled_held m g (with_signals (with_live (with_observers (record tables { each = each }) seen) live) after) last r settled.forest
-      settled.tables settled.empty settled.first
-      (on_three r names trees left (λ ns us l. signalled_held f held is_d k k< each
-      (taken_out (name_at f.names k)) gone own_left idle_left seen speaks_then off_then live live_then m ns us (Removal k) l.left after l.signals))
-
-  pub removal_state : OnOk q (state_from g.names g.trees last ≡ stepped (owner_in d k) (take_out (name_in d k)) d)
-  removal_state =
-      settled_state m g (with_signals (with_live (with_observers (record tables { each = each }) seen) live) after) last
-      (stepped (owner_in d k) (take_out (name_in d k)) d) settled.result settled.forest settled.tables
-      (on_three r names trees left (λ ns us l. signalled_state f held is_d k k< each
-      (taken_out (name_at f.names k)) gone own_left idle_left seen speaks_then off_then live live_then m ns us (Removal k) l.left after l.signals
-      (λ xs. take_out (name_at xs k))
-      (removal_hosted (contents f.names f.trees tables) tables.slots.hosts (are_hosts f.names f.trees tables held) (name_at f.names k).owner
-      (owner_there f held is_d k k<) (taken_out (name_at f.names k) f.trees)
-      (ranged live gone_contents).tables gone.owned k l.left refl l.is_left
-      (removal_ranged (contents f.names f.trees tables) tables.ranges live held.ranges apart (name_at f.names k).owner held.owned gone_contents
-      refl k parent node at_parent refl (sym is_parent) is_live changed).0)))
+  pub removal_step : IsAfter g last q (stepped (owner_in d k) (take_out (name_in d k)) d)
+  removal_step = settled r settles (on_ok_weaker r (λ here. (
+    signalled_held f held is_d k k< each (taken_out (name_at f.names k)) gone own_left idle_left seen speaks_then off_then live live_then (Removal k) here,
+    signalled_state f held is_d k k< each (taken_out (name_at f.names k)) gone own_left idle_left seen speaks_then off_then live live_then (Removal k)
+        here (λ xs. take_out (name_at xs k))
+        (removal_hosted (contents f.names f.trees tables) tables.slots.hosts (are_hosts f.names f.trees tables held) (name_at f.names k).owner
+        (owner_there f held is_d k k<) (taken_out (name_at f.names k) f.trees)
+        (ranged live gone_contents).tables gone.owned k here.left refl here.is_left
+        (removal_ranged (contents f.names f.trees tables) tables.ranges live held.ranges apart (name_at f.names k).owner held.owned gone_contents
+        refl k parent node at_parent refl (sym is_parent) is_live changed).0),
+  )) did)

@@ -32,7 +32,6 @@ module _ (f : NamedTrees) {tables : AllTables} (held : IsDoc f.names f.trees tab
       idle = held.idle;
       made = held.made;
       signals = record {
-        free = held.signals.free;
         slots = held.signals.slots;
         nodes = subst (AreNames f.names) (sym is)
             (All-filter (λ s. not (is_owned_by o s)) (λ x. is_in name_eq x f.names ≡ true) tables.signalled held.signals.nodes);

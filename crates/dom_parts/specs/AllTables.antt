@@ -1,7 +1,8 @@
 -- An owner's tables as a `Doc` holds them, with keys in place of names.
-use Rattle.std.specs.Prelude.{◌≡◌, ℕ, ◌≤◌, List, [], length, map, None}
+use Rattle.std.specs.Prelude.{◌≡◌, ℕ, ◌≤◌, List, [], length, map}
 use Rattle.dom_base.specs.declared.Owner.{Owner}
 use Rattle.dom_base.specs.declared.NodeName.{NodeName}
+use Rattle.dom_model.specs.Tree.{Trees}
 use Rattle.dom_model.specs.Traversal.{Iterator, Walker}
 use Rattle.dom_model.specs.World.{Task}
 use Rattle.dom_slots.specs.Kept.{SlotsNow}
@@ -14,7 +15,7 @@ use Rattle.dom_ranges.specs.Tables.{RangeLists, ranges_of}
 use Rattle.dom_traversal.specs.OwnTables.{KeyedTables, EachItem, no_keyed_tables}
 use Rattle.dom_traversal.specs.Cursors.{with_cursors}
 use Rattle.dom_parts.specs.Contents.{Tables, no_tables}
-use Rattle.dom_node_trees.specs.Signalled.{SignalTables, signal_tables}
+use Rattle.dom_node_trees.specs.declared.steps.NodeTrees.{NodeTrees}
 
 -- cursors, and what an owner has of observers
 abbrev pub tables_with : List Iterator → List Walker → TablesOf NodeName → Tables
@@ -57,16 +58,21 @@ with_queue tables tasks = record tables { tasks = tasks }
 abbrev pub with_live : AllTables → RangeLists → AllTables
 with_live tables ranges = record tables { ranges = ranges }
 
--- what signals change of them, and those with it written
-abbrev pub signals_of : AllTables → SignalTables
-signals_of tables = signal_tables tables.slots tables.signalled tables.tasks
+-- the same, with what stands beside the trees
+abbrev pub tables_with_trees : (Owner → KeyedTables) → (Owner → TablesOf ℕ) → NodeTrees → RangeLists → AllTables
+tables_with_trees each observers trees ranges = tables_of each observers trees.queue trees.slots trees.signalled ranges
 
-abbrev pub with_signals : AllTables → SignalTables → AllTables
-with_signals tables s = record tables { tasks = s.tasks; slots = s.slots; signalled = s.signalled }
+-- these trees, with what a step on them changes of the tables, and the tables with it written
+abbrev pub trees_with : List NodeName → Trees → AllTables → NodeTrees
+trees_with names ts tables =
+    record { forest = record { names = names; trees = ts }; slots = tables.slots; signalled = tables.signalled; queue = tables.tasks }
+
+abbrev pub with_signals : AllTables → NodeTrees → AllTables
+with_signals tables t = record tables { tasks = t.queue; slots = t.slots; signalled = t.signalled }
 
 -- no hosts
 abbrev pub no_slots : SlotsNow
-no_slots = record { hosts = []; table = []; begun = None }
+no_slots = record { hosts = []; table = [] }
 
 -- where the page alone is there, and has none
 abbrev pub first_tables : AllTables

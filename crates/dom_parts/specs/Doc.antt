@@ -37,7 +37,7 @@ use Rattle.dom_parts.specs.Ranging.{AreRangesOf}
 use Rattle.dom_parts.specs.Numbering.{AreNumbered}
 use Rattle.dom_traversal.specs.OwnTables.{KeyedTables, no_keyed_tables}
 use Rattle.dom_traversal.specs.Cursors.{cursors_of}
-use Rattle.dom_parts.specs.AllTables.{AllTables, tables_view, AreTablesOf, tables_of, signals_of}
+use Rattle.dom_parts.specs.AllTables.{AllTables, tables_view, AreTablesOf, tables_with_trees, trees_with}
 use Rattle.dom_observers.specs.Tables.{TablesOf, no_tables as no_observers}
 use Rattle.dom_observers.specs.Owners.{tables_of as observers_of}
 use Rattle.dom_observers.specs.Naming.{IsKey, SpeaksOf, IsChangeAt, named_change}
@@ -59,7 +59,7 @@ named_trees names ts = record { names = names; trees = ts }
 
 -- the tables that the code holds
 abbrev pub all_tables : Inside → AllTables
-all_tables d = tables_of (cursors_of d.cursors) (observers_of d.observers) d.queue d.slots d.signalled d.ranges
+all_tables d = tables_with_trees (cursors_of d.cursors) (observers_of d.observers) d.trees d.ranges
 
 -- an owner's tables in names, with its hosts and its live ranges
 abbrev pub shown_tables : List NodeName → List ShadowHost → Owner → KeyedTables → TablesOf ℕ → RangeList → Tables
@@ -94,7 +94,7 @@ IsDue w (notify_task o) = is_there w o ≡ true
 
 -- what holds of a `Doc`: each tree has one owner, each node's owner is there and no other one has trees, no owner has more
 -- nodes than it may make, each owner's tables are of its own nodes; the owners are the page and one component for each host,
--- which its maker made next; the slots are those of the trees, no step is begun, and signalled slots are
+-- which its maker made next; the slots are those of the trees, and signalled slots are
 -- nodes; registrations and records name nodes alone, who is not there has no iterators, walkers and observers, and the notifications that are
 -- queued are of owners that are there; live ranges are at their owner's nodes, and nodes are numbered below their count
 pub record IsDoc (names : List NodeName) (ts : Trees) (tables : AllTables) : Type 0 where
@@ -105,7 +105,7 @@ pub record IsDoc (names : List NodeName) (ts : Trees) (tables : AllTables) : Typ
   pub own : (o : Owner) → AreTablesOf (named_trees names ts) o (tables.each o)
   pub idle : (o : Owner) → is_there (world_from names ts tables) o ≡ false → tables.each o ≡ no_keyed_tables
   pub made : AreMadeBehind names [] tables.slots.hosts
-  pub signals : AreSignals names ts (signals_of tables)
+  pub signals : AreSignals (trees_with names ts tables)
   pub speaks : (o : Owner) → SpeaksOf (IsKey names) (tables.observers o)
   pub unobserved : (o : Owner) → is_there (world_from names ts tables) o ≡ false → tables.observers o ≡ no_observers
   pub due : AllByRecursion (IsDue (world_from names ts tables)) tables.tasks

@@ -31,7 +31,7 @@ mod tasks;
 mod validity;
 
 use dom_base::{Fault, Kind, Owner};
-use dom_microtasks::{Queue, Signals};
+use dom_node_trees::NodeTrees;
 use dom_observers::Observers;
 use dom_ranges::RangeTable;
 use dom_slots::Slots;
@@ -46,13 +46,10 @@ use std::marker::Model;
 /// of their shadow trees, the signalled slots of all owners in order, and the microtasks.
 #[derive(Drop)]
 pub struct Parts {
-    forest: Forest,
+    trees: NodeTrees,
     cursors: Cursors,
     observers: Observers,
     ranges: RangeTable,
-    slots: Slots,
-    signalled: Signals,
-    queue: Queue,
     alloc: Global,
 }
 
@@ -65,9 +62,9 @@ impl Model for Parts {
 
     ghost coded = { Prim.hlevel (codes, trees_code) };
 
-    ghost view = { λ d. state_from d.forest.names d.forest.trees (all_tables d) };
+    ghost view = { λ d. state_from d.trees.forest.names d.trees.forest.trees (all_tables d) };
 
-    ghost invariant = { λ d. IsDoc d.forest.names d.forest.trees (all_tables d) };
+    ghost invariant = { λ d. IsDoc d.trees.forest.names d.trees.forest.trees (all_tables d) };
 }
 
 impl Parts {
@@ -75,7 +72,7 @@ impl Parts {
     pub fn new(alloc: Global) -> Result<Self, AllocError>
         ensures { IfOk result (λ doc. doc ≡ record { names = node_of Page 0 ∷ []; world = first_world }) }
     {
-        let mut forest = Forest::new(alloc);
+        let mut trees = NodeTrees::new(alloc);
         let document = NodeData {
             kind: Kind::Document,
             element: String::new(alloc),
@@ -83,15 +80,12 @@ impl Parts {
             text: Vec::new(alloc),
             document: None,
         };
-        match forest.add(Owner::Page, document) {
+        match trees.forest.add(Owner::Page, document) {
             Ok(_) => Ok(Parts {
-                forest,
+                trees,
                 cursors: Cursors::new(alloc),
                 observers: Observers::new(alloc),
                 ranges: RangeTable::new(alloc),
-                slots: Slots::new(alloc),
-                signalled: Signals::new(alloc),
-                queue: Queue::new(alloc),
                 alloc,
             }),
             Err(_) => Err(AllocError),
@@ -105,25 +99,24 @@ impl Parts {
         ensures owned { AreOwned result.now.trees }
         ensures present { (k : ℕ) → HoldsNode self.now k → is_there self.now.world (name_in self.now k).owner ≡ true }
     {
-        &self.forest
+        &self.trees.forest
     }
 
     /// The forest and the slots of its shadow trees, for reading: what an event path is built from.
     pub fn forest_and_slots(&self) -> (&Forest, &Slots)
         ensures names { result.0.now.names ≡ self.now.names }
         ensures trees { (o : OwnerOf) → trees_of_owner o result.0.now.trees ≡ (part_of self.now.world o).trees }
-        ensures free { result.1.now.begun ≡ None }
         ensures slots { AreSlotsOf result.0.now result.1.now }
         ensures shown { IsShownBy (shadows result.0.now result.1.now.hosts) self.now.world }
     {
-        (&self.forest, &self.slots)
+        (&self.trees.forest, &self.trees.slots)
     }
 
     /// Whether an owner has a part: the page has one, and a component has nodes from the attach on that made it.
     pub fn is_there(&self, owner: Owner) -> bool
         ensures { result ≡ is_there self.now.world owner }
     {
-        matches!(owner, Owner::Page) || self.forest.node_count(owner) > 0
+        matches!(owner, Owner::Page) || self.trees.forest.node_count(owner) > 0
     }
 
     /// How many nodes an owner has (own rule).
@@ -131,7 +124,7 @@ impl Parts {
         requires { is_there self.now.world owner ≡ true }
         ensures { result ≡ (part_of self.now.world owner).node_count }
     {
-        self.forest.node_count(owner)
+        self.trees.forest.node_count(owner)
     }
 
     /// Makes a node with an owner's next number, in a tree of its own, and gives its key. It is refused with `Limit` where the
@@ -151,8 +144,8 @@ impl Parts {
         ensures other { IfErr result (λ fault. (fault ≡ Fault.Refused Limit) ⊎ (fault ≡ Fault.Memory)) }
         ensures err { OnErr result (self.new ≡ self.old) }
     {
-        let added = self.forest.add(owner, node);
-        self.forest.law_nodes_stand_once();
+        let added = self.trees.forest.add(owner, node);
+        self.trees.forest.law_nodes_stand_once();
         added
     }
 

@@ -12,7 +12,7 @@ ghost use Rattle.dom_slots.specs.Kept.{AreSlotsOf};
 ghost use Rattle.dom_tree.specs.Forest.{next_name, count_of, err_of, IsNode, name_of};
 ghost use Rattle.dom_parts.specs.Doc.{name_in, owner_in, attaching_refusal, HoldsNode};
 
-use super::settling::settle;
+use super::settling::give_up;
 use crate::Parts;
 use dom_base::{Fault, Kind, MAX_COMPONENTS, MAX_DEPTH, Owner, Refusal};
 use dom_node_trees::may_be_host;
@@ -45,20 +45,22 @@ impl Parts {
             Ok(owner) => owner,
             Err(refusal) => return Err(Fault::Refused(refusal)),
         };
-        self.forest.law_nodes_stand_once();
-        let made = attach_root(self.alloc, &mut self.forest, &mut self.slots, host, owner);
+        self.trees.forest.law_nodes_stand_once();
+        let made = attach_root(
+            self.alloc,
+            &mut self.trees.forest,
+            &mut self.trees.slots,
+            host,
+            owner,
+        );
         match made {
             Ok(root) => Ok(root),
-            Err(error) => {
-                let _ = settle(
-                    Err(error),
-                    &mut self.forest,
+            Err(_) => {
+                give_up(
+                    &mut self.trees,
                     &mut self.cursors,
                     &mut self.observers,
                     &mut self.ranges,
-                    &mut self.slots,
-                    &mut self.signalled,
-                    &mut self.queue,
                     self.alloc,
                 );
                 Err(Fault::Memory)
@@ -72,15 +74,17 @@ impl Parts {
         ensures component { IfOk result (λ c. c ≡ component_made (owner_in self.now host) (length (part_of self.now.world (owner_in self.now host)).attached)) }
         ensures refusal { err_of result ≡ attaching_refusal (part_of self.now.world (owner_in self.now host)) (name_in self.now host) }
     {
-        self.forest.law_nodes_stand_once();
-        if self.slots.root_of(host).is_some() || !may_be_host(self.forest.element(host)) {
+        self.trees.forest.law_nodes_stand_once();
+        if self.trees.slots.root_of(host).is_some()
+            || !may_be_host(self.trees.forest.element(host))
+        {
             return Err(Refusal::NotSupported);
         }
-        let maker = self.forest.name(host).owner;
+        let maker = self.trees.forest.name(host).owner;
         if maker.depth() >= MAX_DEPTH {
             return Err(Refusal::Limit);
         }
-        let number = count_made(&self.forest, maker);
+        let number = count_made(&self.trees.forest, maker);
         if number == MAX_COMPONENTS {
             return Err(Refusal::Limit);
         }
@@ -133,14 +137,12 @@ fn attach_root(
     requires host_is_node { IsNode forest.old host }
     requires new_owner { count_of owner forest.old.names ≡ 0 }
     requires new_host { root_of_host slots.old.hosts host ≡ None }
-    requires free { slots.old.begun ≡ None }
     requires slots { AreSlotsOf forest.old slots.old }
     ensures key { IfOk result (λ key. key ≡ length forest.old.names) }
     ensures names { OnOk result (forest.new.names ≡ forest.old.names ++ next_name owner forest.old.names ∷ []) }
     ensures trees { OnOk result (forest.new.trees ≡ with_node
         (new_root (next_name owner forest.old.names) Shadow (node_in forest.old.trees (name_of forest.old host)).document) forest.old.trees) }
     ensures hosts { OnOk result (slots.new.hosts ≡ slots.old.hosts ++ record { host = host; root = length forest.old.names; owner = owner } ∷ []) }
-    ensures free { OnOk result (slots.new.begun ≡ None) }
     ensures slots { OnOk result (AreSlotsOf forest.new slots.new) }
 {
     let node = NodeData {

@@ -42,7 +42,7 @@ impl Parts {
         ensures other { IfErr result (λ fault. (fault ≡ Fault.Refused Limit) ⊎ (fault ≡ Fault.Memory)) }
         ensures err { OnErr result (self.new ≡ self.old) }
     {
-        self.forest.law_nodes_stand_once();
+        self.trees.forest.law_nodes_stand_once();
         self.cursors.add_iter(owner, root, filter)
     }
 
@@ -69,7 +69,7 @@ impl Parts {
         ensures node { ForSome result (HoldsNode self.old) }
         ensures world { Makes owner (Command.iterator_next number) (node_or_null (option_map (name_in self.old) result)) self.old.world self.new.world }
     {
-        self.cursors.iter_next(owner, &self.forest, number)
+        self.cursors.iter_next(owner, &self.trees.forest, number)
     }
 
     /// Moves an iterator before the node before it that its filter accepts, and answers that node; where there is none, it
@@ -80,7 +80,8 @@ impl Parts {
         ensures node { ForSome result (HoldsNode self.old) }
         ensures world { Makes owner (Command.iterator_previous number) (node_or_null (option_map (name_in self.old) result)) self.old.world self.new.world }
     {
-        self.cursors.iter_previous(owner, &self.forest, number)
+        self.cursors
+            .iter_previous(owner, &self.trees.forest, number)
     }
 
     /// The reference of an iterator, and whether it stands before that one (DOM Standard, referenceNode and
@@ -101,7 +102,7 @@ impl Parts {
         ensures node { ForSome result (HoldsNode self.old) }
         ensures world { Makes owner (Command.walk number step) (node_or_null (option_map (name_in self.old) result)) self.old.world self.new.world }
     {
-        self.cursors.walk(owner, &self.forest, number, step)
+        self.cursors.walk(owner, &self.trees.forest, number, step)
     }
 
     /// The current node of a walker (DOM Standard, currentNode).

@@ -18,7 +18,7 @@ impl Parts {
         ensures value { option_map (name_in self.now) result ≡ (node_in (trees_in self.now node) (name_in self.now node)).document }
         ensures node { ForSome result (HoldsNode self.now) }
     {
-        self.forest.document(node)
+        self.trees.forest.document(node)
     }
 
     /// A node and all below it get a node document, with the shadow trees of the hosts among them, and of those in these (DOM
@@ -28,9 +28,15 @@ impl Parts {
         requires document_is_node { HoldsNode self.old document }
         ensures { OnOk result (self.new ≡ stepped (owner_in self.old node) (set_document (name_in self.old node) (name_in self.old document)) self.old) }
     {
-        let roots = roots_below(self.alloc, &self.forest, &self.slots, node, MAX_DEPTH)?;
-        set_documents(&mut self.forest, node, document);
-        set_each(&mut self.forest, roots.as_slice(), document);
+        let roots = roots_below(
+            self.alloc,
+            &self.trees.forest,
+            &self.trees.slots,
+            node,
+            MAX_DEPTH,
+        )?;
+        set_documents(&mut self.trees.forest, node, document);
+        set_each(&mut self.trees.forest, roots.as_slice(), document);
         Ok(())
     }
 }

@@ -59,9 +59,9 @@ impl Parts {
         ensures other { IfErr result (λ fault. (fault ≡ Fault.Refused TypeFault) ⊎ (fault ≡ Fault.Memory)) }
         ensures err { OnErr result (self.new ≡ self.old) }
     {
-        self.forest.law_nodes_stand_once();
+        self.trees.forest.law_nodes_stand_once();
         self.observers
-            .observe(&self.forest, owner, number, node, options)
+            .observe(&self.trees.forest, owner, number, node, options)
     }
 
     /// Takes the registrations of an observer away, transient ones too, and empties its record queue (DOM Standard,

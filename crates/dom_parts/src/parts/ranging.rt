@@ -60,9 +60,9 @@ impl Parts {
         ensures other { IfErr result (λ refusal. refusal ≡ RefusalOf.IndexSize) }
         ensures err { OnErr result (self.new ≡ self.old) }
     {
-        self.forest.law_nodes_stand_once();
+        self.trees.forest.law_nodes_stand_once();
         self.ranges
-            .set_start(owner, number, &self.forest, node, offset)
+            .set_start(owner, number, &self.trees.forest, node, offset)
     }
 
     /// Gives a live range another end, at an offset in a node of its owner; the start goes there too where it stands in
@@ -84,9 +84,9 @@ impl Parts {
         ensures other { IfErr result (λ refusal. refusal ≡ RefusalOf.IndexSize) }
         ensures err { OnErr result (self.new ≡ self.old) }
     {
-        self.forest.law_nodes_stand_once();
+        self.trees.forest.law_nodes_stand_once();
         self.ranges
-            .set_end(owner, number, &self.forest, node, offset)
+            .set_end(owner, number, &self.trees.forest, node, offset)
     }
 
     /// Sets both ends of a live range to its start, or to its end (DOM Standard, collapse()).

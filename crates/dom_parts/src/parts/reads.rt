@@ -34,7 +34,7 @@ impl Parts {
         ensures parts { (o : OwnerOf) → IsPart (part_of self.now.world o) }
         ensures stand { (k : ℕ) → HoldsNode self.now k → has_node (trees_in self.now k) (name_in self.now k) ≡ true }
     {
-        self.forest.law_nodes_stand_once();
+        self.trees.forest.law_nodes_stand_once();
     }
 
     /// The owner of a node.
@@ -42,7 +42,7 @@ impl Parts {
         requires { HoldsNode self.now node }
         ensures { result ≡ owner_in self.now node }
     {
-        self.forest.name(node).owner
+        self.trees.forest.name(node).owner
     }
 
     /// The kind of a node (DOM Standard, interface Node; own rule for a shadow root).
@@ -50,7 +50,7 @@ impl Parts {
         requires { HoldsNode self.now node }
         ensures { result ≡ kind_of (trees_in self.now node) (name_in self.now node) }
     {
-        self.forest.kind(node)
+        self.trees.forest.kind(node)
     }
 
     /// The data of a Text or a Comment, in code units.
@@ -58,7 +58,7 @@ impl Parts {
         requires { HoldsNode self.now node }
         ensures { result.now ≡ (node_in (trees_in self.now node) (name_in self.now node)).text }
     {
-        self.forest.text(node)
+        self.trees.forest.text(node)
     }
 
     /// The number of code units of a Text or a Comment, and of another node that of its children, which are counted (DOM
@@ -67,7 +67,7 @@ impl Parts {
         requires { HoldsNode self.now node }
         ensures { result ≡ length_of (trees_in self.now node) (name_in self.now node) }
     {
-        self.forest.length(node)
+        self.trees.forest.length(node)
     }
 
     /// The place of a node among its parent's children (DOM Standard, concept: index).
@@ -75,7 +75,7 @@ impl Parts {
         requires { HoldsNode self.now node }
         ensures { result ≡ index_of (trees_in self.now node) (name_in self.now node) }
     {
-        self.forest.index(node)
+        self.trees.forest.index(node)
     }
 
     /// Whether a node's shadow-including root is a document (DOM Standard, concept: connected).
@@ -83,10 +83,10 @@ impl Parts {
         requires { HoldsNode self.now node }
         ensures { result ≡ is_connected self.now.world (name_in self.now node) }
     {
-        self.forest.law_nodes_stand_once();
-        let depth = self.forest.name(node).owner.depth();
-        let root = outermost_root(&self.forest, &self.slots, node, depth);
-        is_document(self.forest.kind(root))
+        self.trees.forest.law_nodes_stand_once();
+        let depth = self.trees.forest.name(node).owner.depth();
+        let root = outermost_root(&self.trees.forest, &self.trees.slots, node, depth);
+        is_document(self.trees.forest.kind(root))
     }
 
     /// Whether a node has an attribute.
@@ -94,7 +94,7 @@ impl Parts {
         requires { HoldsNode self.now node }
         ensures { result ≡ is_some (attribute_value (node_in (trees_in self.now node) (name_in self.now node)) name.now) }
     {
-        self.forest.attr(node, name).is_some()
+        self.trees.forest.attr(node, name).is_some()
     }
 
     /// The parent of a node, which a root has not (DOM Standard, concept: parent).
@@ -104,7 +104,7 @@ impl Parts {
         ensures node { ForSome result (HoldsNode self.now) }
         ensures owner { ForSome result (λ k. owner_in self.now k ≡ owner_in self.now node) }
     {
-        self.forest.parent(node)
+        self.trees.forest.parent(node)
     }
 
     /// The first child of a node.
@@ -114,7 +114,7 @@ impl Parts {
         ensures node { ForSome result (HoldsNode self.now) }
         ensures owner { ForSome result (λ k. owner_in self.now k ≡ owner_in self.now node) }
     {
-        self.forest.first(node)
+        self.trees.forest.first(node)
     }
 
     /// The last child of a node.
@@ -124,7 +124,7 @@ impl Parts {
         ensures node { ForSome result (HoldsNode self.now) }
         ensures owner { ForSome result (λ k. owner_in self.now k ≡ owner_in self.now node) }
     {
-        self.forest.last(node)
+        self.trees.forest.last(node)
     }
 
     /// The sibling just after a node.
@@ -134,7 +134,7 @@ impl Parts {
         ensures node { ForSome result (HoldsNode self.now) }
         ensures owner { ForSome result (λ k. owner_in self.now k ≡ owner_in self.now node) }
     {
-        self.forest.next(node)
+        self.trees.forest.next(node)
     }
 
     /// The sibling just before a node.
@@ -144,7 +144,7 @@ impl Parts {
         ensures node { ForSome result (HoldsNode self.now) }
         ensures owner { ForSome result (λ k. owner_in self.now k ≡ owner_in self.now node) }
     {
-        self.forest.prev(node)
+        self.trees.forest.prev(node)
     }
 
     /// The node just after a node in tree order, within the tree of a node `top` in which it stands.
@@ -158,7 +158,7 @@ impl Parts {
         ensures node { ForSome result (IsOwnNode self.now top) }
         ensures within { ForSome result (λ k. is_inclusive_ancestor (trees_in self.now top) (name_in self.now top) (name_in self.now k) ≡ true) }
     {
-        self.forest.following(node, top)
+        self.trees.forest.following(node, top)
     }
 }
 

@@ -109,7 +109,7 @@ impl Parts {
         requires { HoldsNode self.now node }
         ensures { IfOk result (λ old. option_map (λ s. s.items) old ≡ attribute_value (node_in (trees_in self.now node) (name_in self.now node)) name.now) }
     {
-        match self.forest.attr(node, name) {
+        match self.trees.forest.attr(node, name) {
             Some(value) => Ok(Some(Vec::from_slice(self.alloc, value)?)),
             None => Ok(None),
         }
@@ -120,7 +120,8 @@ impl Parts {
         requires { HoldsNode self.now node }
         ensures { result ≡ false → (c : ChangeOf NodeName) → self.now ≡ stepped (owner_in self.now node) (queue_record c) self.now }
     {
-        self.observers.is_watched(self.forest.name(node).owner)
+        self.observers
+            .is_watched(self.trees.forest.name(node).owner)
     }
 
     /// The record of a change goes to the observers that are interested in it, and where there are some their owner's
@@ -130,10 +131,10 @@ impl Parts {
         requires { NamesNodes self.old change }
         ensures { OnOk result (self.new ≡ stepped (owner_in self.old (target_of (change_of change))) (queue_record (change_in self.old change)) self.old) }
     {
-        self.forest.law_nodes_stand_once();
-        let owner = self.forest.name(change.target()).owner;
-        match self.observers.queue_record(&self.forest, change) {
-            Ok(true) => self.queue.push_notify(owner),
+        self.trees.forest.law_nodes_stand_once();
+        let owner = self.trees.forest.name(change.target()).owner;
+        match self.observers.queue_record(&self.trees.forest, change) {
+            Ok(true) => self.trees.queue.push_notify(owner),
             Ok(false) => Ok(()),
             Err(error) => {
                 self.observers = Observers::new(self.alloc);

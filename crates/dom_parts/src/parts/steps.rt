@@ -14,7 +14,6 @@ ghost use Rattle.dom_model.specs.TreeChanges.{replaced};
 use super::settling::settle;
 use crate::Parts;
 use dom_base::DomStr;
-use dom_node_trees::{link, remove_attr, set_attr, unlink};
 use dom_observers::Observers;
 use dom_traversal::law_iterators_stay;
 use node_arena::Key;
@@ -38,14 +37,14 @@ impl Parts {
         requires { HoldsNode self.old child }
         ensures { self.new ≡ self.old }
     {
-        let Some(parent) = self.forest.parent(child) else {
+        let Some(parent) = self.trees.forest.parent(child) else {
             return;
         };
-        if self.forest.prev(child).is_none() {
+        if self.trees.forest.prev(child).is_none() {
             return;
         }
         let reach = self.ranges.reach(parent);
-        self.forest.remember_siblings(child, reach);
+        self.trees.forest.remember_siblings(child, reach);
     }
 
     /// A node leaves its parent, as `take_out` says.
@@ -54,34 +53,25 @@ impl Parts {
         requires has_parent { is_some (parent_of (trees_in self.old node) (name_in self.old node)) ≡ true }
         ensures { OnOk result (self.new ≡ stepped (owner_in self.old node) (take_out (name_in self.old node)) self.old) }
     {
-        law_iterators_stay(&self.forest);
-        self.forest.law_nodes_stand_once();
-        let Some(parent) = self.forest.parent(node) else {
+        law_iterators_stay(&self.trees.forest);
+        self.trees.forest.law_nodes_stand_once();
+        let Some(parent) = self.trees.forest.parent(node) else {
             unreachable!()
         };
-        if let Err(error) = self.observers.transient(&self.forest, parent, node) {
+        if let Err(error) = self.observers.transient(&self.trees.forest, parent, node) {
             self.observers = Observers::new(self.alloc);
             return Err(error);
         }
-        let owner = self.forest.name(node).owner;
-        self.cursors.leave(owner, &self.forest, node);
-        self.ranges.on_remove(&self.forest, node);
-        let done = unlink(
-            &mut self.forest,
-            &mut self.slots,
-            &mut self.signalled,
-            &mut self.queue,
-            node,
-        );
+        let owner = self.trees.forest.name(node).owner;
+        self.cursors.leave(owner, &self.trees.forest, node);
+        self.ranges.on_remove(&self.trees.forest, node);
+        let done = self.trees.unlink(node);
         settle(
             done,
-            &mut self.forest,
+            &mut self.trees,
             &mut self.cursors,
             &mut self.observers,
             &mut self.ranges,
-            &mut self.slots,
-            &mut self.signalled,
-            &mut self.queue,
             self.alloc,
         )
     }
@@ -98,25 +88,14 @@ impl Parts {
         ensures { OnOk result (self.new ≡ stepped (owner_in self.old parent)
             (place (name_in self.old node) (name_in self.old parent) (option_map (name_in self.old) before)) self.old) }
     {
-        self.forest.law_nodes_stand_once();
-        let done = link(
-            &mut self.forest,
-            &mut self.slots,
-            &mut self.signalled,
-            &mut self.queue,
-            node,
-            parent,
-            before,
-        );
+        self.trees.forest.law_nodes_stand_once();
+        let done = self.trees.link(node, parent, before);
         settle(
             done,
-            &mut self.forest,
+            &mut self.trees,
             &mut self.cursors,
             &mut self.observers,
             &mut self.ranges,
-            &mut self.slots,
-            &mut self.signalled,
-            &mut self.queue,
             self.alloc,
         )
     }
@@ -126,26 +105,7 @@ impl Parts {
         requires { HoldsNode self.old node }
         ensures { OnOk result (self.new ≡ stepped (owner_in self.old node) (set_attribute (name_in self.old node) name.now (Some value.items)) self.old) }
     {
-        let done = set_attr(
-            &mut self.forest,
-            &mut self.slots,
-            &mut self.signalled,
-            &mut self.queue,
-            node,
-            name,
-            value,
-        );
-        settle(
-            done,
-            &mut self.forest,
-            &mut self.cursors,
-            &mut self.observers,
-            &mut self.ranges,
-            &mut self.slots,
-            &mut self.signalled,
-            &mut self.queue,
-            self.alloc,
-        )
+        self.change_attribute(node, name, Some(value))
     }
 
     /// An attribute goes.
@@ -153,23 +113,27 @@ impl Parts {
         requires { HoldsNode self.old node }
         ensures { OnOk result (self.new ≡ stepped (owner_in self.old node) (set_attribute (name_in self.old node) name.now None) self.old) }
     {
-        let done = remove_attr(
-            &mut self.forest,
-            &mut self.slots,
-            &mut self.signalled,
-            &mut self.queue,
-            node,
-            name,
-        );
+        self.change_attribute(node, name, None)
+    }
+
+    /// An attribute gets a value, or goes.
+    fn change_attribute(
+        &mut self,
+        node: Key,
+        name: &str,
+        value: Option<DomStr>,
+    ) -> Result<(), AllocError>
+        requires { HoldsNode self.old node }
+        ensures { OnOk result (self.new ≡ stepped (owner_in self.old node)
+            (set_attribute (name_in self.old node) name.now (option_map (λ v. v.items) value)) self.old) }
+    {
+        let done = self.trees.change_attr(node, name, value);
         settle(
             done,
-            &mut self.forest,
+            &mut self.trees,
             &mut self.cursors,
             &mut self.observers,
             &mut self.ranges,
-            &mut self.slots,
-            &mut self.signalled,
-            &mut self.queue,
             self.alloc,
         )
     }
@@ -190,11 +154,17 @@ impl Parts {
         ensures whole { offset ≡ 0 → length (node_in (trees_in self.old node) (name_in self.old node)).text ≤ count → IsOk result }
         ensures err { OnErr result (self.new ≡ self.old) }
     {
-        self.forest.law_nodes_stand_once();
+        self.trees.forest.law_nodes_stand_once();
         let size = data.len();
-        let text = spliced(self.alloc, self.forest.text(node), offset, count, data)?;
+        let text = spliced(
+            self.alloc,
+            self.trees.forest.text(node),
+            offset,
+            count,
+            data,
+        )?;
         self.ranges.on_replace_data(node, offset, count, size);
-        self.forest.set_data(node, text);
+        self.trees.forest.set_data(node, text);
         Ok(())
     }
 
@@ -220,9 +190,9 @@ impl Parts {
         ensures { self.new ≡ stepped (owner_in self.old parent)
             (make_room (name_in self.old parent) (index_of (trees_in self.old child) (name_in self.old child)) count) self.old }
     {
-        self.forest.law_nodes_stand_once();
+        self.trees.forest.law_nodes_stand_once();
         self.ranges
-            .on_insert_before(&self.forest, parent, child, count);
+            .on_insert_before(&self.trees.forest, parent, child, count);
     }
 
     /// A Text, the child of a parent at an index, was split at an offset, and its tail is in a new Text: the ends of live
@@ -237,7 +207,7 @@ impl Parts {
         ensures { self.new ≡ stepped (owner_in self.old node)
             (split_at (name_in self.old node) offset (name_in self.old new) (name_in self.old parent) index) self.old }
     {
-        self.forest.law_nodes_stand_once();
+        self.trees.forest.law_nodes_stand_once();
         self.ranges
             .on_split(node, offset, new, Some((parent, index)));
     }
@@ -255,7 +225,7 @@ impl Parts {
             (map (name_in self.old) nexts.now))) self.old }
     {
         self.laws();
-        self.forest.law_nodes_stand_once();
+        self.trees.forest.law_nodes_stand_once();
         if self.ranges.is_empty() {
             return;
         }
@@ -280,12 +250,12 @@ impl Parts {
             (join_at (name_in self.old first) size (name_in self.old next) (name_in self.old parent)
             (index_of (trees_in self.old first) (name_in self.old next))) self.old }
     {
-        self.forest.law_nodes_stand_once();
+        self.trees.forest.law_nodes_stand_once();
         // What is joined is within the first Text, whose length is a number of the code's.
-        let _whole = self.forest.length(first);
-        let joined = size + self.forest.length(next);
+        let _whole = self.trees.forest.length(first);
+        let joined = size + self.trees.forest.length(next);
         self.ranges
-            .on_join_child(&self.forest, first, size, next, parent);
+            .on_join_child(&self.trees.forest, first, size, next, parent);
         joined
     }
 }

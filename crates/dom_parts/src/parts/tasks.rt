@@ -7,7 +7,6 @@ ghost use Rattle.dom_parts.specs.Doc.{name_in, with_tasks, HoldsNode};
 use crate::Parts;
 use dom_base::Owner;
 use dom_microtasks::Queue;
-use dom_node_trees::own_slots;
 use node_arena::Key;
 use std::alloc::AllocError;
 use std::mem;
@@ -19,7 +18,7 @@ impl Parts {
         ensures ok { OnOk result (self.new ≡ with_tasks (self.old.world.tasks ++ micro_task owner label.items ∷ []) self.old) }
         ensures err { OnErr result (self.new ≡ self.old) }
     {
-        self.queue.push_micro(owner, label)
+        self.trees.queue.push_micro(owner, label)
     }
 
     /// Takes all tasks out, for them to run (HTML Standard, perform a microtask checkpoint).
@@ -27,7 +26,7 @@ impl Parts {
         ensures tasks { result ≡ self.old.world.tasks }
         ensures rest { self.new ≡ with_tasks [] self.old }
     {
-        mem::replace(&mut self.queue, Queue::new(self.alloc))
+        mem::replace(&mut self.trees.queue, Queue::new(self.alloc))
     }
 
     /// The slots of an owner that are signalled, in their order; then none of that owner is (DOM Standard, notify mutation
@@ -38,8 +37,8 @@ impl Parts {
         ensures rest { OnOk result (self.new ≡ record self.old { world = without_signals self.old.world owner }) }
         ensures err { OnErr result (self.new ≡ self.old) }
     {
-        let own = own_slots(self.alloc, &self.forest, &self.signalled, owner)?;
-        self.signalled.forget(owner);
+        let own = self.trees.own_slots(self.alloc, owner)?;
+        self.trees.signalled.forget(owner);
         Ok(own)
     }
 }

@@ -21,7 +21,7 @@ impl Parts {
         ensures { err_of result ≡ insertion_refusal (trees_in self.now parent) (name_in self.now parent) (name_in self.now node)
             (option_map (name_in self.now) child) }
     {
-        self.forest.check_insert(parent, node, child)
+        self.trees.forest.check_insert(parent, node, child)
     }
 
     /// Tests whether a node may take the place of a child of a parent.
@@ -33,6 +33,6 @@ impl Parts {
         requires child_owner { owner_in self.now child ≡ owner_in self.now parent }
         ensures { err_of result ≡ replacement_refusal (trees_in self.now parent) (name_in self.now parent) (name_in self.now node) (name_in self.now child) }
     {
-        self.forest.check_replace(parent, node, child)
+        self.trees.forest.check_replace(parent, node, child)
     }
 }

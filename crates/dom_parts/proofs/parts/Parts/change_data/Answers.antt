@@ -1,24 +1,26 @@
-use Rattle.std.proofs.Common.{ℕ, ◌<◌, ◌≤◌, ◌^◌, List, length, refl, sym, ap, subst, ◌∙◌, arith, true≢false}
+use Rattle.std.proofs.Common.{◌≡◌, ℕ, ◌<◌, ◌≤◌, ◌^◌, List, length, refl, sym, ap, subst, ◌∙◌, arith, true≢false}
 use Rattle.dom_model.specs.Names.{name_eq}
 use Rattle.dom_model.specs.Tree.{node_in}
 use Rattle.dom_model.specs.TreeChanges.{change_node, replaced, with_text, with_data_replaced}
 use Rattle.dom_slots.proofs.Recast.{keeps_if, slots-recast}
 use Rattle.dom_tree.specs.Forest.{name_at}
-use Rattle.dom_parts.specs.Doc.{named_trees}
-use Rattle.dom_parts.proofs.RangedStates.{data_asks, data_held, data_state}
+use Rattle.dom_parts.specs.Doc.{IsDoc, named_trees, all_tables, state_from, name_in, owner_in, stepped}
+use Rattle.dom_model.specs.Steps.{replace_data}
+use Rattle.dom_parts.specs.AllTables.{with_live}
+use Rattle.dom_parts.proofs.RangedStates.{data_asks, data_done}
 use Rattle.dom_parts.proofs.Shown.{shown, known}
 use Rattle.dom_parts.proofs.Spliced.{data_changed}
 use Rattle.dom_parts.proofs.parts.Parts.change_data.Goals as goal
 
 pub returns-in_err-text-clause-whole : goal.returns-in_err-text-clause-whole
 returns-in_err-text-clause-whole c start all =
-    let same = shown c.self.inside.forest c.self.invariant c.self.view_is (λ ts x. (node_in ts x).text) (λ ns. c.text.result.now) c.args.node
+    let same = shown c.self.inside.trees.forest c.self.invariant c.self.view_is (λ ts x. (node_in ts x).text) (λ ns. c.text.result.now) c.args.node
     c.text.ensures (λ r. ap (λ n. n.text) r.node) in
     absurd (true≢false (sym (c.in_err-text.ensures.whole start (subst (λ (units : List ℕ). length units ≤ c.args.count) (sym same) all))))
 
 pub on_replace_data-requires : goal.on_replace_data-requires
 on_replace_data-requires c =
-    let f = c.self.inside.forest in
+    let f = c.self.inside.trees.forest in
     data_asks f c.self.invariant c.self.view_is c.law_nodes_stand_once.ensures.once c.law_nodes_stand_once.ensures.only c.args.node c.args.offset
     c.args.count c.args.data.items c.requires.node_is_node c.requires.may_come c.requires.there (let fits = c.ranges.offset in omega arith)
     (subst (λ (units : List ℕ). length units < 2 ^ 64)
@@ -28,14 +30,18 @@ on_replace_data-requires c =
     c.text.ensures (λ r. ap (λ n. n.text) r.node))
     c.len-size.result (let len = c.len-size.ensures in omega (arith, len, c.args.data.ok.0))
 
-pub invariant_of-self : goal.invariant_of-self
-invariant_of-self c =
-    let f = c.self.inside.forest in
+-- what is held then, and the state
+done : (c : goal.After-set_data) → IsDoc c.set_data.new.self.names c.set_data.new.self.trees (with_live (all_tables c.self.inside) c.on_replace_data.new.self)
+    × (state_from c.set_data.new.self.names c.set_data.new.self.trees (with_live (all_tables c.self.inside) c.on_replace_data.new.self)
+    ≡ stepped (owner_in c.args.self.now c.args.node) (replace_data (name_in c.args.self.now c.args.node) c.args.offset c.args.count c.args.data.items)
+    c.args.self.now)
+done c =
+    let f = c.self.inside.trees.forest in
     let x = name_at f.names c.args.node in
     let h = with_data_replaced c.args.offset c.args.count c.args.data.items in
     let once = c.law_nodes_stand_once.ensures.once c.args.node
     (known f c.self.invariant c.self.view_is (λ e. c.args.node < length e.names) c.requires.node_is_node) in
-    data_held f c.self.invariant c.self.view_is c.law_nodes_stand_once.ensures.once c.law_nodes_stand_once.ensures.only c.args.node c.args.offset
+    data_done f c.self.invariant c.self.view_is c.law_nodes_stand_once.ensures.once c.law_nodes_stand_once.ensures.only c.args.node c.args.offset
     c.args.count c.args.data.items c.requires.node_is_node c.requires.may_come c.requires.there (let fits = c.ranges.offset in omega arith)
     (subst (λ (units : List ℕ). length units < 2 ^ 64)
     (c.in_ok-text.ensures.items ∙ ap (replaced c.args.offset c.args.count c.args.data.items) c.text.ensures)
@@ -51,21 +57,8 @@ invariant_of-self c =
     (keeps_if (λ n. name_eq n.name x) h record { name = λ n. refl; kind = λ n. refl; element = λ n. refl; attributes = λ n. refl }) refl refl
     c.self.invariant.signals.slots)
 
+pub invariant_of-self : goal.invariant_of-self
+invariant_of-self c = (done c).0
+
 pub returns-clause-ok : goal.returns-clause-ok
-returns-clause-ok c =
-    let f = c.self.inside.forest in
-    let x = name_at f.names c.args.node in
-    let once = c.law_nodes_stand_once.ensures.once c.args.node
-    (known f c.self.invariant c.self.view_is (λ e. c.args.node < length e.names) c.requires.node_is_node) in
-    data_state f c.self.invariant c.self.view_is c.law_nodes_stand_once.ensures.once c.law_nodes_stand_once.ensures.only c.args.node c.args.offset
-    c.args.count c.args.data.items c.requires.node_is_node c.requires.may_come c.requires.there (let fits = c.ranges.offset in omega arith)
-    (subst (λ (units : List ℕ). length units < 2 ^ 64)
-    (c.in_ok-text.ensures.items ∙ ap (replaced c.args.offset c.args.count c.args.data.items) c.text.ensures)
-    (let ok = c.in_ok-text.text.ok in let small = c.in_ok-text.text.small in omega (arith, ok.0, ok.1, small)))
-    (sym c.text.ensures ∙ shown f c.self.invariant c.self.view_is (λ ts x. (node_in ts x).text) (λ ns. c.text.result.now) c.args.node
-    c.text.ensures (λ r. ap (λ n. n.text) r.node))
-    c.len-size.result (let len = c.len-size.ensures in omega (arith, len, c.args.data.ok.0))
-    c.law_nodes_stand_once.ensures.distinct c.on_replace_data.new.self c.on_replace_data.ensures c.set_data.new.self c.set_data.ensures.names
-    (c.set_data.ensures.trees ∙ ap (λ units. change_node (with_text units) x f.trees)
-    (c.in_ok-text.ensures.items ∙ ap (replaced c.args.offset c.args.count c.args.data.items) c.text.ensures)
-    ∙ data_changed x c.args.offset c.args.count c.args.data.items f.trees (omega (arith, once)))
+returns-clause-ok c = (done c).1

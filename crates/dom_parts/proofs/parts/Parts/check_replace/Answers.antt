@@ -8,7 +8,7 @@ use Rattle.dom_parts.proofs.parts.Parts.check_replace.Goals as goal
 
 pub returns : goal.returns
 returns c =
-    let f = c.self.inside.forest in
+    let f = c.self.inside.trees.forest in
     let p = name_at f.names c.args.parent in
     let x = name_at f.names c.args.node in
     let y = name_at f.names c.args.child in

@@ -5,7 +5,7 @@ use Rattle.dom_parts.proofs.parts.Parts.disconnect.Goals as goal
 
 pub invariant_of-self : goal.invariant_of-self
 invariant_of-self c =
-    let f = c.self.inside.forest in
+    let f = c.self.inside.trees.forest in
     disconnected_held f c.self.invariant c.self.view_is c.args.owner
     (there_by f c.self.invariant c.self.view_is c.args.owner c.args.number c.requires) (tables_of c.disconnect.new.self) c.args.number
     c.disconnect.result
@@ -14,7 +14,7 @@ invariant_of-self c =
 
 pub returns-clause-world : goal.returns-clause-world
 returns-clause-world c =
-    let f = c.self.inside.forest in
+    let f = c.self.inside.trees.forest in
     disconnected_world f c.self.invariant c.self.view_is c.args.owner
     (there_by f c.self.invariant c.self.view_is c.args.owner c.args.number c.requires) (tables_of c.disconnect.new.self) c.args.number
     c.disconnect.result

@@ -10,7 +10,7 @@ use Rattle.dom_parts.proofs.parts.Parts.following.Goals as goal
 
 pub following-requires-clause-within : goal.following-requires-clause-within
 following-requires-clause-within c =
-    let f = c.self.inside.forest in
+    let f = c.self.inside.trees.forest in
     let d = c.args.self.now in
     let x = name_at f.names c.args.top in
     read_there f c.self.invariant c.self.view_is (λ ts y. is_inclusive_ancestor ts x y) c.args.node (λ r. ap (is_in name_eq x) r.path)
@@ -19,7 +19,7 @@ following-requires-clause-within c =
 
 pub returns-clause-value : goal.returns-clause-value
 returns-clause-value c =
-    let f = c.self.inside.forest in
+    let f = c.self.inside.trees.forest in
     let d = c.args.self.now in
     let y = name_at f.names c.args.node in
     shown f c.self.invariant c.self.view_is (λ ts x. first_of (items_after name_eq y (inclusive_descendants ts x)))
@@ -30,7 +30,7 @@ returns-clause-value c =
 
 pub returns-clause-within : goal.returns-clause-within
 returns-clause-within c k is =
-    let f = c.self.inside.forest in
+    let f = c.self.inside.trees.forest in
     let d = c.args.self.now in
     let x = name_at f.names c.args.top in
     let below : (name_at f.names k).owner ≡ x.owner =
@@ -43,7 +43,7 @@ returns-clause-within c k is =
 
 pub returns-clause-node : goal.returns-clause-node
 returns-clause-node c k is =
-    let f = c.self.inside.forest in
+    let f = c.self.inside.trees.forest in
     let x = name_at f.names c.args.top in
     let own : (name_at f.names k).owner ≡ x.owner =
     owner_below f.trees c.self.invariant.owned x.owner x (name_at f.names k) refl (c.following.ensures.within k is) in (

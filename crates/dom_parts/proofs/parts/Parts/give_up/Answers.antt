@@ -1,15 +1,15 @@
 use Rattle.dom_traversal.specs.Cursors.{cursors_of}
 use Rattle.dom_observers.specs.Owners.{tables_of as observers_of}
-use Rattle.dom_parts.specs.AllTables.{tables_of}
+use Rattle.dom_parts.specs.AllTables.{tables_with_trees}
 use Rattle.dom_parts.proofs.HeldNodes.{given_up, nothing_shown}
 use Rattle.dom_parts.proofs.parts.Parts.give_up.Goals as goal
 
 pub invariant_of-self : goal.invariant_of-self
 invariant_of-self c =
-    given_up c.give_up.new.forest (tables_of (cursors_of c.give_up.new.cursors) (observers_of c.give_up.new.observers) c.give_up.new.queue
-    c.give_up.new.slots c.give_up.new.signalled c.give_up.new.ranges) c.give_up.ensures.empty c.give_up.ensures.first
+    given_up c.give_up.new.trees.forest (tables_with_trees (cursors_of c.give_up.new.cursors) (observers_of c.give_up.new.observers)
+    c.give_up.new.trees c.give_up.new.ranges) c.give_up.ensures.empty c.give_up.ensures.first
 
 pub returns : goal.returns
 returns c =
-    nothing_shown c.give_up.new.forest (tables_of (cursors_of c.give_up.new.cursors) (observers_of c.give_up.new.observers) c.give_up.new.queue
-    c.give_up.new.slots c.give_up.new.signalled c.give_up.new.ranges) c.give_up.ensures.empty c.give_up.ensures.first
+    nothing_shown c.give_up.new.trees.forest (tables_with_trees (cursors_of c.give_up.new.cursors) (observers_of c.give_up.new.observers)
+    c.give_up.new.trees c.give_up.new.ranges) c.give_up.ensures.empty c.give_up.ensures.first

@@ -11,5 +11,5 @@ some_mapped f (Some x) = refl
 pub returns : goal.returns
 returns c =
     c.is_some.ensures ∙ some_mapped (λ value. value.now) c.attr.result
-    ∙ ap is_some (shown c.self.inside.forest c.self.invariant c.self.view_is (λ ts x. attribute_value (node_in ts x) c.args.name.now)
+    ∙ ap is_some (shown c.self.inside.trees.forest c.self.invariant c.self.view_is (λ ts x. attribute_value (node_in ts x) c.args.name.now)
     (λ ns. option_map (λ value. value.now) c.attr.result) c.args.node c.attr.ensures (λ r. r.attribute c.args.name.now))

@@ -7,4 +7,4 @@ pub returns : goal.returns
 returns c =
     c.is_some.ensures
     ∙ (sym (some_of range_from c.points.result) ∙
-    (ap is_some c.points.ensures ∙ range_is c.self.inside.forest c.self.invariant c.self.view_is c.args.owner c.args.number))
+    (ap is_some c.points.ensures ∙ range_is c.self.inside.trees.forest c.self.invariant c.self.view_is c.args.owner c.args.number))

@@ -12,8 +12,8 @@ use Rattle.dom_parts.proofs.parts.Parts.is_connected.Goals as goal
 
 pub returns : goal.returns
 returns c =
-    let f = c.self.inside.forest in
-    let s = shadows f c.self.inside.slots.hosts in
+    let f = c.self.inside.trees.forest in
+    let s = shadows f c.self.inside.trees.slots.hosts in
     let x = name_at f.names c.args.node in
     let depth = c.depth-depth.ensures ∙ ap (λ (y : NodeName). owner_depth y.owner) (sym c.name.ensures.at) in
     subst (λ (d : DocState). c.is_document.result ≡ is_connected d.world (name_in d c.args.node)) c.self.view_is

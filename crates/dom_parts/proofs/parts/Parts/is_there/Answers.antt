@@ -10,7 +10,7 @@ pub returns-then-matches : goal.returns-then-matches
 returns-then-matches c =
     elim c.match-matches.branch [
       | in-Page w ↦ c.if-matches.true ∙
-          (page_there c.self.inside.forest c.self.invariant c.self.view_is ∙ ap (is_there c.args.self.now.world) (sym w.in-Page.is))
+          (page_there c.self.inside.trees.forest c.self.invariant c.self.view_is ∙ ap (is_there c.args.self.now.world) (sym w.in-Page.is))
       | in_default w ↦ absurd (true≢false (sym c.if-matches.true ∙ w.matches-is))
     ]
 
@@ -18,4 +18,4 @@ pub returns-else-matches : goal.returns-else-matches
 returns-else-matches c =
     let other : c.args.owner ≢ Page =
     elim c.match-matches.branch [ in-Page w ↦ absurd (true≢false (sym w.matches-is ∙ c.if-matches.false)) | in_default w ↦ w.in_default.not-Page ] in
-    ap (nat_lt 0) c.node_count.ensures ∙ nodes_there c.self.inside.forest c.self.invariant c.self.view_is c.args.owner other
+    ap (nat_lt 0) c.node_count.ensures ∙ nodes_there c.self.inside.trees.forest c.self.invariant c.self.view_is c.args.owner other

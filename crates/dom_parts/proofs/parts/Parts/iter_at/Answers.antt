@@ -1,26 +1,22 @@
 use Rattle.std.proofs.Common.{ℕ, ◌<◌, Bool, [], length, sym, ap, subst, ◌∙◌}
-use Rattle.std.specs.Prelude.{slice_get}
 use Rattle.dom_model.specs.Command.{Command}
 use Rattle.dom_model.specs.Output.{reference}
 use Rattle.dom_model.specs.Effects.{Effect}
 use Rattle.dom_tree.specs.Forest.{name_at}
 use Rattle.dom_parts.proofs.Cursors.{with_own, at_effect}
-use Rattle.dom_parts.proofs.Passing.{there_iter, iter_there, reads, name_known}
+use Rattle.dom_parts.proofs.Passing.{there_iter, iter_there, the_iterator, reads, name_known}
 use Rattle.dom_parts.specs.Doc.{all_tables}
 use Rattle.dom_parts.proofs.parts.Parts.iter_at.Goals as goal
-use Rattle.dom_laws.proofs.Options.{was_some}
 
 pub iter_at-requires : goal.iter_at-requires
 iter_at-requires c =
-    let f = c.self.inside.forest in
+    let f = c.self.inside.trees.forest in
     iter_there f c.self.invariant c.self.view_is c.args.owner c.args.number c.requires
 
 pub returns-clause-node : goal.returns-clause-node
 returns-clause-node c =
-    let f = c.self.inside.forest in
-    let t = (all_tables c.self.inside).each c.args.owner in
-    let item = was_some (slice_get t.iterators c.args.number)
-    (iter_there f c.self.invariant c.self.view_is c.args.owner c.args.number c.requires) in
+    let f = c.self.inside.trees.forest in
+    let item = the_iterator f c.self.invariant c.self.view_is c.args.owner c.args.number c.requires in
     let h = (c.self.invariant.own c.args.owner).iterators
     c.args.number item.0 item.1 in
     name_known f c.self.invariant c.self.view_is c.args.owner c.iter_at.result.0
@@ -28,15 +24,13 @@ returns-clause-node c =
 
 pub returns-clause-value : goal.returns-clause-value
 returns-clause-value c =
-    let f = c.self.inside.forest in
+    let f = c.self.inside.trees.forest in
     let there = there_iter f c.self.invariant c.self.view_is c.args.owner c.args.number c.requires in
-    let t = (all_tables c.self.inside).each c.args.owner in
-    let item = was_some (slice_get t.iterators c.args.number)
-    (iter_there f c.self.invariant c.self.view_is c.args.owner c.args.number c.requires) in
+    let item = the_iterator f c.self.invariant c.self.view_is c.args.owner c.args.number c.requires in
     reads f c.self.invariant c.self.view_is c.args.owner there
     (λ ns. Command.iterator_at c.args.number) (λ ns. reference (name_at ns c.iter_at.result.0) c.iter_at.result.1)
     (at_effect f.names f.trees (all_tables c.self.inside) c.self.invariant c.args.owner there c.args.number
     item.0 item.1
     ∙ ap (λ (p : ℕ × Bool). Effect.tables
-    (with_own f.names f.trees (all_tables c.self.inside) c.self.invariant c.args.owner there t) []
+    (with_own f.names f.trees (all_tables c.self.inside) c.self.invariant c.args.owner there ((all_tables c.self.inside).each c.args.owner)) []
     (reference (name_at f.names p.0) p.1)) (sym (c.iter_at.ensures item.0 item.1)))

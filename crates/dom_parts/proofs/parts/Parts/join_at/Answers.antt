@@ -13,7 +13,7 @@ use Rattle.dom_parts.proofs.parts.Parts.join_at.Goals as goal
 
 pub on_join_child-requires-clause-fits : goal.on_join_child-requires-clause-fits
 on_join_child-requires-clause-fits c =
-    let f = c.self.inside.forest in
+    let f = c.self.inside.trees.forest in
     join_asks f c.self.invariant c.self.view_is c.args.first c.args.size c.args.next record {
       first_is_node = c.requires.first_is_node;
       next_owner = c.requires.next_owner;
@@ -25,7 +25,7 @@ on_join_child-requires-clause-fits c =
 
 pub invariant_of-self : goal.invariant_of-self
 invariant_of-self c =
-    let f = c.self.inside.forest in
+    let f = c.self.inside.trees.forest in
     let all = all_tables c.self.inside in
     let o = (name_at f.names c.args.first).owner in
     let at = index_of f.trees (name_at f.names c.args.next) in
@@ -49,7 +49,7 @@ invariant_of-self c =
 
 pub returns-clause-state : goal.returns-clause-state
 returns-clause-state c =
-    let f = c.self.inside.forest in
+    let f = c.self.inside.trees.forest in
     let all = all_tables c.self.inside in
     let d = c.args.self.now in
     let o = (name_at f.names c.args.first).owner in
@@ -57,7 +57,7 @@ returns-clause-state c =
     let index = shown f c.self.invariant c.self.view_is index_of (λ ns. at) c.args.next (λ j. at) (λ r. r.index) in
     live_done f c.self.invariant c.self.view_is c.args.first c.on_join_child.new.self
     (λ ns. join_at (name_at ns c.args.first) c.args.size (name_at ns c.args.next) (name_at ns c.args.parent) at)
-    (join_told (contents f.names f.trees all) c.self.inside.slots.hosts (are_hosts f.names f.trees all c.self.invariant) all.ranges
+    (join_told (contents f.names f.trees all) c.self.inside.trees.slots.hosts (are_hosts f.names f.trees all c.self.invariant) all.ranges
     c.on_join_child.new.self c.self.invariant.ranges c.law_nodes_stand_once.ensures.distinct o
     (owner_there f c.self.invariant c.self.view_is c.args.first c.requires.first_is_node)
     c.args.first (known f c.self.invariant c.self.view_is (λ e. c.args.first < length e.names) c.requires.first_is_node) (λ j. o)
@@ -72,7 +72,7 @@ returns-clause-state c =
 
 pub overflow_add-joined : goal.overflow_add-joined
 overflow_add-joined c =
-    let f = c.self.inside.forest in
+    let f = c.self.inside.trees.forest in
     let d = c.args.self.now in
     let next = shown f c.self.invariant c.self.view_is length_of (λ ns. c.length.result) c.args.next c.length.ensures (λ r. r.size) in
     let own = ap (λ o. length_of (part_of d.world o).trees (name_in d c.args.next)) c.requires.next_owner in
@@ -83,7 +83,7 @@ overflow_add-joined c =
 
 pub returns-clause-joined : goal.returns-clause-joined
 returns-clause-joined c =
-    let f = c.self.inside.forest in
+    let f = c.self.inside.trees.forest in
     let d = c.args.self.now in
     ap (λ (n : ℕ). c.args.size + n)
     (shown f c.self.invariant c.self.view_is length_of (λ ns. c.length.result) c.args.next c.length.ensures (λ r. r.size) ∙

@@ -4,7 +4,7 @@ use Rattle.dom_parts.proofs.parts.Parts.join_each.Goals as goal
 
 pub returns-then-is_empty : goal.returns-then-is_empty
 returns-then-is_empty c =
-    joins_vacant c.self.inside.forest c.self.invariant c.self.view_is c.law_nodes_stand_once.ensures.distinct (c.is_empty.ensures.0 c.if-is_empty.true)
+    joins_vacant c.self.inside.trees.forest c.self.invariant c.self.view_is c.law_nodes_stand_once.ensures.distinct (c.is_empty.ensures.0 c.if-is_empty.true)
     c.args.first c.args.parent c.requires.first_is_node c.requires.parent_is_node c.requires.parent_owner c.args.size c.args.nexts.now
     c.requires.nexts_are_nodes
 

@@ -1,19 +1,19 @@
 use Rattle.std.proofs.Common.{◌≡◌, true, true≢false, Result, Ok, Err, option_map, refl, sym, ap, subst, ◌∙◌}
 use Rattle.std.specs.Prelude.{is_some, OnOk}
 use Rattle.dom_model.specs.Tree.{parent_of}
+use Rattle.dom_model.specs.Steps.{take_out}
 use Rattle.dom_tree.specs.Forest.{name_at}
 use Rattle.dom_traversal.specs.Cursors.{cursors_of, with_cursors}
 use Rattle.dom_observers.specs.Owners.{tables_of as observers_of}
-use Rattle.dom_node_trees.specs.Signalled.{signal_tables}
 use Rattle.dom_base.specs.declared.NodeName.{NodeName}
 use Rattle.dom_base.specs.declared.Owner.{Owner}
 use Rattle.dom_traversal.specs.OwnTables.{KeyedTables, AreLeft}
-use Rattle.dom_parts.specs.AllTables.{tables_of}
-use Rattle.dom_parts.specs.Doc.{name_in, trees_in}
+use Rattle.dom_parts.specs.AllTables.{tables_with_trees}
+use Rattle.dom_parts.specs.Doc.{name_in, owner_in, trees_in, stepped}
 use Rattle.dom_parts.proofs.Observing.{none_held}
 use Rattle.dom_parts.proofs.RangedLists.{own_at_nodes}
 use Rattle.dom_parts.proofs.Shown.{known, read_there}
-use Rattle.dom_parts.proofs.Signalling.{removal_held, removal_state}
+use Rattle.dom_parts.proofs.Signalling.{IsAfter, removal_step}
 use Rattle.dom_parts.proofs.parts.Parts.leave.Goals as goal
 
 -- what a call ensures that did not fail
@@ -23,7 +23,7 @@ on_ok (Err e) other h = absurd (other e refl)
 
 pub unreachable-requires : goal.unreachable-requires
 unreachable-requires c =
-    let f = c.self.inside.forest in
+    let f = c.self.inside.trees.forest in
     true≢false (sym (known f c.self.invariant c.self.view_is (λ e. is_some (parent_of (trees_in e c.args.node) (name_in e c.args.node)) ≡ true)
     c.requires.has_parent)
     ∙ ap is_some (sym (read_there f c.self.invariant c.self.view_is parent_of c.args.node (λ r. r.parent)))
@@ -31,7 +31,7 @@ unreachable-requires c =
 
 pub invariant_of-self : goal.invariant_of-self
 invariant_of-self c =
-    let f = c.self.inside.forest in
+    let f = c.self.inside.trees.forest in
     none_held f c.self.invariant c.self.view_is (name_at f.names c.args.node).owner (observers_of c.new.result) c.new.ensures
 
 pub leave-requires-clause-iterators : goal.leave-requires-clause-iterators
@@ -39,62 +39,39 @@ leave-requires-clause-iterators c k i e =
     ((c.self.invariant.own c.name-owner.result.owner).iterators k i e).stands
 
 pub on_remove-requires-clause-ends : goal.on_remove-requires-clause-ends
-on_remove-requires-clause-ends c = own_at_nodes c.self.inside.forest.names c.self.inside.ranges c.self.invariant.ranges.own
+on_remove-requires-clause-ends c = own_at_nodes c.self.inside.trees.forest.names c.self.inside.ranges c.self.invariant.ranges.own
+
+-- what is held after the step, and the state
+after : (c : goal.After-settle) → IsAfter c.settle.new.trees.forest (tables_with_trees (cursors_of c.settle.new.cursors)
+    (observers_of c.settle.new.observers) c.settle.new.trees c.settle.new.ranges) c.settle.result (stepped (owner_in c.args.self.now c.args.node)
+    (take_out (name_in c.args.self.now c.args.node)) c.args.self.now)
+after c =
+    let f = c.self.inside.trees.forest in
+    let each = cursors_of c.self.inside.cursors in
+    let o = (name_at f.names c.args.node).owner in
+    let is : o ≡ c.name-owner.result.owner = ap (λ (x : NodeName). x.owner) c.name-owner.ensures.at in
+    let u : KeyedTables = record (each o) { iterators = (cursors_of c.leave.new.self o).iterators } in
+    removal_step f c.self.invariant c.self.view_is c.args.node c.requires.node_is_node c.law_iterators_stay.ensures c.law_nodes_stand_once.ensures.once
+    c.law_nodes_stand_once.ensures.only c.law_nodes_stand_once.ensures.distinct
+    c.in-Some.parent (c.parent.ensures.node c.in-Some.parent c.in-Some.is) c.in-Some.ensures.value
+    u
+    (subst (λ (q : Owner). AreLeft f c.args.node (each q).iterators (cursors_of c.leave.new.self q).iterators) (sym is) c.leave.ensures.iterators) refl
+    (cursors_of c.leave.new.self)
+    (subst (λ (q : Owner). cursors_of c.leave.new.self ≡ with_cursors each q (record (each q) { iterators = (cursors_of c.leave.new.self q).iterators }))
+    (sym is) c.leave.ensures.others)
+    (observers_of c.transient.new.self) (on_ok c.transient.result c.in_default-transient.not-Err c.transient.ensures) c.on_remove.new.self
+    (c.on_remove.ensures.child c.in-Some.parent (c.parent.ensures.node c.in-Some.parent c.in-Some.is) (sym c.in-Some.ensures.value))
+    c.unlink-done.new.self c.unlink-done.ensures
+    (record {
+      result = c.settle.ensures.result;
+      forest = c.settle.ensures.forest;
+      tables = c.settle.ensures.tables;
+      empty = c.settle.ensures.empty;
+      first = c.settle.ensures.first;
+    })
 
 pub invariant_of-self-2 : goal.invariant_of-self-2
-invariant_of-self-2 c =
-    let f = c.self.inside.forest in
-    let each = cursors_of c.self.inside.cursors in
-    let o = (name_at f.names c.args.node).owner in
-    let is : o ≡ c.name-owner.result.owner = ap (λ (x : NodeName). x.owner) c.name-owner.ensures.at in
-    let u : KeyedTables = record (each o) { iterators = (cursors_of c.leave.new.self o).iterators } in
-    removal_held f c.self.invariant c.self.view_is c.args.node c.requires.node_is_node c.law_iterators_stay.ensures c.law_nodes_stand_once.ensures.once
-    c.law_nodes_stand_once.ensures.only c.law_nodes_stand_once.ensures.distinct
-    c.in-Some.parent (c.parent.ensures.node c.in-Some.parent c.in-Some.is) c.in-Some.ensures.value
-    u
-    (subst (λ (q : Owner). AreLeft f c.args.node (each q).iterators (cursors_of c.leave.new.self q).iterators) (sym is) c.leave.ensures.iterators) refl
-    (cursors_of c.leave.new.self)
-    (subst (λ (q : Owner). cursors_of c.leave.new.self ≡ with_cursors each q (record (each q) { iterators = (cursors_of c.leave.new.self q).iterators }))
-    (sym is) c.leave.ensures.others)
-    (observers_of c.transient.new.self) (on_ok c.transient.result c.in_default-transient.not-Err c.transient.ensures) c.on_remove.new.self
-    (c.on_remove.ensures.child c.in-Some.parent (c.parent.ensures.node c.in-Some.parent c.in-Some.is) (sym c.in-Some.ensures.value))
-    c.unlink-done.new.forest c.settle.new.forest (signal_tables c.unlink-done.new.slots c.unlink-done.new.signalled c.unlink-done.new.queue)
-    (tables_of (cursors_of c.settle.new.cursors) (observers_of c.settle.new.observers) c.settle.new.queue c.settle.new.slots c.settle.new.signalled
-    c.settle.new.ranges) c.unlink-done.result c.settle.result c.unlink-done.ensures.names c.unlink-done.ensures.trees
-    c.unlink-done.ensures.signals
-    record {
-      result = c.settle.ensures.result;
-      forest = c.settle.ensures.forest;
-      tables = c.settle.ensures.tables;
-      empty = c.settle.ensures.empty;
-      first = c.settle.ensures.first;
-    }
+invariant_of-self-2 c = (after c).held
 
 pub returns : goal.returns
-returns c =
-    let f = c.self.inside.forest in
-    let each = cursors_of c.self.inside.cursors in
-    let o = (name_at f.names c.args.node).owner in
-    let is : o ≡ c.name-owner.result.owner = ap (λ (x : NodeName). x.owner) c.name-owner.ensures.at in
-    let u : KeyedTables = record (each o) { iterators = (cursors_of c.leave.new.self o).iterators } in
-    removal_state f c.self.invariant c.self.view_is c.args.node c.requires.node_is_node c.law_iterators_stay.ensures c.law_nodes_stand_once.ensures.once
-    c.law_nodes_stand_once.ensures.only c.law_nodes_stand_once.ensures.distinct
-    c.in-Some.parent (c.parent.ensures.node c.in-Some.parent c.in-Some.is) c.in-Some.ensures.value
-    u
-    (subst (λ (q : Owner). AreLeft f c.args.node (each q).iterators (cursors_of c.leave.new.self q).iterators) (sym is) c.leave.ensures.iterators) refl
-    (cursors_of c.leave.new.self)
-    (subst (λ (q : Owner). cursors_of c.leave.new.self ≡ with_cursors each q (record (each q) { iterators = (cursors_of c.leave.new.self q).iterators }))
-    (sym is) c.leave.ensures.others)
-    (observers_of c.transient.new.self) (on_ok c.transient.result c.in_default-transient.not-Err c.transient.ensures) c.on_remove.new.self
-    (c.on_remove.ensures.child c.in-Some.parent (c.parent.ensures.node c.in-Some.parent c.in-Some.is) (sym c.in-Some.ensures.value))
-    c.unlink-done.new.forest c.settle.new.forest (signal_tables c.unlink-done.new.slots c.unlink-done.new.signalled c.unlink-done.new.queue)
-    (tables_of (cursors_of c.settle.new.cursors) (observers_of c.settle.new.observers) c.settle.new.queue c.settle.new.slots c.settle.new.signalled
-    c.settle.new.ranges) c.unlink-done.result c.settle.result c.unlink-done.ensures.names c.unlink-done.ensures.trees
-    c.unlink-done.ensures.signals
-    record {
-      result = c.settle.ensures.result;
-      forest = c.settle.ensures.forest;
-      tables = c.settle.ensures.tables;
-      empty = c.settle.ensures.empty;
-      first = c.settle.ensures.first;
-    }
+returns c = (after c).state

@@ -12,13 +12,13 @@ use Rattle.dom_parts.proofs.parts.Parts.move_ends.Goals as goal
 
 pub on_insert_before-requires-clause-fits : goal.on_insert_before-requires-clause-fits
 on_insert_before-requires-clause-fits c =
-    let f = c.self.inside.forest in
+    let f = c.self.inside.trees.forest in
     room_asks f c.self.invariant c.self.view_is c.law_nodes_stand_once.ensures.once c.law_nodes_stand_once.ensures.only c.args.parent c.args.child
     c.args.count c.requires.parent_is_node c.requires.is_child c.requires.bounds c.requires.few (index_of f.trees (name_at f.names c.args.child))
 
 pub invariant_of-self : goal.invariant_of-self
 invariant_of-self c =
-    let f = c.self.inside.forest in
+    let f = c.self.inside.trees.forest in
     let all = all_tables c.self.inside in
     let o = (name_at f.names c.args.parent).owner in
     let index = index_of f.trees (name_at f.names c.args.child) in
@@ -32,13 +32,13 @@ invariant_of-self c =
 
 pub returns : goal.returns
 returns c =
-    let f = c.self.inside.forest in
+    let f = c.self.inside.trees.forest in
     let all = all_tables c.self.inside in
     let d = c.args.self.now in
     let o = (name_at f.names c.args.parent).owner in
     let index = index_of f.trees (name_at f.names c.args.child) in
     live_done f c.self.invariant c.self.view_is c.args.parent c.on_insert_before.new.self (λ ns. make_room (name_at ns c.args.parent) index c.args.count)
-    (room_told (contents f.names f.trees all) c.self.inside.slots.hosts (are_hosts f.names f.trees all c.self.invariant) all.ranges
+    (room_told (contents f.names f.trees all) c.self.inside.trees.slots.hosts (are_hosts f.names f.trees all c.self.invariant) all.ranges
     c.on_insert_before.new.self c.self.invariant.ranges c.law_nodes_stand_once.ensures.distinct o
     (owner_there f c.self.invariant c.self.view_is c.args.parent c.requires.parent_is_node) c.args.parent
     (known f c.self.invariant c.self.view_is (λ e. c.args.parent < length e.names) c.requires.parent_is_node) (λ j. o) index c.args.count

@@ -9,7 +9,7 @@ use Rattle.dom_parts.proofs.parts.Parts.observe.Goals as goal
 
 pub invariant_of-self : goal.invariant_of-self
 invariant_of-self c =
-    let f = c.self.inside.forest in
+    let f = c.self.inside.trees.forest in
     observed_held f c.self.invariant c.self.view_is c.args.owner
     (there_by f c.self.invariant c.self.view_is c.args.owner c.args.number c.requires.there) (tables_of c.observe.new.self) c.args.number
     c.args.node
@@ -18,15 +18,16 @@ invariant_of-self c =
     c.observe.result c.observe.ensures.err c.observe.ensures.tables
 
 pub observe-requires-clause-node_is_node : goal.observe-requires-clause-node_is_node
-observe-requires-clause-node_is_node c = known c.self.inside.forest c.self.invariant c.self.view_is (λ e. c.args.node < length e.names) c.requires.node_is_node
+observe-requires-clause-node_is_node c =
+    known c.self.inside.trees.forest c.self.invariant c.self.view_is (λ e. c.args.node < length e.names) c.requires.node_is_node
 
 pub observe-requires-clause-own : goal.observe-requires-clause-own
 observe-requires-clause-own c =
-    known c.self.inside.forest c.self.invariant c.self.view_is (λ e. owner_in e c.args.node ≡ c.args.owner) c.requires.own
+    known c.self.inside.trees.forest c.self.invariant c.self.view_is (λ e. owner_in e c.args.node ≡ c.args.owner) c.requires.own
 
 pub returns-clause-world : goal.returns-clause-world
 returns-clause-world c =
-    let f = c.self.inside.forest in
+    let f = c.self.inside.trees.forest in
     observed_world f c.self.invariant c.self.view_is c.args.owner
     (there_by f c.self.invariant c.self.view_is c.args.owner c.args.number c.requires.there) (tables_of c.observe.new.self) c.args.number
     c.args.node
@@ -36,7 +37,7 @@ returns-clause-world c =
 
 pub returns-clause-no_kind : goal.returns-clause-no_kind
 returns-clause-no_kind c =
-    let f = c.self.inside.forest in
+    let f = c.self.inside.trees.forest in
     let queues = (tables_of c.self.inside.observers c.args.owner).record_queues in
     refused_known f c.self.invariant c.self.view_is c.args.owner (nat_lt c.args.number (length queues))
     (within queues c.args.number (observer_is f c.self.invariant c.self.view_is c.args.owner c.args.number ∙ c.requires.there)) c.observe.result
@@ -44,12 +45,12 @@ returns-clause-no_kind c =
 
 pub returns-clause-other : goal.returns-clause-other
 returns-clause-other c =
-    let f = c.self.inside.forest in
+    let f = c.self.inside.trees.forest in
     let queues = (tables_of c.self.inside.observers c.args.owner).record_queues in
     faults_known f c.self.invariant c.self.view_is c.args.owner (nat_lt c.args.number (length queues))
     (within queues c.args.number (observer_is f c.self.invariant c.self.view_is c.args.owner c.args.number ∙ c.requires.there)) c.observe.result
     c.observe.ensures.unknown c.observe.ensures.other
 
 pub returns-clause-err : goal.returns-clause-err
-returns-clause-err c = same_if c.self.inside.forest c.self.invariant c.self.view_is c.args.owner (tables_of c.observe.new.self) c.observe.result
+returns-clause-err c = same_if c.self.inside.trees.forest c.self.invariant c.self.view_is c.args.owner (tables_of c.observe.new.self) c.observe.result
     c.observe.ensures.err

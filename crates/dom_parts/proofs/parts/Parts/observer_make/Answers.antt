@@ -11,13 +11,13 @@ use Rattle.dom_parts.proofs.parts.Parts.observer_make.Goals as goal
 
 pub invariant_of-self : goal.invariant_of-self
 invariant_of-self c =
-    let f = c.self.inside.forest in
+    let f = c.self.inside.trees.forest in
     let there = known f c.self.invariant c.self.view_is (λ e. is_there e.world c.args.owner ≡ true) c.requires in
     made_held f c.self.invariant c.self.view_is c.args.owner there (tables_of c.make.new.self) c.make.result c.make.ensures.err c.make.ensures.tables
 
 pub returns-clause-world : goal.returns-clause-world
 returns-clause-world c =
-    let f = c.self.inside.forest in
+    let f = c.self.inside.trees.forest in
     let there = known f c.self.invariant c.self.view_is (λ e. is_there e.world c.args.owner ≡ true) c.requires in
     made_world f c.self.invariant c.self.view_is c.args.owner there (tables_of c.make.new.self) c.make.result c.make.ensures.err
     c.make.ensures.tables c.make.ensures.number
@@ -25,7 +25,8 @@ returns-clause-world c =
 pub returns-clause-limit : goal.returns-clause-limit
 returns-clause-limit c =
     subst (λ n. (c.make.result ≡ Err (Refused Limit)) ↔ (past_limit n 1 ≡ true))
-    (count_is c.self.inside.forest c.self.invariant c.self.view_is c.args.owner) c.make.ensures.limit
+    (count_is c.self.inside.trees.forest c.self.invariant c.self.view_is c.args.owner) c.make.ensures.limit
 
 pub returns-clause-err : goal.returns-clause-err
-returns-clause-err c = same_if c.self.inside.forest c.self.invariant c.self.view_is c.args.owner (tables_of c.make.new.self) c.make.result c.make.ensures.err
+returns-clause-err c =
+    same_if c.self.inside.trees.forest c.self.invariant c.self.view_is c.args.owner (tables_of c.make.new.self) c.make.result c.make.ensures.err

@@ -8,12 +8,12 @@ use Rattle.dom_parts.proofs.Shown.{shown}
 use Rattle.dom_parts.proofs.parts.Parts.parent.Goals as goal
 
 pub returns-clause-value : goal.returns-clause-value
-returns-clause-value c = shown c.self.inside.forest c.self.invariant c.self.view_is parent_of (λ ns. option_map (name_at ns) c.parent.result)
+returns-clause-value c = shown c.self.inside.trees.forest c.self.invariant c.self.view_is parent_of (λ ns. option_map (name_at ns) c.parent.result)
     c.args.node c.parent.ensures.value (λ r. r.parent)
 
 pub returns-clause-owner : goal.returns-clause-owner
 returns-clause-owner c k e =
-    let f = c.self.inside.forest in
+    let f = c.self.inside.trees.forest in
     let x = name_at f.names c.args.node in
     subst (λ d. owner_in d k ≡ owner_in d c.args.node) c.self.view_is
     (parent_near f.trees c.self.invariant.owned x.owner x (name_at f.names k) refl (sym c.parent.ensures.value ∙ ap (option_map (name_at f.names)) e))

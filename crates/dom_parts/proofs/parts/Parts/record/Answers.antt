@@ -12,7 +12,7 @@ use Rattle.dom_parts.proofs.parts.Parts.record.Goals as goal
 
 pub invariant_of-self : goal.invariant_of-self
 invariant_of-self c =
-    let f = c.self.inside.forest in
+    let f = c.self.inside.trees.forest in
     let speaks = known f c.self.invariant c.self.view_is (λ e. NamesNodes e c.args.change) c.requires in
     notify_held f c.self.invariant c.law_nodes_stand_once.ensures.once c.law_nodes_stand_once.ensures.only c.law_nodes_stand_once.ensures.distinct
     (change_of c.args.change) speaks
@@ -22,18 +22,19 @@ invariant_of-self c =
 
 pub invariant_of-self-in-Ok-false : goal.invariant_of-self-in-Ok-false
 invariant_of-self-in-Ok-false c =
-    let f = c.self.inside.forest in
+    let f = c.self.inside.trees.forest in
     let speaks = known f c.self.invariant c.self.view_is (λ e. NamesNodes e c.args.change) c.requires in
     record_held f c.self.invariant c.law_nodes_stand_once.ensures.once c.law_nodes_stand_once.ensures.only c.law_nodes_stand_once.ensures.distinct
     (change_of c.args.change) speaks
-    (tables_of c.queue_record.new.self) c.in-Ok-false.ensures.tables c.self.inside.queue false refl
+    (tables_of c.queue_record.new.self) c.in-Ok-false.ensures.tables c.self.inside.trees.queue false refl
 
 pub invariant_of-self-in-Err : goal.invariant_of-self-in-Err
-invariant_of-self-in-Err c = none_held c.self.inside.forest c.self.invariant c.self.view_is c.name-owner.result.owner (tables_of c.new.result) c.new.ensures
+invariant_of-self-in-Err c =
+    none_held c.self.inside.trees.forest c.self.invariant c.self.view_is c.name-owner.result.owner (tables_of c.new.result) c.new.ensures
 
 pub returns-in-Ok-true : goal.returns-in-Ok-true
 returns-in-Ok-true c =
-    let f = c.self.inside.forest in
+    let f = c.self.inside.trees.forest in
     let speaks = known f c.self.invariant c.self.view_is (λ e. NamesNodes e c.args.change) c.requires in
     notify_state f c.self.invariant c.law_nodes_stand_once.ensures.once c.law_nodes_stand_once.ensures.only c.law_nodes_stand_once.ensures.distinct
     (change_of c.args.change) speaks
@@ -43,10 +44,10 @@ returns-in-Ok-true c =
 
 pub returns-in-Ok-false : goal.returns-in-Ok-false
 returns-in-Ok-false c =
-    let f = c.self.inside.forest in
+    let f = c.self.inside.trees.forest in
     let speaks = known f c.self.invariant c.self.view_is (λ e. NamesNodes e c.args.change) c.requires in
     record_state f c.self.invariant c.law_nodes_stand_once.ensures.once c.law_nodes_stand_once.ensures.only c.law_nodes_stand_once.ensures.distinct
     (change_of c.args.change) speaks
-    (tables_of c.queue_record.new.self) c.in-Ok-false.ensures.tables c.self.view_is c.self.inside.queue
+    (tables_of c.queue_record.new.self) c.in-Ok-false.ensures.tables c.self.view_is c.self.inside.trees.queue
     (name_at f.names (target_of (change_of c.args.change))).owner refl
     false (sym c.in-Ok-false.field-0-test ∙ c.in-Ok-false.ensures.taken) refl

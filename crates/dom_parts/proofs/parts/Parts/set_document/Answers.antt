@@ -29,16 +29,16 @@ set_each-requires-clause-tops_are_nodes c =
 
 pub invariant_of-self : goal.invariant_of-self
 invariant_of-self c =
-    documents_are_held c.self.inside.forest c.self.invariant c.self.view_is c.args.node c.args.document c.requires.node_is_node
-    c.in_ok-roots.roots.items (c.in_ok-roots.ensures.names ∙ sym (as_deep c.self.inside.forest c.self.inside.slots.hosts c.args.node))
+    documents_are_held c.self.inside.trees.forest c.self.invariant c.self.view_is c.args.node c.args.document c.requires.node_is_node
+    c.in_ok-roots.roots.items (c.in_ok-roots.ensures.names ∙ sym (as_deep c.self.inside.trees.forest c.self.inside.trees.slots.hosts c.args.node))
     c.in_ok-roots.ensures.nodes
     c.set_each.new.forest (c.set_each.ensures.names ∙ c.set_documents.ensures.names)
     (all_set c.args.document c.set_documents.ensures.names c.set_documents.ensures.trees c.as_slice.ensures.value c.set_each.ensures.trees)
 
 pub returns : goal.returns
 returns c =
-    documents_are_set c.self.inside.forest c.self.invariant c.self.view_is c.args.node c.args.document c.requires.node_is_node
-    c.in_ok-roots.roots.items (c.in_ok-roots.ensures.names ∙ sym (as_deep c.self.inside.forest c.self.inside.slots.hosts c.args.node))
+    documents_are_set c.self.inside.trees.forest c.self.invariant c.self.view_is c.args.node c.args.document c.requires.node_is_node
+    c.in_ok-roots.roots.items (c.in_ok-roots.ensures.names ∙ sym (as_deep c.self.inside.trees.forest c.self.inside.trees.slots.hosts c.args.node))
     c.in_ok-roots.ensures.nodes
     c.set_each.new.forest (c.set_each.ensures.names ∙ c.set_documents.ensures.names)
     (all_set c.args.document c.set_documents.ensures.names c.set_documents.ensures.trees c.as_slice.ensures.value c.set_each.ensures.trees)

@@ -18,7 +18,7 @@ use Rattle.dom_parts.proofs.parts.Parts.split_at.Goals as goal
 
 pub on_split-requires : goal.on_split-requires
 on_split-requires c p is =
-    let f = c.self.inside.forest in
+    let f = c.self.inside.trees.forest in
     subst (λ (p : ℕ × ℕ). (q : Owner) → EachRange (BothEnds (λ b. Fits (after_split nat_eq c.args.node c.args.offset c.args.new p.0 p.1 b)))
     (ranges_of c.self.inside.ranges q)) (same_Some (c.args.parent, c.args.index) p is)
     (split_fits (contents f.names f.trees (all_tables c.self.inside)) c.self.inside.ranges c.self.invariant.ranges
@@ -26,7 +26,7 @@ on_split-requires c p is =
 
 pub invariant_of-self : goal.invariant_of-self
 invariant_of-self c =
-    let f = c.self.inside.forest in
+    let f = c.self.inside.trees.forest in
     let all = all_tables c.self.inside in
     let o = (name_at f.names c.args.node).owner in
     held_live f.names f.trees all c.self.invariant c.on_split.new.self
@@ -43,12 +43,12 @@ invariant_of-self c =
 
 pub returns : goal.returns
 returns c =
-    let f = c.self.inside.forest in
+    let f = c.self.inside.trees.forest in
     let all = all_tables c.self.inside in
     let o = (name_at f.names c.args.node).owner in
     live_done f c.self.invariant c.self.view_is c.args.node c.on_split.new.self
     (λ ns. split_at (name_at ns c.args.node) c.args.offset (name_at ns c.args.new) (name_at ns c.args.parent) c.args.index)
-    (split_told (contents f.names f.trees all) c.self.inside.slots.hosts (are_hosts f.names f.trees all c.self.invariant) all.ranges
+    (split_told (contents f.names f.trees all) c.self.inside.trees.slots.hosts (are_hosts f.names f.trees all c.self.invariant) all.ranges
     c.on_split.new.self c.self.invariant.ranges c.law_nodes_stand_once.ensures.distinct o
     (owner_there f c.self.invariant c.self.view_is c.args.node c.requires.node_is_node)
     c.args.node (known f c.self.invariant c.self.view_is (λ e. c.args.node < length e.names) c.requires.node_is_node) (λ j. o)

@@ -7,22 +7,22 @@ use Rattle.dom_parts.proofs.parts.Parts.take_records.Goals as goal
 pub unreachable-requires : goal.unreachable-requires
 unreachable-requires c =
     shown_one _ c.take.result (slice_get (tables_of c.self.inside.observers c.args.owner).record_queues c.args.number) c.take.ensures.records
-    (observer_is c.self.inside.forest c.self.invariant c.self.view_is c.args.owner c.args.number ∙ c.requires) c.in_default.is
+    (observer_is c.self.inside.trees.forest c.self.invariant c.self.view_is c.args.owner c.args.number ∙ c.requires) c.in_default.is
 
 pub invariant_of-self : goal.invariant_of-self
 invariant_of-self c =
-    let f = c.self.inside.forest in
+    let f = c.self.inside.trees.forest in
     taken_held f c.self.invariant c.self.view_is c.args.owner (there_by f c.self.invariant c.self.view_is c.args.owner c.args.number c.requires)
     (tables_of c.take.new.self) c.args.number c.in-Some.records.items c.in-Some.ensures.records c.in-Some.ensures.tables
 
 pub returns-clause-nodes : goal.returns-clause-nodes
 returns-clause-nodes c =
-    let f = c.self.inside.forest in
+    let f = c.self.inside.trees.forest in
     taken_nodes f c.self.invariant c.self.view_is c.args.owner (there_by f c.self.invariant c.self.view_is c.args.owner c.args.number c.requires)
     (tables_of c.take.new.self) c.args.number c.in-Some.records.items c.in-Some.ensures.records c.in-Some.ensures.tables
 
 pub returns-clause-world : goal.returns-clause-world
 returns-clause-world c =
-    let f = c.self.inside.forest in
+    let f = c.self.inside.trees.forest in
     taken_world f c.self.invariant c.self.view_is c.args.owner (there_by f c.self.invariant c.self.view_is c.args.owner c.args.number c.requires)
     (tables_of c.take.new.self) c.args.number c.in-Some.records.items c.in-Some.ensures.records c.in-Some.ensures.tables

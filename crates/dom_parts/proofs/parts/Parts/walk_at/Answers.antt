@@ -1,26 +1,22 @@
 use Rattle.std.proofs.Common.{◌<◌, [], length, sym, ap, subst, ◌∙◌}
-use Rattle.std.specs.Prelude.{slice_get}
 use Rattle.dom_model.specs.Command.{Command}
 use Rattle.dom_model.specs.Output.{a_node}
 use Rattle.dom_model.specs.Effects.{Effect}
 use Rattle.dom_tree.specs.Forest.{name_at}
 use Rattle.dom_parts.proofs.Cursors.{with_own, walk_at_effect}
-use Rattle.dom_parts.proofs.Passing.{there_walk, walk_there, reads, name_known}
+use Rattle.dom_parts.proofs.Passing.{there_walk, walk_there, the_walker, reads, name_known}
 use Rattle.dom_parts.specs.Doc.{all_tables}
 use Rattle.dom_parts.proofs.parts.Parts.walk_at.Goals as goal
-use Rattle.dom_laws.proofs.Options.{was_some}
 
 pub walker_at-requires : goal.walker_at-requires
 walker_at-requires c =
-    let f = c.self.inside.forest in
+    let f = c.self.inside.trees.forest in
     walk_there f c.self.invariant c.self.view_is c.args.owner c.args.number c.requires
 
 pub returns-clause-node : goal.returns-clause-node
 returns-clause-node c =
-    let f = c.self.inside.forest in
-    let t = (all_tables c.self.inside).each c.args.owner in
-    let item = was_some (slice_get t.walkers c.args.number)
-    (walk_there f c.self.invariant c.self.view_is c.args.owner c.args.number c.requires) in
+    let f = c.self.inside.trees.forest in
+    let item = the_walker f c.self.invariant c.self.view_is c.args.owner c.args.number c.requires in
     let h = (c.self.invariant.own c.args.owner).walkers
     c.args.number item.0 item.1 in
     name_known f c.self.invariant c.self.view_is c.args.owner c.walker_at.result
@@ -28,14 +24,13 @@ returns-clause-node c =
 
 pub returns-clause-value : goal.returns-clause-value
 returns-clause-value c =
-    let f = c.self.inside.forest in
+    let f = c.self.inside.trees.forest in
     let there = there_walk f c.self.invariant c.self.view_is c.args.owner c.args.number c.requires in
-    let t = (all_tables c.self.inside).each c.args.owner in
-    let item = was_some (slice_get t.walkers c.args.number)
-    (walk_there f c.self.invariant c.self.view_is c.args.owner c.args.number c.requires) in
+    let item = the_walker f c.self.invariant c.self.view_is c.args.owner c.args.number c.requires in
     reads f c.self.invariant c.self.view_is c.args.owner there
     (λ ns. Command.walker_at c.args.number) (λ ns. a_node (name_at ns c.walker_at.result))
     (walk_at_effect f.names f.trees (all_tables c.self.inside) c.self.invariant c.args.owner there c.args.number
     item.0 item.1
-    ∙ ap (λ j. Effect.tables (with_own f.names f.trees (all_tables c.self.inside) c.self.invariant c.args.owner there t) []
+    ∙ ap (λ j. Effect.tables
+    (with_own f.names f.trees (all_tables c.self.inside) c.self.invariant c.args.owner there ((all_tables c.self.inside).each c.args.owner)) []
     (a_node (name_at f.names j))) (sym (c.walker_at.ensures item.0 item.1)))

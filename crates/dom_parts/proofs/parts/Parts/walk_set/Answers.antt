@@ -13,12 +13,12 @@ use Rattle.dom_laws.proofs.Options.{was_some}
 
 pub set_walker-requires : goal.set_walker-requires
 set_walker-requires c =
-    let f = c.self.inside.forest in
+    let f = c.self.inside.trees.forest in
     walk_there f c.self.invariant c.self.view_is c.args.owner c.args.number c.requires.there
 
 pub invariant_of-self : goal.invariant_of-self
 invariant_of-self c =
-    let f = c.self.inside.forest in
+    let f = c.self.inside.trees.forest in
     let there = there_walk f c.self.invariant c.self.view_is c.args.owner c.args.number c.requires.there in
     let t = (all_tables c.self.inside).each c.args.owner in
     let item = was_some (slice_get t.walkers c.args.number)
@@ -35,7 +35,7 @@ invariant_of-self c =
 
 pub returns-clause-world : goal.returns-clause-world
 returns-clause-world c =
-    let f = c.self.inside.forest in
+    let f = c.self.inside.trees.forest in
     let there = there_walk f c.self.invariant c.self.view_is c.args.owner c.args.number c.requires.there in
     let t = (all_tables c.self.inside).each c.args.owner in
     let item = was_some (slice_get t.walkers c.args.number)
