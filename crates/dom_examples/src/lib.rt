@@ -112,6 +112,7 @@ pub fn pairs()
 {}
 
 /// On the worlds that scripts leave, the path of each node follows event parents.
+#[tactic(auto, unfolding(dom_text::specs::Decode::keyword_of, dom_model::specs::Names::max_depth))]
 pub fn paths()
     ensures slotted_child { IsTrue (paths_are_right slotted_child) }
     ensures slots_by_name { IsTrue (paths_are_right slots_by_name) }

@@ -2,10 +2,9 @@ use Rattle.std.specs.Prelude.{refl}
 use Rattle.std.specs.Fmt.{digits}
 use Rattle.dom_examples.proofs.pairs.Goals as goal
 
-pub returns-clause-page : goal.returns-clause-page
+pub returns : goal.returns
 unfolding digits
-returns-clause-page c = refl
-
-pub returns-clause-component : goal.returns-clause-component
-unfolding digits
-returns-clause-component c = refl
+returns c = record {
+  page = refl;
+  component = refl;
+}

@@ -4,10 +4,9 @@ use Rattle.dom_model.specs.Names.{max_depth}
 use Rattle.dom_text.specs.Decode.{keyword_of}
 use Rattle.dom_examples.proofs.selectors.Goals as goal
 
-pub returns-clause-query_and_match : goal.returns-clause-query_and_match
-unfolding keyword_of digits
-returns-clause-query_and_match c = record { document = refl; page = refl }
-
-pub returns-clause-query_in_closed_tree : goal.returns-clause-query_in_closed_tree
+pub returns : goal.returns
 unfolding keyword_of digits max_depth
-returns-clause-query_in_closed_tree c = record { document = refl; page = refl }
+returns c = record {
+  query_and_match = record { document = refl; page = refl };
+  query_in_closed_tree = record { document = refl; page = refl };
+}

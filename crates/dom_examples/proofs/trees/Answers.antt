@@ -4,26 +4,13 @@ use Rattle.dom_model.specs.Names.{max_depth}
 use Rattle.dom_text.specs.Decode.{keyword_of}
 use Rattle.dom_examples.proofs.trees.Goals as goal
 
-pub returns-clause-append_and_remove : goal.returns-clause-append_and_remove
-unfolding keyword_of digits
-returns-clause-append_and_remove c = record { document = refl; page = refl }
-
-pub returns-clause-first_refusals : goal.returns-clause-first_refusals
-unfolding keyword_of digits
-returns-clause-first_refusals c = record { document = refl; page = refl }
-
-pub returns-clause-closed_tree : goal.returns-clause-closed_tree
+pub returns : goal.returns
 unfolding keyword_of digits max_depth
-returns-clause-closed_tree c = record { document = refl; page = refl }
-
-pub returns-clause-validity_order : goal.returns-clause-validity_order
-unfolding keyword_of digits
-returns-clause-validity_order c = record { document = refl; page = refl }
-
-pub returns-clause-split_surrogates : goal.returns-clause-split_surrogates
-unfolding keyword_of digits
-returns-clause-split_surrogates c = record { document = refl; page = refl }
-
-pub returns-clause-documents_and_attaching : goal.returns-clause-documents_and_attaching
-unfolding keyword_of digits max_depth
-returns-clause-documents_and_attaching c = record { document = refl; page = refl }
+returns c = record {
+  append_and_remove = record { document = refl; page = refl };
+  first_refusals = record { document = refl; page = refl };
+  closed_tree = record { document = refl; page = refl };
+  validity_order = record { document = refl; page = refl };
+  split_surrogates = record { document = refl; page = refl };
+  documents_and_attaching = record { document = refl; page = refl };
+}
