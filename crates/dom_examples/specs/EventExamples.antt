@@ -1,6 +1,6 @@
 -- Slots, listeners, and events that are retargeted. Scripts with their answers, which come from outside.
 use Rattle.std.specs.Prelude.{codes, [], ◌∷◌}
-use Rattle.dom_examples.specs.Example.{Example}
+use Rattle.dom_examples.specs.Example.{Example, continued}
 
 -- a slotted child of the page
 abbrev pub slotted_child : Example
@@ -135,9 +135,9 @@ events_from_inside = record {
       [];
 }
 
--- a host slotted into another host
-abbrev pub host_slotted_into_host : Example
-host_slotted_into_host = record {
+-- a host in the tree of another host, and a slot that it is slotted into
+abbrev pub slotted_host : Example
+slotted_host = record {
   lines =
       codes "p new element section" ∷
       codes "p append n0 n1" ∷
@@ -153,9 +153,6 @@ host_slotted_into_host = record {
       codes "c1 listen m1 e s log" ∷
       codes "c1 listen m0 e r log" ∷
       codes "c1 ." ∷
-      codes "c2 new element i" ∷
-      codes "c2 append m0 m1" ∷
-      codes "c2 dispatch m1 e bubbles composed" ∷
       [];
   answers =
       codes "p ok n1" ∷
@@ -172,6 +169,18 @@ host_slotted_into_host = record {
       codes "c1 ok" ∷
       codes "c1 ok" ∷
       codes "c1 ok" ∷
+      [];
+}
+
+-- a host slotted into another host
+abbrev pub host_slotted_into_host : Example
+host_slotted_into_host = continued slotted_host (record {
+  lines =
+      codes "c2 new element i" ∷
+      codes "c2 append m0 m1" ∷
+      codes "c2 dispatch m1 e bubbles composed" ∷
+      [];
+  answers =
       codes "c2 ok m1" ∷
       codes "c2 ok" ∷
       codes "c1 event s e phase=3 target=n2 current=m1 related=null path=[n2,m1,m0,n1,n0]" ∷
@@ -180,7 +189,7 @@ host_slotted_into_host = record {
       codes "p event d e phase=3 target=n2 current=n0 related=null path=[n2,n1,n0]" ∷
       codes "c2 ok true" ∷
       [];
-}
+})
 
 -- once, passive and cancel
 abbrev pub listener_words : Example

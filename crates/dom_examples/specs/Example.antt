@@ -1,5 +1,5 @@
 -- What an example is, and what it claims of the definitions.
-use Rattle.std.specs.Prelude.{◌≡◌, ℕ, List, [], ◌∷◌, map}
+use Rattle.std.specs.Prelude.{◌≡◌, ℕ, List, [], ◌∷◌, ◌++◌, map}
 use Rattle.dom_base.specs.declared.Owner.{Owner}
 use Rattle.dom_model.specs.DocumentMachine.{outputs_of}
 use Rattle.dom_model.specs.Trace.{trace_of}
@@ -12,6 +12,10 @@ use Rattle.dom_text.specs.Text.{output_text}
 pub record Example : Type 0 where
   pub lines : List (List ℕ)
   pub answers : List (List ℕ)
+
+-- a script that goes on where another one ends
+abbrev pub continued : Example → Example → Example
+continued first more = record { lines = first.lines ++ more.lines; answers = first.answers ++ more.answers }
 
 -- The document machine answers the script so, and the page machine answers the page's lines on the script's trace.
 pub record Computes (e : Example) : Type 0 where

@@ -1,10 +1,10 @@
 -- Components inside components. Scripts with their answers, which come from outside.
 use Rattle.std.specs.Prelude.{codes, [], ◌∷◌}
-use Rattle.dom_examples.specs.Example.{Example}
+use Rattle.dom_examples.specs.Example.{Example, continued}
 
--- a component attached by another one: its events, its names and its word
-abbrev pub component_in_component : Example
-component_in_component = record {
+-- the page attaches to an element, and the component makes one
+abbrev pub host_in_component : Example
+host_in_component = record {
   lines =
       codes "p new element div" ∷
       codes "p append n0 n1" ∷
@@ -12,6 +12,21 @@ component_in_component = record {
       codes "p listen n1 e a log" ∷
       codes "p ." ∷
       codes "c1 new element section" ∷
+      [];
+  answers =
+      codes "p ok n1" ∷
+      codes "p ok" ∷
+      codes "p ok c1" ∷
+      codes "p ok" ∷
+      codes "p ok" ∷
+      codes "c1 ok m1" ∷
+      [];
+}
+
+-- a component attached by another one: its events, its names and its word
+abbrev pub component_in_component : Example
+component_in_component = continued host_in_component (record {
+  lines =
       codes "c1 append m0 m1" ∷
       codes "c1 attach m1" ∷
       codes "c1 listen m1 e b log" ∷
@@ -31,12 +46,6 @@ component_in_component = record {
       codes "p attach n2" ∷
       [];
   answers =
-      codes "p ok n1" ∷
-      codes "p ok" ∷
-      codes "p ok c1" ∷
-      codes "p ok" ∷
-      codes "p ok" ∷
-      codes "c1 ok m1" ∷
       codes "c1 ok" ∷
       codes "c1 ok c1.1" ∷
       codes "c1 ok" ∷
@@ -59,7 +68,7 @@ component_in_component = record {
       codes "p ok n2" ∷
       codes "p ok c2" ∷
       [];
-}
+})
 
 -- a host in a closed tree whose child, a slot, is slotted into its tree, and which is slotted itself: one step signals slots of two trees
 abbrev pub slots_of_two_trees : Example
@@ -220,14 +229,8 @@ adopted_with_inner_trees = record {
 
 -- an event from a tree whose host is in no tree ends there, until the host is placed
 abbrev pub detached_inner_host : Example
-detached_inner_host = record {
+detached_inner_host = continued host_in_component (record {
   lines =
-      codes "p new element div" ∷
-      codes "p append n0 n1" ∷
-      codes "p attach n1" ∷
-      codes "p listen n1 e a log" ∷
-      codes "p ." ∷
-      codes "c1 new element section" ∷
       codes "c1 attach m1" ∷
       codes "c1 listen m1 e b log" ∷
       codes "c1 ." ∷
@@ -239,12 +242,6 @@ detached_inner_host = record {
       codes "c1.1 dispatch m1 e composed" ∷
       [];
   answers =
-      codes "p ok n1" ∷
-      codes "p ok" ∷
-      codes "p ok c1" ∷
-      codes "p ok" ∷
-      codes "p ok" ∷
-      codes "c1 ok m1" ∷
       codes "c1 ok c1.1" ∷
       codes "c1 ok" ∷
       codes "c1 ok" ∷
@@ -260,4 +257,4 @@ detached_inner_host = record {
       codes "p event a e phase=2 target=n1 current=n1 related=null path=[n1,n0]" ∷
       codes "c1.1 ok true" ∷
       [];
-}
+})

@@ -1,25 +1,12 @@
 -- Owners, turns, refusals by spelling, and pairs of worlds. Scripts with their answers, which come from outside.
 use Rattle.std.specs.Prelude.{codes, [], ◌∷◌}
-use Rattle.dom_examples.specs.Example.{Example}
+use Rattle.dom_examples.specs.Example.{Example, continued}
+use Rattle.dom_examples.specs.EventExamples.{slotted_host, host_slotted_into_host, events_from_inside}
 
 -- refusals by spelling and by look-up, and a component in an open turn of the page
 abbrev pub refusals_and_busy_turns : Example
-refusals_and_busy_turns = record {
+refusals_and_busy_turns = continued events_from_inside (record {
   lines =
-      codes "p new element div" ∷
-      codes "p append n0 n1" ∷
-      codes "p attach n1" ∷
-      codes "p listen n1 ping a log" ∷
-      codes "p ." ∷
-      codes "c1 new element b" ∷
-      codes "c1 new element i" ∷
-      codes "c1 append m0 m1" ∷
-      codes "c1 append m0 m2" ∷
-      codes "c1 dispatch m1 ping composed" ∷
-      codes "c1 dispatch m1 ping composed related m2" ∷
-      codes "c1 dispatch m1 ping" ∷
-      codes "c1 new element u" ∷
-      codes "c1 dispatch m1 ping composed related m3" ∷
       codes "c1 remove n1" ∷
       codes "c1 remove n999" ∷
       codes "p remove c1:m1" ∷
@@ -35,21 +22,6 @@ refusals_and_busy_turns = record {
       codes "x hello" ∷
       [];
   answers =
-      codes "p ok n1" ∷
-      codes "p ok" ∷
-      codes "p ok c1" ∷
-      codes "p ok" ∷
-      codes "p ok" ∷
-      codes "c1 ok m1" ∷
-      codes "c1 ok m2" ∷
-      codes "c1 ok" ∷
-      codes "c1 ok" ∷
-      codes "p event a ping phase=2 target=n1 current=n1 related=null path=[n1,n0]" ∷
-      codes "c1 ok true" ∷
-      codes "c1 ok true" ∷
-      codes "c1 ok true" ∷
-      codes "c1 ok m3" ∷
-      codes "c1 ! type" ∷
       codes "c1 ! foreign" ∷
       codes "c1 ! foreign" ∷
       codes "p ! foreign" ∷
@@ -64,11 +36,11 @@ refusals_and_busy_turns = record {
       codes "c1 ! not-supported" ∷
       codes "! owner" ∷
       [];
-}
+})
 
--- a component with a slot and a listener, which hears of a child of its host
-abbrev pub with_component : Example
-with_component = record {
+-- what the page does in both worlds, first
+abbrev pub page_before : Example
+page_before = record {
   lines =
       codes "p new element div" ∷
       codes "p append n0 n1" ∷
@@ -76,6 +48,21 @@ with_component = record {
       codes "p observer" ∷
       codes "p observe o0 n1 attributes" ∷
       codes "p ." ∷
+      [];
+  answers =
+      codes "p ok n1" ∷
+      codes "p ok" ∷
+      codes "p ok c1" ∷
+      codes "p ok o0" ∷
+      codes "p ok" ∷
+      codes "p ok" ∷
+      [];
+}
+
+-- a component with a slot and a listener, which hears of a child of its host
+abbrev pub with_component : Example
+with_component = continued page_before (record {
+  lines =
       codes "c1 new element slot" ∷
       codes "c1 append m0 m1" ∷
       codes "c1 listen m1 slotchange t log" ∷
@@ -87,12 +74,6 @@ with_component = record {
       codes "p ." ∷
       [];
   answers =
-      codes "p ok n1" ∷
-      codes "p ok" ∷
-      codes "p ok c1" ∷
-      codes "p ok o0" ∷
-      codes "p ok" ∷
-      codes "p ok" ∷
       codes "c1 ok m1" ∷
       codes "c1 ok" ∷
       codes "c1 ok" ∷
@@ -106,18 +87,12 @@ with_component = record {
       codes "p record o0 attributes n1 name=id old=null" ∷
       codes "p ok" ∷
       [];
-}
+})
 
 -- the first example without the lines of the component: the lines of the page are equal
 abbrev pub without_component : Example
-without_component = record {
+without_component = continued page_before (record {
   lines =
-      codes "p new element div" ∷
-      codes "p append n0 n1" ∷
-      codes "p attach n1" ∷
-      codes "p observer" ∷
-      codes "p observe o0 n1 attributes" ∷
-      codes "p ." ∷
       codes "p new text \"x\"" ∷
       codes "p append n1 n2" ∷
       codes "p micro k" ∷
@@ -125,12 +100,6 @@ without_component = record {
       codes "p ." ∷
       [];
   answers =
-      codes "p ok n1" ∷
-      codes "p ok" ∷
-      codes "p ok c1" ∷
-      codes "p ok o0" ∷
-      codes "p ok" ∷
-      codes "p ok" ∷
       codes "p ok n2" ∷
       codes "p ok" ∷
       codes "p ok" ∷
@@ -139,75 +108,23 @@ without_component = record {
       codes "p record o0 attributes n1 name=id old=null" ∷
       codes "p ok" ∷
       [];
-}
+})
 
 -- two components, one slotted into the other
 abbrev pub first_family : Example
-first_family = record {
+first_family = continued host_slotted_into_host (record {
   lines =
-      codes "p new element section" ∷
-      codes "p append n0 n1" ∷
-      codes "p attach n1" ∷
-      codes "p new element div" ∷
-      codes "p append n1 n2" ∷
-      codes "p attach n2" ∷
-      codes "p listen n1 e a log" ∷
-      codes "p listen n0 e d log" ∷
-      codes "p ." ∷
-      codes "c1 new element slot" ∷
-      codes "c1 append m0 m1" ∷
-      codes "c1 listen m1 e s log" ∷
-      codes "c1 listen m0 e r log" ∷
-      codes "c1 ." ∷
-      codes "c2 new element i" ∷
-      codes "c2 append m0 m1" ∷
-      codes "c2 dispatch m1 e bubbles composed" ∷
       codes "c2 ." ∷
       [];
   answers =
-      codes "p ok n1" ∷
-      codes "p ok" ∷
-      codes "p ok c1" ∷
-      codes "p ok n2" ∷
-      codes "p ok" ∷
-      codes "p ok c2" ∷
-      codes "p ok" ∷
-      codes "p ok" ∷
-      codes "p ok" ∷
-      codes "c1 ok m1" ∷
-      codes "c1 ok" ∷
-      codes "c1 ok" ∷
-      codes "c1 ok" ∷
-      codes "c1 ok" ∷
-      codes "c2 ok m1" ∷
-      codes "c2 ok" ∷
-      codes "c1 event s e phase=3 target=n2 current=m1 related=null path=[n2,m1,m0,n1,n0]" ∷
-      codes "c1 event r e phase=3 target=n2 current=m0 related=null path=[n2,m1,m0,n1,n0]" ∷
-      codes "p event a e phase=3 target=n2 current=n1 related=null path=[n2,n1,n0]" ∷
-      codes "p event d e phase=3 target=n2 current=n0 related=null path=[n2,n1,n0]" ∷
-      codes "c2 ok true" ∷
       codes "c2 ok" ∷
       [];
-}
+})
 
 -- the example of two families with other contents of the second component: the first one hears the same
 abbrev pub second_family : Example
-second_family = record {
+second_family = continued slotted_host (record {
   lines =
-      codes "p new element section" ∷
-      codes "p append n0 n1" ∷
-      codes "p attach n1" ∷
-      codes "p new element div" ∷
-      codes "p append n1 n2" ∷
-      codes "p attach n2" ∷
-      codes "p listen n1 e a log" ∷
-      codes "p listen n0 e d log" ∷
-      codes "p ." ∷
-      codes "c1 new element slot" ∷
-      codes "c1 append m0 m1" ∷
-      codes "c1 listen m1 e s log" ∷
-      codes "c1 listen m0 e r log" ∷
-      codes "c1 ." ∷
       codes "c2 new element u" ∷
       codes "c2 new element i" ∷
       codes "c2 append m0 m1" ∷
@@ -216,20 +133,6 @@ second_family = record {
       codes "c2 ." ∷
       [];
   answers =
-      codes "p ok n1" ∷
-      codes "p ok" ∷
-      codes "p ok c1" ∷
-      codes "p ok n2" ∷
-      codes "p ok" ∷
-      codes "p ok c2" ∷
-      codes "p ok" ∷
-      codes "p ok" ∷
-      codes "p ok" ∷
-      codes "c1 ok m1" ∷
-      codes "c1 ok" ∷
-      codes "c1 ok" ∷
-      codes "c1 ok" ∷
-      codes "c1 ok" ∷
       codes "c2 ok m1" ∷
       codes "c2 ok m2" ∷
       codes "c2 ok" ∷
@@ -241,4 +144,4 @@ second_family = record {
       codes "c2 ok true" ∷
       codes "c2 ok" ∷
       [];
-}
+})

@@ -1,6 +1,7 @@
 -- Queries and matches. Scripts with their answers, which come from outside.
 use Rattle.std.specs.Prelude.{codes, [], ◌∷◌}
-use Rattle.dom_examples.specs.Example.{Example}
+use Rattle.dom_examples.specs.Example.{Example, continued}
+use Rattle.dom_examples.specs.TreeExamples.{closed_tree}
 
 -- selectors
 abbrev pub query_and_match : Example
@@ -41,25 +42,8 @@ query_and_match = record {
 
 -- queries in and around a closed tree
 abbrev pub query_in_closed_tree : Example
-query_in_closed_tree = record {
+query_in_closed_tree = continued closed_tree (record {
   lines =
-      codes "p new element div" ∷
-      codes "p append n0 n1" ∷
-      codes "p attach n1" ∷
-      codes "p attach n1" ∷
-      codes "c1 tree m0" ∷
-      codes "p ." ∷
-      codes "c1 new element b" ∷
-      codes "c1 append m0 m1" ∷
-      codes "c1 append n1 m1" ∷
-      codes "c1 remove n999" ∷
-      codes "c1 tree c1:m1" ∷
-      codes "c1 attach m1" ∷
-      codes "c1 tree m0" ∷
-      codes "c2 tree m0" ∷
-      codes "p tree m0" ∷
-      codes "p shadow-root n1" ∷
-      codes "p tree n1" ∷
       codes "p query n0 \"b\"" ∷
       codes "p ." ∷
       codes "c1 query m0 \"b\"" ∷
@@ -68,23 +52,6 @@ query_in_closed_tree = record {
       codes "c1 query m0 \"b:not(:not(i))\"" ∷
       [];
   answers =
-      codes "p ok n1" ∷
-      codes "p ok" ∷
-      codes "p ok c1" ∷
-      codes "p ! not-supported" ∷
-      codes "c1 ! busy" ∷
-      codes "p ok" ∷
-      codes "c1 ok m1" ∷
-      codes "c1 ok" ∷
-      codes "c1 ! foreign" ∷
-      codes "c1 ! foreign" ∷
-      codes "c1 ! foreign" ∷
-      codes "c1 ! not-supported" ∷
-      codes "c1 ok (m0 shadow (m1 element b))" ∷
-      codes "c2 ! unknown" ∷
-      codes "p ! foreign" ∷
-      codes "p ok null" ∷
-      codes "p ok (n1 element div)" ∷
       codes "p ok []" ∷
       codes "p ok" ∷
       codes "c1 ok [m1]" ∷
@@ -92,4 +59,4 @@ query_in_closed_tree = record {
       codes "c1 ok true" ∷
       codes "c1 ! selector" ∷
       [];
-}
+})
