@@ -8,3 +8,4 @@ mod PageRuns
 mod PagePrefixes
 mod ForeignLines
 mod GroupRuns
+mod StatedLaws

@@ -15,6 +15,7 @@ ghost use Rattle.dom_engine.specs.PageLaws.{PageTextIsThePageMachines, SamePageT
 
 /// What a run writes with the page's view is the page machine's output on the trace of the lines read, where no component
 /// listener stops or cancels; and with interference it is that on the full trace, whatever listeners do.
+#[tactic(auto, using(crate::proofs::StatedLaws::page_laws))]
 pub fn law_page_text()
     ensures quiet { PageTextIsThePageMachines }
     ensures in_full { PageTextIsThePageMachinesInFull }
@@ -23,6 +24,7 @@ pub fn law_page_text()
 /// Two scripts with equal traces give the page equal output, where no component listener stops or cancels: lists of lines, by
 /// whatever reading, and the text that runs of two inputs write with the page's view. Two scripts with equal full traces, that is with equal lines of the
 /// page, equal outward events and equal interference, give it equal output whatever listeners do.
+#[tactic(auto, using(crate::proofs::StatedLaws::page_laws))]
 pub fn law_same_page()
     ensures lines { (read : List ℕ → Line) → SamePage read }
     ensures text { SamePageText }
@@ -35,6 +37,7 @@ pub fn law_same_page()
 /// member's. They agree in the members' lines, and in the outward events of all others, each at the first host that is a member's: lists of
 /// lines, by whatever reading, and the text that runs of two inputs write with the member's view. The clauses in full have no such premise: there
 /// the scripts agree in what others' listeners did to the events that reach the members, and where others end their turns, too.
+#[tactic(auto, using(crate::proofs::StatedLaws::group_laws))]
 pub fn law_same_group()
     ensures lines { (read : List ℕ → Line) → SameMember read }
     ensures standing_lines { (read : List ℕ → Line) → SameMemberWhileTurnsStand read }
@@ -47,6 +50,7 @@ pub fn law_same_group()
 /// Two scripts that agree for a family of components, in the page's lines, in its members' lines and in the outward events of all others, give each
 /// member equal output, where no component listener stops or cancels, and each component's turn is ended by its own `.`, or at least
 /// no line of another owner ends a member's: lists of lines, by whatever reading, and the text that runs of two inputs write with the member's view.
+#[tactic(auto, using(crate::proofs::StatedLaws::family_laws))]
 pub fn law_same_family()
     ensures lines { (read : List ℕ → Line) → SameFamily read }
     ensures standing_lines { (read : List ℕ → Line) → SameFamilyWhileTurnsStand read }
@@ -58,6 +62,7 @@ pub fn law_same_family()
 
 /// Two scripts that agree for a component and its makers give the component equal output, under the same premises: what it is told hangs neither on
 /// its siblings, nor on what it attached, nor on other families, but for the outward events that they send out.
+#[tactic(auto, using(crate::proofs::StatedLaws::component_laws))]
 pub fn law_same_component()
     ensures lines { (read : List ℕ → Line) → SameComponent read }
     ensures standing_lines { (read : List ℕ → Line) → SameComponentWhileTurnsStand read }
@@ -69,6 +74,7 @@ pub fn law_same_component()
 
 /// Two scripts that agree for all owners who are not inside a component give each of them equal output, under the same premises: of what happens
 /// inside the component nobody else is told anything but the events that it sends out of its host, its maker neither.
+#[tactic(auto, using(crate::proofs::StatedLaws::around_laws))]
 pub fn law_same_around()
     ensures lines { (read : List ℕ → Line) → SameAround read }
     ensures standing_lines { (read : List ℕ → Line) → SameAroundWhileTurnsStand read }
@@ -82,6 +88,7 @@ pub fn law_same_around()
 /// page sees the page machine's output on the trace of the lines whose text is written, without the ending; and on every
 /// fault some first bytes of the page machine's output on the trace of any input that begins with the bytes read. Where the
 /// end was reached that input is these bytes. With interference the same holds of full traces, whatever listeners do.
+#[tactic(auto, using(crate::proofs::StatedLaws::page_laws))]
 pub fn law_page_prefix()
     ensures lines { PageSeesLinesNamed }
     ensures prefix { PageSeesPrefix }
