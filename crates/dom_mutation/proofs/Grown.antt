@@ -75,6 +75,13 @@ pub record IsMade (d e : DocState) (node new : ℕ) (doc : Option NodeName) (tex
   pub here : node < length d.names
   pub alone : IsAlone d.world (owner_in d node)
 
+-- by what a call says that made it
+pub made_so : {d e : DocState} {node new : ℕ} {doc : Option NodeName} {text : DomString} →
+    e.names ≡ d.names ++ next_name (part_of d.world (owner_in d node)) ∷ [] →
+    e.world ≡ made (owner_in d node) (doing (make (new_text_node (next_name (part_of d.world (owner_in d node))) doc text))) d.world →
+    new ≡ length d.names → node < length d.names → IsAlone d.world (owner_in d node) → IsMade d e node new doc text
+made_so names world key here alone = record { names = names; world = world; key = key; here = here; alone = alone }
+
 module _ {d e : DocState} {node new : ℕ} {doc : Option NodeName} {text : DomString} (is_made : IsMade d e node new doc text) where
   abbrev o : Owner
   o = owner_in d node

@@ -14,7 +14,7 @@ use Rattle.dom_model.specs.Command.{Command, own, effect}
 use Rattle.dom_model.specs.CommandNames.{named}
 use Rattle.dom_model.specs.CommandRefusals.{past_end}
 use Rattle.dom_model.specs.Names.{node_of}
-use Rattle.dom_model.specs.Output.{Value, Said}
+use Rattle.dom_model.specs.Output.{Value, Said, nothing}
 use Rattle.dom_model.specs.Part.{Part, first_node, range_at}
 use Rattle.dom_model.specs.Ranges.{Range}
 use Rattle.dom_model.specs.Steps.{Step, make, set_document, set_range, part_step, after}
@@ -125,25 +125,37 @@ at_first d o laws f =
     subst (λ (y : NodeName). IsNodeIn (part_of d.world y.owner).trees y) f.named (laws.stand f.first f.there) in
     subst (λ (q : Owner). IsNodeIn (part_of d.world o).trees (node_of q 0)) (sym (owner-part_of d.world o)) at
 
--- A range gets another end where the offset is not past the node's end.
-pub within-done : {X : Type 0} {P Q : Type 0} (m : Result X Refusal) (past : Bool) → (m ≡ Err IndexSize) ↔ (past ≡ true) →
-    (past ≡ false → P → Q) → OnOk m P → OnOk m Q
+-- where the offset is not past the node's end
+within-done : {X P Q : Type 0} (m : Result X Refusal) (past : Bool) → (m ≡ Err IndexSize) ↔ (past ≡ true) → (past ≡ false → P → Q) → OnOk m P → OnOk m Q
 within-done (Err r) past h f p = tt
 within-done (Ok x) false h f p = f refl p
 within-done (Ok x) true h f p = let e : Ok x ≡ Err IndexSize = h.1 refl in absurd cc
 
-module _ (b d : DocState) (same : b ≡ d) where
-  -- the node is there, and the offset not past its end, as the command names them
-  pub named-there : HasLaws b → (o : Owner) (k : ℕ) → k < length d.names → owner_in d k ≡ o →
-      IsNodeIn (part_of b.world o).trees (named (part_of b.world o) (own (name_in b k).number))
-  named-there laws o k there own_node =
-      subst (λ (a : DocState). IsNodeIn (part_of a.world o).trees (named (part_of a.world o) (own (name_in a k).number))) (sym same)
-      (subst (IsNodeIn (part_of d.world o).trees) (sym (named-own d.world o (name_in d k) own_node)) (stands-in d k o (subst HasLaws same laws) there own_node))
+-- A live range gets another end, at an offset in a node of its owner.
+module _ (b d e : DocState) (same : b ≡ d) (laws : HasLaws b) (o : Owner) (k offset : ℕ) (there : k < length d.names) (mine : owner_in d k ≡ o)
+    (h : IsReady b) where
+  abbrev p : Part
+  p = part_of b.world o
 
-  pub named-within : (o : Owner) (k offset : ℕ) → owner_in d k ≡ o → past_end (part_of b.world o) (name_in b k) offset ≡ false →
-      past_end (part_of b.world o) (named (part_of b.world o) (own (name_in b k).number)) offset ≡ false
-  named-within o k offset own_node low =
-      ap (λ x. past_end (part_of b.world o) x offset) (named-own b.world o (name_in b k) (ap (λ (a : DocState). owner_in a k) same ∙ own_node)) ∙ low
+  -- the node as the command names it
+  abbrev x : NodeName
+  x = named p (own (name_in b k).number)
+
+  here : IsNodeIn p.trees x
+  here =
+      subst (λ (a : DocState). IsNodeIn (part_of a.world o).trees (named (part_of a.world o) (own (name_in a k).number))) (sym same)
+      (subst (IsNodeIn (part_of d.world o).trees) (sym (named-own d.world o (name_in d k) mine)) (stands-in d k o (subst HasLaws same laws) there mine))
+
+  within : past_end p (name_in b k) offset ≡ false → past_end p x offset ≡ false
+  within low = ap (λ y. past_end p y offset) (named-own b.world o (name_in b k) (ap (λ (a : DocState). owner_in a k) same ∙ mine)) ∙ low
+
+  pub end-set : (c : Command) → (IsReadyPart p → IsNodeIn p.trees x → past_end p x offset ≡ false → ReadyEffect (effect p c)) →
+      {X : Type 0} (m : Result X Refusal) → (m ≡ Err IndexSize) ↔ (past_end p (name_in b k) offset ≡ true) →
+      OnOk m (Makes o c nothing b.world e.world) → OnErr m (e ≡ b) → IsReady e
+  end-set c keep m refused w err =
+      or-same m b e err h
+      (within-done {P = Makes o c nothing b.world e.world} {Q = IsReady e} m (past_end p (name_in b k) offset) refused
+      (λ low n. table-ready b e o c h (λ r. keep r here (within low)) {lines = []} {v = nothing} n) w)
 
 -- So do these calls.
 module _ (b e : DocState) (laws : HasLaws b) (h : IsReady b) where

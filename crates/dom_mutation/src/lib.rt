@@ -6,7 +6,6 @@ mod character_data;
 mod doc;
 mod documents;
 mod inserting;
-mod making;
 mod normalizing;
 mod removing;
 mod replacing;

@@ -10,11 +10,10 @@ ghost use Rattle.dom_model.specs.Steps.{make};
 ghost use Rattle.dom_model.specs.Changes.{doing};
 ghost use Rattle.dom_model.specs.World.{part_of, is_there};
 ghost use Rattle.dom_tree.specs.Forest.{node_from};
-ghost use Rattle.dom_mutation.specs.Doc.{HoldsNode, made, name_in, owner_in, trees_in, adding_refusal};
+ghost use Rattle.dom_mutation.specs.Doc.{HoldsNode, made, name_in, owner_in, trees_in, adding_refusal, is_misnamed};
 
-use crate::Doc;
-use crate::making::add;
-use dom_base::{Fault, Owner};
+use crate::{Doc, is_name};
+use dom_base::{Fault, Kind, Owner, Refusal};
 use dom_tree::NodeData;
 use node_arena::Key;
 
@@ -37,8 +36,11 @@ impl Doc {
             (adding_refusal (part_of self.old.world owner) node.kind (string_bytes node.element) ≡ Some r) }
         ensures err { OnErr result (self.new ≡ self.old) }
     {
+        if is_misnamed(&node) {
+            return Err(Fault::Refused(Refusal::InvalidCharacter));
+        }
         self.parts.laws();
-        add(&mut self.parts, owner, node)
+        self.parts.add(owner, node)
     }
 
     /// Makes a node of the kind and the name of one that is there, with its owner's next number, in a tree of its own, and gives its
@@ -64,4 +66,11 @@ impl Doc {
         let owner = self.parts.owner(of);
         self.parts.add(owner, node)
     }
+}
+
+/// Whether a node is an element whose name is none.
+fn is_misnamed(node: &NodeData) -> bool
+    ensures { result ≡ is_misnamed node.now.kind (string_bytes node.now.element) }
+{
+    matches!(node.kind, Kind::Element) && !is_name(node.element.as_bytes())
 }

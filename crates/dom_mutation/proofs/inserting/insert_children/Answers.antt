@@ -10,31 +10,33 @@ use Rattle.dom_parts.specs.Doc.{DocState, name_in, owner_in, placed_all, planned
 use Rattle.dom_mutation.specs.Observing.{observing_of}
 use Rattle.dom_mutation.proofs.BoundedDocs.{bounds_emptied, bounds_at, children_limited}
 use Rattle.dom_mutation.proofs.Inserted.{are_inside, all_may, stays_emptied, inserted_children, some_left, some_named}
-use Rattle.dom_mutation.proofs.Turns.{all_may_now, child_now}
+use Rattle.dom_mutation.proofs.Turns.{Stays, all_may_now, child_now}
+use Rattle.dom_mutation.proofs.inserting.insert_children.Goals.{In_ok-empty}
 use Rattle.dom_mutation.proofs.inserting.insert_children.Goals as goal
+
+-- what is around the place stays, and the children may come there
+stays : (c : In_ok-empty) → Stays c.args.parent c.args.before c.args.parts.now c.empty.new.parts
+stays c =
+    let d = c.args.parts.now in
+    let may = c.requires.may_move in
+    let child = c.requires.before_is_child in
+    let ks = c.args.children.now in
+    stays_emptied d c.laws.ensures.once c.args.parent c.args.fragment c.args.before may child ks
+    (are_inside d c.laws.ensures.once c.args.parent c.args.fragment c.args.before may child ks c.requires.are_children)
+    c.empty.new.parts (map (name_in d) ks) c.in_ok-empty.ensures.state c.in_ok-empty.ensures.paths
 
 pub place_all-requires-clause-may_move : goal.place_all-requires-clause-may_move
 place_all-requires-clause-may_move c =
     let d = c.args.parts.now in
-    all_may_now c.args.parent c.args.before d c.empty.new.parts
-    (stays_emptied d c.laws.ensures.once c.args.parent c.args.fragment c.args.before c.requires.may_move c.requires.before_is_child c.args.children.now
-    (are_inside d c.laws.ensures.once c.args.parent c.args.fragment c.args.before c.requires.may_move c.requires.before_is_child
-    c.args.children.now c.requires.are_children)
-    c.empty.new.parts (map (name_in d) c.args.children.now) c.in_ok-empty.ensures.state c.in_ok-empty.ensures.paths)
-    c.args.children.now
+    all_may_now c.args.parent c.args.before d c.empty.new.parts (stays (goal.at.place_all-requires-clause-may_move c).In_ok-empty) c.args.children.now
     (all_may d c.laws.ensures.once c.args.parent c.args.fragment c.args.before c.requires.may_move c.requires.before_is_child c.args.children.now
     (are_inside d c.laws.ensures.once c.args.parent c.args.fragment c.args.before c.requires.may_move c.requires.before_is_child
     c.args.children.now c.requires.are_children) c.requires.are_nodes)
 
 pub place_all-requires-clause-before_is_child : goal.place_all-requires-clause-before_is_child
 place_all-requires-clause-before_is_child c =
-    let d = c.args.parts.now in
-    child_now c.args.parent c.args.before d c.empty.new.parts
-    (stays_emptied d c.laws.ensures.once c.args.parent c.args.fragment c.args.before c.requires.may_move c.requires.before_is_child c.args.children.now
-    (are_inside d c.laws.ensures.once c.args.parent c.args.fragment c.args.before c.requires.may_move c.requires.before_is_child
-    c.args.children.now c.requires.are_children)
-    c.empty.new.parts (map (name_in d) c.args.children.now) c.in_ok-empty.ensures.state c.in_ok-empty.ensures.paths)
-    c.requires.before_is_child
+    child_now c.args.parent c.args.before c.args.parts.now c.empty.new.parts
+    (stays (goal.at.place_all-requires-clause-before_is_child c).In_ok-empty) c.requires.before_is_child
 
 -- of a fragment
 pub returns : goal.returns

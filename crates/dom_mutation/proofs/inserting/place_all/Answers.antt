@@ -5,24 +5,25 @@ use Rattle.dom_model.specs.Output.{child_list}
 use Rattle.dom_model.specs.Changes.{in_turn, making_room, placing, steps_of, telling}
 use Rattle.dom_parts.specs.Doc.{DocState, name_in, owner_in, planned}
 use Rattle.dom_mutation.specs.Observing.{observing_of}
-use Rattle.dom_mutation.proofs.Turns.{stays_same, all_may_now, child_now}
+use Rattle.dom_mutation.proofs.Turns.{Stays, stays_same, all_may_now, child_now}
+use Rattle.dom_mutation.proofs.inserting.place_all.Goals.{After-room_before}
 use Rattle.dom_mutation.proofs.inserting.place_all.Goals as goal
+
+-- what is around the place stays
+stays : (c : After-room_before) → Stays c.args.parent c.args.before c.args.parts.now c.room_before.new.parts
+stays c =
+    stays_same c.args.parent c.args.before c.args.parts.now c.room_before.new.parts (ap (λ (s : DocState). s.names) c.room_before.ensures.state)
+    c.room_before.ensures.trees
 
 pub place_each-requires-clause-may_move : goal.place_each-requires-clause-may_move
 place_each-requires-clause-may_move c =
-    let d = c.args.parts.now in
-    let e = c.room_before.new.parts in
-    all_may_now c.args.parent c.args.before d e
-    (stays_same c.args.parent c.args.before d e (ap (λ (s : DocState). s.names) c.room_before.ensures.state) c.room_before.ensures.trees)
-    c.args.moved.now c.requires.may_move
+    all_may_now c.args.parent c.args.before c.args.parts.now c.room_before.new.parts
+    (stays (goal.at.place_each-requires-clause-may_move c).After-room_before) c.args.moved.now c.requires.may_move
 
 pub place_each-requires-clause-before_is_child : goal.place_each-requires-clause-before_is_child
 place_each-requires-clause-before_is_child c =
-    let d = c.args.parts.now in
-    let e = c.room_before.new.parts in
-    child_now c.args.parent c.args.before d e
-    (stays_same c.args.parent c.args.before d e (ap (λ (s : DocState). s.names) c.room_before.ensures.state) c.room_before.ensures.trees)
-    c.requires.before_is_child
+    child_now c.args.parent c.args.before c.args.parts.now c.room_before.new.parts
+    (stays (goal.at.place_each-requires-clause-before_is_child c).After-room_before) c.requires.before_is_child
 
 pub returns : goal.returns
 returns c =

@@ -2,7 +2,7 @@ use Rattle.std.proofs.Common.{◌≡◌, ◌-◌, length, option_map, refl, ap, 
 use Rattle.dom_model.specs.Names.{DomString}
 use Rattle.dom_model.specs.Tree.{node_in}
 use Rattle.dom_parts.specs.Doc.{name_in, owner_in, trees_in}
-use Rattle.dom_mutation.proofs.Grown.{IsMade, new_owner, new_unlinked, new_not_above, split_whole}
+use Rattle.dom_mutation.proofs.Grown.{IsMade, made_so, new_owner, new_unlinked, new_not_above, split_whole}
 use Rattle.dom_model.specs.Part.{next_name}
 use Rattle.dom_model.specs.TextChanges.{new_text_node, splitting}
 use Rattle.dom_model.specs.World.{part_of}
@@ -15,13 +15,9 @@ use Rattle.dom_mutation.proofs.splitting.split.Goals as goal
 -- the new Text
 new_text : (c : In_ok-new) → IsMade c.args.parts.now c.make_text.new.parts c.args.node c.in_ok-new.new
     (option_map (name_in c.args.parts.now) c.document-document.result) c.in_ok-tail.tail.items
-new_text c = record {
-  names = c.in_ok-new.ensures.names;
-  world = c.in_ok-new.ensures.world;
-  key = c.in_ok-new.ensures.key;
-  here = c.requires.node_is_node;
-  alone = c.laws.ensures.alone c.args.node c.requires.node_is_node;
-}
+new_text c =
+    made_so c.in_ok-new.ensures.names c.in_ok-new.ensures.world c.in_ok-new.ensures.key c.requires.node_is_node
+    (c.laws.ensures.alone c.args.node c.requires.node_is_node)
 
 pub cut_tail-requires-clause-one_owner : goal.cut_tail-requires-clause-one_owner
 cut_tail-requires-clause-one_owner c = new_owner (new_text (goal.at.cut_tail-requires-clause-one_owner c).In_ok-new)

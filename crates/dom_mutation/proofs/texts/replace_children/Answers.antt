@@ -2,7 +2,7 @@ use Rattle.std.proofs.Common.{[], Some, refl, ap, sym, ◌∙◌}
 use Rattle.dom_model.specs.Names.{is_empty}
 use Rattle.dom_parts.specs.Doc.{name_in, owner_in}
 use Rattle.dom_mutation.proofs.Inserted.{some_left}
-use Rattle.dom_mutation.proofs.Grown.{IsMade, new_owner, new_not_above}
+use Rattle.dom_mutation.proofs.Grown.{IsMade, made_so, new_owner, new_not_above}
 use Rattle.dom_mutation.proofs.Emptied.{text_whole}
 use Rattle.dom_model.specs.Part.{next_name}
 use Rattle.dom_model.specs.TextChanges.{new_text_node, replacing_children}
@@ -16,13 +16,9 @@ use Rattle.dom_mutation.proofs.texts.replace_children.Goals as goal
 -- the new Text
 new_text : (c : In_ok-text) → IsMade c.args.parts.now c.make_text.new.parts c.args.node c.in_ok-text.text
     (Some (name_in c.args.parts.now c.document_below-document.result)) c.args.units.items
-new_text c = record {
-  names = c.in_ok-text.ensures.names;
-  world = c.in_ok-text.ensures.world;
-  key = c.in_ok-text.ensures.key;
-  here = c.requires.node_is_node;
-  alone = c.laws.ensures.alone c.args.node c.requires.node_is_node;
-}
+new_text c =
+    made_so c.in_ok-text.ensures.names c.in_ok-text.ensures.world c.in_ok-text.ensures.key c.requires.node_is_node
+    (c.laws.ensures.alone c.args.node c.requires.node_is_node)
 
 pub put_text-requires-clause-one_owner : goal.put_text-requires-clause-one_owner
 put_text-requires-clause-one_owner c = new_owner (new_text (goal.at.put_text-requires-clause-one_owner c).In_ok-text)

@@ -1,21 +1,14 @@
 use Rattle.dom_model.specs.Command.{Command, own}
-use Rattle.dom_model.specs.CommandRefusals.{past_end}
-use Rattle.dom_model.specs.World.{part_of}
 use Rattle.dom_mutation.specs.Doc.{name_in}
-use Rattle.dom_mutation.proofs.ReadyCalls.{named-there, named-within, within-done, table-ready, or-same}
+use Rattle.dom_mutation.proofs.ReadyCalls.{end-set}
 use Rattle.dom_mutation.proofs.ReadyTables.{range_end-ready}
 use Rattle.dom_mutation.proofs.doc.Doc.range_set_end.Goals as goal
 
 pub invariant_of-self : goal.invariant_of-self
 invariant_of-self c =
-    let b = c.self.inside.parts in
-    let o = c.args.owner in
-    let x = own (name_in b c.args.node).number in
-    or-same c.range_set_end.result b c.range_set_end.new.self c.range_set_end.ensures.err c.self.invariant
-    (within-done c.range_set_end.result (past_end (part_of b.world o) (name_in b c.args.node) c.args.offset) c.range_set_end.ensures.refused
-    (λ low m. table-ready b c.range_set_end.new.self o (Command.range_end c.args.number x c.args.offset) c.self.invariant
-    (λ r. range_end-ready _ r c.args.number x c.args.offset (c.laws.ensures.parts o)
-    (named-there b c.args.self.now c.self.view_is
-    (record { alone = c.laws.ensures.alone; parts = c.laws.ensures.parts; stand = c.laws.ensures.stand }) o c.args.node
-    c.requires.node_is_node c.requires.own)
-    (named-within b c.args.self.now c.self.view_is o c.args.node c.args.offset c.requires.own low)) m) c.range_set_end.ensures.world)
+    let x = own (name_in c.self.inside.parts c.args.node).number in
+    end-set c.self.inside.parts c.args.self.now c.range_set_end.new.self c.self.view_is
+    (record { alone = c.laws.ensures.alone; parts = c.laws.ensures.parts; stand = c.laws.ensures.stand }) c.args.owner c.args.node c.args.offset
+    c.requires.node_is_node c.requires.own c.self.invariant (Command.range_end c.args.number x c.args.offset)
+    (λ r. range_end-ready _ r c.args.number x c.args.offset (c.laws.ensures.parts c.args.owner))
+    c.range_set_end.result c.range_set_end.ensures.refused c.range_set_end.ensures.world c.range_set_end.ensures.err
