@@ -103,7 +103,8 @@ module _ {d e : DocState} {node new : ℕ} {doc : Option NodeName} {text : DomSt
   same_name = ap (λ (ns : List NodeName). name_at ns node) is_made.names ∙ get_or-append d.names (y ∷ []) (node_of Page 0) node is_made.here
 
   pub new_name : name_in e new ≡ y
-  new_name = ap (λ (ns : List NodeName). name_at ns new) is_made.names ∙ ap (name_at (d.names ++ y ∷ [])) is_made.key ∙ get_or-append_seam d.names y [] (node_of Page 0)
+  new_name = ap (λ (ns : List NodeName). name_at ns new) is_made.names ∙ ap (name_at (d.names ++ y ∷ [])) is_made.key ∙
+      get_or-append_seam d.names y [] (node_of Page 0)
 
   -- the trees, and how many nodes there are
   pub grown_trees : (part_of e.world o).trees ≡ with_node n ts

@@ -231,19 +231,20 @@ module _ (p : Part) (i : IsPart p) (h : IsReadyPart p) where
       from (Some r) e = subst (λ o. KeepReady p (option_map_or (λ r. f r p) o [])) (sym e) (g r e)
 
   -- a deletion and an extraction
+  ready-contents : (k : ℕ) (f : Range NodeName → Plan) → ((r : Range NodeName) → HasEnds p.trees r → MadeIn p (f r p)) →
+      ((r : Range NodeName) → HasEnds p.trees r → IsWithin p.trees r.start → HasBounds (after p (f r p))) →
+      ((r : Range NodeName) → Keeps (lone-rules p) (f r)) → KeepReady p (plan_of_range p k f)
+  ready-contents k f made bounds keeps =
+      ready-of_range k f
+      (λ r e. let ends = range-ends k r e in ready-by (f r) (made r ends) (bounds r ends (range-within k r e)) (keeps r))
+
   pub ready-deleting : (k : ℕ) → KeepReady p (plan_of_range p k (deleting k))
-  ready-deleting k =
-      ready-of_range k (deleting k)
-      (λ r e. let ends = range-ends k r e in
-      ready-by (deleting k r) (leads-deleting k r p i (has_node-times p.trees r.start.node ends.start)).made
-      (deletion-keeps k r p i ends (range-within k r e) h.bounds) (keeps-deleting (lone-rules p) k r))
+  ready-deleting k = ready-contents k (deleting k) (λ r e. (leads-deleting k r p i (has_node-times p.trees r.start.node e.start)).made)
+      (λ r e w. deletion-keeps k r p i e w h.bounds) (keeps-deleting (lone-rules p) k)
 
   pub ready-extracting : (k : ℕ) → KeepReady p (plan_of_range p k (extracting k))
-  ready-extracting k =
-      ready-of_range k (extracting k)
-      (λ r e. let ends = range-ends k r e in
-      ready-by (extracting k r) (leads-extracting k r p i (has_node-times p.trees r.start.node ends.start)).made
-      (extraction-keeps k r p i ends (range-within k r e) h.bounds) (keeps-extracting (lone-rules p) k r))
+  ready-extracting k = ready-contents k (extracting k) (λ r e. (leads-extracting k r p i (has_node-times p.trees r.start.node e.start)).made)
+      (λ r e w. extraction-keeps k r p i e w h.bounds) (keeps-extracting (lone-rules p) k)
 
   -- an insertion of a node that a live range can take
   pub ready-inserting_into_range : (k : ℕ) (x : NodeName) → IsTrue (has_node p.trees x) →

@@ -16,8 +16,10 @@ use Rattle.dom_mutation.proofs.doc.Doc.add.Goals as goal
 -- where a name is one, the limit alone refuses
 limited : (full : Bool) (m : Result ℕ Fault) → (m ≡ Err (Refused Limit)) ↔ (full ≡ true) → IfErr m (λ f. (f ≡ Refused Limit) ⊎ (f ≡ Memory)) →
     (r : Refusal) → (m ≡ Err (Refused r)) ↔ (first_refusal ((false, InvalidCharacter) ∷ (full, Limit) ∷ []) ≡ Some r)
-limited true m h other r = let is = h.1 refl in
-    ((λ e. let same : Err (Refused Limit) ≡ Err (Refused r) = sym is ∙ e in cc), (λ e. let same : Limit ≡ r = cc in is ∙ ap (λ (q : Refusal). Err (Refused q)) same))
+limited true m h other r = let is = h.1 refl in (
+  λ e. let same : Err (Refused Limit) ≡ Err (Refused r) = sym is ∙ e in cc,
+  λ e. let same : Limit ≡ r = cc in is ∙ ap (λ (q : Refusal). Err (Refused q)) same,
+)
 limited false m h other r = (from m h other, λ e. absurd cc)
   where
     from : (m : Result ℕ Fault) → (m ≡ Err (Refused Limit)) ↔ (false ≡ true) → IfErr m (λ f. (f ≡ Refused Limit) ⊎ (f ≡ Memory)) →
