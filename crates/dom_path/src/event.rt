@@ -1,5 +1,5 @@
 //! The rules by which a path is built.
-ghost use Rattle.std.specs.Prelude.{◌≡◌, ℕ, ◌<◌, length, map, None, Some, option_map, IfOk, OnOk};
+ghost use Rattle.std.specs.Prelude.{◌≡◌, ℕ, ◌<◌, length, map, Some, option_map, IfOk, OnOk};
 ghost use Rattle.std.specs.Option.{ForSome};
 ghost use Rattle.std.specs.List.{AllByRecursion};
 ghost use Rattle.dom_model.specs.Tree.{root_of};
@@ -45,7 +45,6 @@ pub(crate) fn items_of(
     requires target_is_node { IsNode forest.now target }
     requires related_is_node { ForSome related (IsNode forest.now) }
     requires trees { AreTrees forest.now slots.now.hosts trees.old }
-    requires free { slots.now.begun ≡ None }
     requires slots { AreSlotsOf forest.now slots.now }
     ensures trees { OnOk result (AreTrees forest.now slots.now.hosts trees.new) }
     ensures path { IfOk result (λ items. (depth : ℕ) → IsHosted forest.now slots.now.hosts depth →
@@ -83,7 +82,6 @@ impl Event {
     ) -> Result<SmallVec<Item, 16>, AllocError>
         requires trees { AreTrees forest.now slots.now.hosts trees.old }
         requires event { IsEvent forest.now slots.now.hosts trees.old self.now.target self.now.related }
-        requires free { slots.now.begun ≡ None }
         requires slots { AreSlotsOf forest.now slots.now }
         ensures trees { OnOk result (AreTrees forest.now slots.now.hosts trees.new) }
         ensures way { IfOk result (λ items. (depth : ℕ) → IsHosted forest.now slots.now.hosts depth →
@@ -133,7 +131,6 @@ impl Event {
         requires trees { AreTrees forest.now slots.now.hosts trees.old }
         requires event { IsEvent forest.now slots.now.hosts trees.old self.now.target self.now.related }
         requires stands { IsPathNode forest.now slots.now.hosts trees.old at.now }
-        requires free { slots.now.begun ≡ None }
         requires slots { AreSlotsOf forest.now slots.now }
         ensures grown { OnOk result (Grows trees.old trees.new) }
         ensures trees { OnOk result (AreTrees forest.now slots.now.hosts trees.new) }

@@ -1,5 +1,5 @@
 //! Event paths.
-ghost use Rattle.std.specs.Prelude.{◌≡◌, ℕ, ◌<◌, ◌↔◌, true, IsTrue, Some, None, length, map, option_map, slice_get, IfOk};
+ghost use Rattle.std.specs.Prelude.{◌≡◌, ℕ, ◌<◌, ◌↔◌, true, IsTrue, Some, length, map, option_map, slice_get, IfOk};
 ghost use Rattle.std.specs.List.{AllByRecursion};
 ghost use Rattle.std.specs.Option.{ForSome};
 ghost use Rattle.dom_model.specs.Paths.{View, views};
@@ -62,7 +62,6 @@ impl Path {
     ) -> Result<Path, AllocError>
         requires target_is_node { IsNode forest.now target }
         requires related_is_node { ForSome related (IsNode forest.now) }
-        requires free { slots.now.begun ≡ None }
         requires slots { AreSlotsOf forest.now slots.now }
         ensures items { IfOk result (λ p. (w : World) → IsWorldOf forest.now slots.now.hosts w →
             map (item_named forest.now.names) p.items ≡ path_items w (name_of forest.now target)

@@ -1,5 +1,5 @@
 //! Where the nodes of a path stand.
-ghost use Rattle.std.specs.Prelude.{◌≡◌, ◌<◌, false, length, None, Some, option_map, IfOk, OnOk};
+ghost use Rattle.std.specs.Prelude.{◌≡◌, ◌<◌, false, length, Some, option_map, IfOk, OnOk};
 ghost use Rattle.std.specs.Option.{ForSome};
 ghost use Rattle.dom_model.specs.Tree.{is_shadow, node_in, parent_of};
 ghost use Rattle.dom_tree.specs.Forest.{IsNode, name_of};
@@ -107,7 +107,6 @@ impl PathNode {
         requires trees { AreTrees forest.now slots.now.hosts trees.old }
         requires stands { IsPathNode forest.now slots.now.hosts trees.old self.now }
         requires top_is_node { IsNode forest.now top }
-        requires free { slots.now.begun ≡ None }
         requires slots { AreSlotsOf forest.now slots.now }
         ensures grown { OnOk result (Grows trees.old trees.new) }
         ensures trees { OnOk result (AreTrees forest.now slots.now.hosts trees.new) }
@@ -154,7 +153,6 @@ impl PathNode {
     ) -> Result<Option<PathNode>, AllocError>
         requires trees { AreTrees forest.now slots.now.hosts trees.old }
         requires stands { IsPathNode forest.now slots.now.hosts trees.old self.now }
-        requires free { slots.now.begun ≡ None }
         requires slots { AreSlotsOf forest.now slots.now }
         ensures grown { OnOk result (Grows trees.old trees.new) }
         ensures trees { OnOk result (AreTrees forest.now slots.now.hosts trees.new) }
@@ -182,7 +180,6 @@ impl PathNode {
         requires node { IsNode forest.now self.now.node }
         requires parent_is_node { IsNode forest.now parent }
         requires parent { Some (name_of forest.now parent) ≡ parent_of forest.now.trees (name_of forest.now self.now.node) }
-        requires free { slots.now.begun ≡ None }
         requires slots { AreSlotsOf forest.now slots.now }
         ensures value { option_map (λ x. name_of forest.now x.slot) result ≡ slot_at (shadows forest.now slots.now.hosts)
             (name_of forest.now self.now.node) }
