@@ -5,7 +5,4 @@ use Rattle.dom_examples.proofs.cursors.Goals as goal
 
 pub returns : goal.returns
 unfolding keyword_of digits
-returns c = record {
-  reference_removed = record { document = refl; page = refl };
-  walkers_and_filters = record { document = refl; page = refl };
-}
+returns c = search refl

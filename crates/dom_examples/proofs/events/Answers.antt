@@ -6,11 +6,4 @@ use Rattle.dom_examples.proofs.events.Goals as goal
 
 pub returns : goal.returns
 unfolding keyword_of digits max_depth
-returns c = record {
-  slotted_child = record { document = refl; page = refl };
-  slots_by_name = record { document = refl; page = refl };
-  events_from_inside = record { document = refl; page = refl };
-  host_slotted_into_host = record { document = refl; page = refl };
-  listener_words = record { document = refl; page = refl };
-  stops_and_labels = record { document = refl; page = refl };
-}
+returns c = search refl

@@ -6,9 +6,4 @@ use Rattle.dom_examples.proofs.nesting.Goals as goal
 
 pub returns : goal.returns
 unfolding keyword_of digits max_depth
-returns c = record {
-  component_in_component = record { document = refl; page = refl };
-  slots_of_two_trees = record { document = refl; page = refl };
-  adopted_with_inner_trees = record { document = refl; page = refl };
-  detached_inner_host = record { document = refl; page = refl };
-}
+returns c = search refl

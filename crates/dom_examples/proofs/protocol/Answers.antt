@@ -6,10 +6,4 @@ use Rattle.dom_examples.proofs.protocol.Goals as goal
 
 pub returns : goal.returns
 unfolding keyword_of digits max_depth
-returns c = record {
-  refusals_and_busy_turns = record { document = refl; page = refl };
-  with_component = record { document = refl; page = refl };
-  without_component = record { document = refl; page = refl };
-  first_family = record { document = refl; page = refl };
-  second_family = record { document = refl; page = refl };
-}
+returns c = search refl

@@ -6,7 +6,4 @@ use Rattle.dom_examples.proofs.selectors.Goals as goal
 
 pub returns : goal.returns
 unfolding keyword_of digits max_depth
-returns c = record {
-  query_and_match = record { document = refl; page = refl };
-  query_in_closed_tree = record { document = refl; page = refl };
-}
+returns c = search refl
