@@ -1,14 +1,14 @@
--- A line whose command names another owner's node is refused, the page's as well as a component's.
-use Rattle.std.proofs.Common.{◌≡◌, Bool, true, false, not, ◌&&◌, [], ◌∷◌, ◌++◌, Some, refl, sym, ap, subst, ◌∙◌}
-use Rattle.std.specs.Prelude.{if◌then◌else◌}
+-- A line whose command names another owner's node is refused, the page's as well as a component's. No turn is open behind the end of input.
+use Rattle.std.proofs.Common.{◌≡◌, Bool, true, false, not, ◌&&◌, [], ◌∷◌, ◌++◌, Some, refl, sym, ap, subst, ◌∙◌, Option, None}
+use Rattle.std.specs.Prelude.{if◌then◌else◌, is_some}
 use Rattle.std.specs.Option.{option_or}
 use Rattle.dom_base.specs.declared.Owner.TheVariants.{Page, Component}
 use Rattle.dom_base.specs.declared.Refusal.TheVariants.{Syntax, Busy, Foreign, Unknown}
 use Rattle.dom_model.specs.Command.{Command, command, assigned, names_foreign, is_command_of, part_refusal}
-use Rattle.dom_model.specs.DocumentMachine.{accepted, is_busy, refusal, step}
+use Rattle.dom_model.specs.DocumentMachine.{accepted, is_busy, refusal, step, finish}
 use Rattle.dom_model.specs.Output.{says, refused}
-use Rattle.dom_model.specs.Runs.{run_then, unless_refused}
-use Rattle.dom_model.specs.Turns.{ending_other_turn, is_page_turn}
+use Rattle.dom_model.specs.Runs.{run_then, unless_refused, quiet}
+use Rattle.dom_model.specs.Turns.{ending_other_turn, is_page_turn, ending_turn}
 use Rattle.dom_model.specs.Validity.{first_refusal}
 use Rattle.dom_model.specs.World.{World, is_there, part_of}
 use Rattle.dom_model.proofs.StepLaws.{Component-IsNoPage}
@@ -16,6 +16,8 @@ use Rattle.dom_text.specs.Grammar.{MayUse, Says}
 use Rattle.dom_text.proofs.DecodeLaws.{decode_says}
 use Rattle.dom_isolation.proofs.PageTexts.{foreign_line-is_refused}
 use Rattle.dom_engine.specs.Session.{ForeignLinesAreRefused}
+use Rattle.dom_base.specs.declared.Owner.{Owner}
+use Rattle.dom_model.proofs.TurnLaws.{turn-ending_turn}
 
 -- a component's line is busy where the page's turn is open
 busy-component : (b : Bool) → (if b && true then Busy else Foreign) ≡ (if b then Busy else Foreign)
@@ -56,3 +58,10 @@ foreign-step w line Page c e h =
     ap (step w) e
     ∙ ap (λ o. run_then ended (λ v. unless_refused Page o ended.0 (accepted ended.0 Page c))) (why-page ended.0 c (page-may_use c said.may_use) h)
     ∙ ap (λ why. (ended.0, ended.1 ++ says Page (refused why) ∷ [])) (sym (page-refused w (is_page_turn w.turn)))
+
+pub turn-finish : (w : World) → (finish w).0.turn ≡ None
+turn-finish w = by w.turn refl
+  where
+    by : (t : Option Owner) → w.turn ≡ t → (if is_some t then ending_turn w else quiet w).0.turn ≡ None
+    by None e = e
+    by (Some o) e = turn-ending_turn w

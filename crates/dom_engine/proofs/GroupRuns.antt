@@ -15,7 +15,7 @@ use Rattle.dom_engine.specs.GroupLaws.{SameGroupRuns, SameGroupRunsWhileTurnsSta
 use Rattle.dom_engine.specs.GroupLaws.{SameComponentRuns, SameComponentRunsWhileTurnsStand, SameAroundRuns, SameAroundRunsWhileTurnsStand}
 use Rattle.dom_engine.specs.GroupLaws.{SameGroupRunsInFull, SameFamilyRunsInFull, SameComponentRunsInFull, SameAroundRunsInFull}
 use Rattle.dom_engine.specs.Run.{run_text, answers_to_end}
-use Rattle.dom_engine.proofs.PageRuns.{lines_of-ended}
+use Rattle.dom_engine.proofs.PagePrefixes.{lines_of-ended}
 
 -- what a run writes with a view are the lines of its whole text that begin with the view's word
 run_text-lines : (o : Owner) (bytes : List ℕ) → run_text (Some o) bytes ≡ text_of_lines (lines_from o (lines_of (text_of decode bytes)))

@@ -1,10 +1,5 @@
-mod RunLaws
 mod LineRuns
-mod PieceLaws
 mod ReadLaws
-mod FlushLaws
-mod TurnEnds
-mod PageRuns
 mod PagePrefixes
 mod ForeignLines
 mod GroupRuns

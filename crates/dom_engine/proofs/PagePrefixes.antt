@@ -1,6 +1,6 @@
--- What the page sees where a run comes to its end, and where a fault stops it.
-use Rattle.std.proofs.Common.{◌≡◌, ℕ, ◌≤◌, ◌⊎◌, List, [], ◌++◌, length, take, drop, map, filter, Option, None, Some, IfSome, IsTrue, refl, sym, ap}
-use Rattle.std.proofs.Common.{subst, ◌∙◌, append_assoc, append-nil, inl, inr}
+-- The isolation theorem for the text of runs: what the page sees where a run comes to its end, and where a fault stops it.
+use Rattle.std.proofs.Common.{◌≡◌, ℕ, ◌≤◌, ◌⊎◌, List, [], ◌++◌, length, take, drop, map, filter, Option, None, Some, IfSome, IsTrue, refl, sym, ap, subst}
+use Rattle.std.proofs.Common.{◌∙◌, append_assoc, append-nil, inl, inr}
 use Rattle.std.proofs.lemmas.List.{take-append-drop, take-append-le}
 use Rattle.std.proofs.lemmas.List.Elements.{filter-append}
 use Rattle.std.specs.Prelude.{⊤}
@@ -8,9 +8,9 @@ use Rattle.std.specs.Io.KnownBytes.{IsAtEnd}
 use Rattle.std.proofs.KnownBytes.{Consumes-whole}
 use Rattle.dom_base.specs.declared.Owner.{Owner}
 use Rattle.dom_base.specs.declared.Owner.TheVariants.{Page, Component}
-use Rattle.dom_model.specs.DocumentMachine.{first_world, run_lines}
-use Rattle.dom_model.specs.PageMachine.{first_page, PageState, run_page}
-use Rattle.dom_model.specs.Runs.{Run}
+use Rattle.dom_model.specs.DocumentMachine.{first_world, run_lines, outputs_of}
+use Rattle.dom_model.specs.PageMachine.{first_page, PageState, run_page, page_finish, page_outputs_of}
+use Rattle.dom_model.specs.Runs.{Run, run_then}
 use Rattle.dom_model.specs.Trace.{trace_of, no_component_stops}
 use Rattle.dom_text.specs.Lines.{Cut, cut_of, last_line, lines_of, begins_with, owner_prefix, page_lines, text_of_lines}
 use Rattle.dom_text.specs.Text.{output_line, output_text}
@@ -18,10 +18,10 @@ use Rattle.dom_text.specs.Decode.{decode}
 use Rattle.dom_text.proofs.LineLaws.{lines_of-cut, cut_of-pieces, cut_of-append}
 use Rattle.dom_text.proofs.OutputLaws.{text_of_lines-append, output_text-append}
 use Rattle.dom_isolation.specs.Interference.{full_trace_of}
-use Rattle.dom_isolation.specs.TouchedMachines.{run_page_under}
-use Rattle.dom_isolation.proofs.PageRuns.{page_output-goes_on_in_full, page_output-goes_on, first_lines-stop_nothing, told-nothing}
+use Rattle.dom_isolation.specs.TouchedMachines.{run_page_under, page_outputs_under}
+use Rattle.dom_isolation.proofs.PageTexts.{page_output-goes_on_in_full, page_output-goes_on, first_lines-stop_nothing, told-nothing}
+use Rattle.dom_isolation.proofs.PageTexts.{picked_lines-agree_so_far_in_full, picked_lines-agree_in_full}
 use Rattle.dom_isolation.proofs.PlainLines.{decode-reads_plain_words}
-use Rattle.dom_isolation.proofs.PageTexts.{picked_lines-agree_so_far_in_full}
 use Rattle.dom_streams.specs.declared.fault.RunFault.{RunFault}
 use Rattle.dom_streams.specs.declared.fault.RunFault.TheVariants.{Read, Write, Memory, InputLimit}
 use Rattle.dom_streams.specs.Writing.{Taken, Takes}
@@ -29,8 +29,37 @@ use Rattle.dom_engine.specs.Run.{answers, answers_to_end, finished_text, run_tex
 use Rattle.dom_streams.specs.Views.{viewed}
 use Rattle.dom_engine.specs.PageLaws.{page_text_so_far, page_text_to_end, page_text, HasPage, page_seen, PageSees, PageSeesFront, PageSeesLinesNamed}
 use Rattle.dom_engine.specs.PageLaws.{PageSeesPrefix, lines_named, bytes_read, MayFollow, WritesWholeLines, full_page_text_so_far, full_page_text_to_end}
-use Rattle.dom_engine.specs.PageLaws.{full_page_text, PageSeesLinesNamedInFull, PageSeesPrefixInFull}
-use Rattle.dom_engine.proofs.PageRuns.{lines_of-ended, page_text-agrees_in_full, page_text-agrees}
+use Rattle.dom_engine.specs.PageLaws.{full_page_text, PageSeesLinesNamedInFull, PageSeesPrefixInFull, PageTextIsThePageMachinesInFull, SamePageTextInFull}
+use Rattle.dom_engine.specs.PageLaws.{PageTextIsThePageMachines, SamePageText}
+use Rattle.dom_engine.proofs.LineRuns.{text-ended}
+
+-- a text of lines is these lines, and no more
+pub lines_of-ended : (lines : List (List ℕ)) → (cut_of (text_of_lines lines)).finished ≡ lines_of (text_of_lines lines)
+lines_of-ended lines =
+    let cut = cut_of (text_of_lines lines) in
+    sym (append-nil cut.finished) ∙ ap (λ (rest : List ℕ). cut.finished ++ last_line rest) (sym (text-ended lines)) ∙ sym (lines_of-cut (text_of_lines lines))
+
+-- with interference
+pub page_text-agrees_in_full : PageTextIsThePageMachinesInFull
+unfolding answers_to_end
+page_text-agrees_in_full bytes =
+    let outputs = outputs_of (map decode (lines_of bytes)) in
+    ap (λ (lines : List (List ℕ)). text_of_lines (page_lines lines)) (lines_of-ended (map output_line outputs)) ∙
+    ap text_of_lines (picked_lines-agree_in_full decode decode-reads_plain_words bytes)
+
+-- two texts
+pub page_text-same_in_full : SamePageTextInFull
+page_text-same_in_full first second e =
+    page_text-agrees_in_full first ∙ ap (λ items. output_text (page_outputs_under decode items)) e ∙ sym (page_text-agrees_in_full second)
+
+-- where no component listener stops or cancels
+pub page_text-agrees : PageTextIsThePageMachines
+page_text-agrees bytes h =
+    page_text-agrees_in_full bytes ∙ ap (λ (r : Run PageState). output_text (run_then r page_finish).1) (told-nothing decode (lines_of bytes) h)
+
+-- two texts
+pub page_text-same : SamePageText
+page_text-same first second h g e = page_text-agrees first h ∙ ap (λ items. output_text (page_outputs_of decode items)) e ∙ sym (page_text-agrees second g)
 
 -- ---- what the page sees
 

@@ -1,6 +1,6 @@
--- Laws of what a run has read, and of what stops it.
+-- Laws of what a run has read, and of what stops it: a read, a flush, memory, the limit.
 use Rattle.std.proofs.Common.{◌≡◌, ℕ, ◌<◌, ◌≤◌, ◌⊎◌, List, [], ◌∷◌, ◌++◌, length, length-append, ◌+◌, take, map, Option, refl, sym, ap, subst, ◌∙◌}
-use Rattle.std.proofs.Common.{append_assoc, append-nil, arith, inl, inr}
+use Rattle.std.proofs.Common.{append_assoc, append-nil, arith, inl, inr, Result, Ok, Err}
 use Rattle.std.proofs.lemmas.List.{length-map, take-map}
 use Rattle.std.specs.Io.KnownBytes.{Consumes, IsAtEnd}
 use Rattle.std.proofs.KnownBytes.{Consumes-nil, Consumes-trans}
@@ -13,14 +13,14 @@ use Rattle.dom_reader.proofs.StreamLaws.{fed-none, fed-is_kept, lines_of-fed_all
 use Rattle.dom_streams.specs.declared.fault.RunFault.{RunFault}
 use Rattle.dom_streams.specs.declared.fault.RunFault.TheVariants.{Read, Write, Memory, InputLimit}
 use Rattle.dom_engine.specs.Run.{world_after, answers, ending, shown, finished_text, WritesSome, RunsToEnd, StopsRun, StopsAtRead, StopsAtWrite}
-use Rattle.dom_engine.specs.Run.{StopsAtMemory, StopsAtLimit, run_text, read_size, input_limit}
+use Rattle.dom_engine.specs.Run.{StopsAtMemory, StopsAtLimit, run_text, read_size, input_limit, ReadsWithin}
 use Rattle.dom_streams.specs.Writing.{Taken, Takes, TakesFront, StopsWriting}
 use Rattle.dom_streams.proofs.WriteLaws.{Takes-nil, Takes-trans}
 use Rattle.dom_streams.specs.Views.{viewed}
-use Rattle.dom_engine.specs.Reading.{HasRead, StopsOneRead, MoreAt}
-use Rattle.dom_engine.proofs.RunLaws.{world_after-append, world_after-kept, answers-kept, answers-ended, answers_to_end-split, viewed-append, shown-append}
+use Rattle.dom_engine.specs.Reading.{HasRead, StopsOneRead, MoreAt, ReadsMore}
+use Rattle.dom_engine.proofs.LineRuns.{world_after-append, world_after-kept, answers-kept, answers-ended, answers_to_end-split, viewed-append, shown-append}
 use Rattle.dom_engine.proofs.LineRuns.{Behind, no_lines-behind, behind-none, shows-none, shown-behind, world-behind, lines_done, some_behind}
-use Rattle.dom_engine.proofs.PieceLaws.{fed-lines, fed-rest}
+use Rattle.dom_engine.proofs.LineRuns.{fed-lines, fed-rest}
 
 -- ---- what was read
 
@@ -283,3 +283,55 @@ stops-before view from old = record {
   ended = inl (omega arith);
   written = shows-none old view first_world [] refl;
 }
+
+module _ (failed fails : ℕ) (old new : Taken) where
+  -- some first bytes of nothing are some of any text
+  front_of_any : (text front back : List ℕ) → [] ≡ front ++ back → Takes old new front → TakesFront old new text
+  front_of_any text [] back e written = record { front = []; back = text; split = refl; takes = written }
+  front_of_any text (x ∷ front) back e written = absurd cc
+
+  -- a flush that fails stops the read, before which it comes, as a write of no bytes
+  pub flush-stops : (e : RunFault) (room : ℕ) (text : List (List ℕ) → List ℕ) (kept : List ℕ) (from : Option (List ℕ)) →
+      StopsWriting e failed fails old new [] ⊥ → StopsOneRead e room text kept from from failed fails old new
+  flush-stops Write room text kept from h =
+      ([], omega arith, Consumes-nil from, (h.0, front_of_any (text (fed kept []).finished) h.1.front h.1.back h.1.split h.1.takes))
+  flush-stops Memory room text kept from h = absurd h.1
+  flush-stops Read room text kept from h = absurd h
+  flush-stops InputLimit room text kept from h = absurd h
+
+  -- and no more is read
+  pub flush-within : (e : RunFault) (n m : ℕ) → StopsWriting e failed fails old new [] ⊥ → m ≤ n + input_limit → ReadsWithin (Err e) n m
+  flush-within Write n m h few = few
+  flush-within Memory n m h few = few
+  flush-within Read n m h few = few
+  flush-within InputLimit n m h few = absurd h
+
+-- what was read and written stays so behind a flush that went well
+pub read-flushed : {given : List ℕ} {view : Option Owner} {from mid : Option (List ℕ)} {old between new : Taken} {kept : List ℕ} {w : World} →
+    HasRead given view from mid old between kept w → Takes between new [] → HasRead given view from mid old new kept w
+read-flushed {old} {between} {new} read flushed = record {
+  consumed = read.consumed;
+  kept_is = read.kept_is;
+  world_is = read.world_is;
+  written = subst (Takes old new) (append-nil _) (Takes-trans old between new _ [] read.written flushed);
+}
+
+-- ---- how many bytes were read
+
+-- where a fault stops what is done for one read
+module _ (room : ℕ) (text : List (List ℕ) → List ℕ) (kept : List ℕ) (from to : Option (List ℕ)) (failed fails : ℕ) (old new : Taken) where
+  pub one_read-within : (e : RunFault) (n m : ℕ) → StopsOneRead e room text kept from to failed fails old new → m ≤ n + input_limit →
+      ReadsWithin (Err e) n m
+  one_read-within Write n m h few = few
+  one_read-within Memory n m h few = few
+  one_read-within Read n m h few = few
+  one_read-within InputLimit n m h few = absurd h
+
+-- where one read more was to find the end
+pub more-within : (n m : ℕ) (r : Result (Unit {0}) RunFault) {room mid : ℕ} → room ≤ read_size → mid ≡ n + input_limit → ReadsMore r room mid m →
+    ReadsWithin r n m
+more-within n m (Ok x) small full more = omega (arith, more, full)
+more-within n m (Err Read) small full more = omega (arith, more, full)
+more-within n m (Err InputLimit) small full more = (omega (arith, more.0, full), omega (arith, more.1, full, small))
+more-within n m (Err Write) small full more = absurd more
+more-within n m (Err Memory) small full more = absurd more

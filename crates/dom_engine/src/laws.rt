@@ -88,7 +88,7 @@ pub fn law_same_around()
 /// page sees the page machine's output on the trace of the lines whose text is written, without the ending; and on every
 /// fault some first bytes of the page machine's output on the trace of any input that begins with the bytes read. Where the
 /// end was reached that input is these bytes. With interference the same holds of full traces, whatever listeners do.
-#[tactic(auto, using(crate::proofs::StatedLaws::page_laws))]
+#[tactic(auto, using(crate::proofs::StatedLaws::prefix_laws))]
 pub fn law_page_prefix()
     ensures lines { PageSeesLinesNamed }
     ensures prefix { PageSeesPrefix }

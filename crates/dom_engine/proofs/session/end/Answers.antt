@@ -1,6 +1,6 @@
 use Rattle.std.proofs.Common.{ap, ◌∙◌}
 use Rattle.dom_model.specs.World.{World}
-use Rattle.dom_engine.proofs.TurnEnds.{turn-finish}
+use Rattle.dom_engine.proofs.ForeignLines.{turn-finish}
 use Rattle.dom_engine.proofs.session.end.Goals as goal
 
 pub returns-clause-closed : goal.returns-clause-closed

@@ -4,7 +4,7 @@ use Rattle.std.proofs.lemmas.Result.{err_from_is_err_and, MatchResult-weaker}
 use Rattle.std.proofs.lemmas.List.{length-append, length-take}
 use Rattle.dom_engine.specs.Run.{input_limit}
 use Rattle.dom_engine.proofs.ReadLaws.{read-none, read-kept, read-more, stops-one_read, stops-flush, stops-more}
-use Rattle.dom_engine.proofs.FlushLaws.{read-flushed, flush-within, one_read-within, more-within}
+use Rattle.dom_engine.proofs.ReadLaws.{read-flushed, flush-within, one_read-within, more-within}
 use Rattle.dom_engine.proofs.runner.Runner.read_all.Goals as goal
 
 pub loop-left-init : goal.loop-left-init

@@ -3,7 +3,7 @@ use Rattle.std.proofs.Common.{sym, ap, ◌∙◌, [], append-nil}
 use Rattle.std.proofs.lemmas.Result.{err_from_is_err_and}
 use Rattle.dom_streams.specs.Views.{viewed}
 use Rattle.dom_streams.proofs.WriteLaws.{ends_behind, ends_as, stops_as}
-use Rattle.dom_engine.proofs.RunLaws.{ending-is}
+use Rattle.dom_engine.proofs.LineRuns.{ending-is}
 use Rattle.dom_engine.proofs.runner.Runner.run_ending.Goals as goal
 
 pub returns-in_err-write : goal.returns-in_err-write

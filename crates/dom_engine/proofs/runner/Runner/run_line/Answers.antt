@@ -6,7 +6,7 @@ use Rattle.dom_text.specs.Decode.{decode}
 use Rattle.dom_text.specs.Text.{output_text}
 use Rattle.dom_streams.specs.Views.{viewed}
 use Rattle.dom_streams.proofs.WriteLaws.{ends_as, on_ok}
-use Rattle.dom_engine.proofs.RunLaws.{none_written, answers-one, world_after-one}
+use Rattle.dom_engine.proofs.LineRuns.{none_written, answers-one, world_after-one}
 use Rattle.dom_engine.proofs.runner.Runner.run_line.Goals as goal
 
 pub returns-in_err-put_line-clause-written : goal.returns-in_err-put_line-clause-written

@@ -5,7 +5,7 @@ use Rattle.dom_reader.specs.Streams.{fed}
 use Rattle.dom_reader.proofs.StreamLaws.{fed-none}
 use Rattle.dom_reader.proofs.WholeLines.{whole_line-fed, whole_line-fewer}
 use Rattle.dom_engine.proofs.LineRuns.{behind-none, shows-none, world-behind, lines_done, lines_between}
-use Rattle.dom_engine.proofs.PieceLaws.{fed-lines, fed-rest, fed-around, front-behind, piece-behind}
+use Rattle.dom_engine.proofs.LineRuns.{fed-lines, fed-rest, fed-around, front-behind, piece-behind}
 use Rattle.dom_engine.proofs.runner.Runner.take_bytes.Goals as goal
 
 pub loop-rest-init : goal.loop-rest-init

@@ -1,7 +1,7 @@
 -- The lines that a piece ends are run as they come.
 use Rattle.std.proofs.Common.{refl}
 use Rattle.std.proofs.lemmas.Result.{err_from_is_err_and}
-use Rattle.dom_engine.proofs.RunLaws.{none_written}
+use Rattle.dom_engine.proofs.LineRuns.{none_written}
 use Rattle.dom_engine.proofs.runner.Runner.take_piece.Goals as goal
 
 pub returns-in_err-lines-clause-written : goal.returns-in_err-lines-clause-written

@@ -2,7 +2,7 @@
 use Rattle.std.proofs.Common.{length}
 use Rattle.std.proofs.lemmas.Result.{err_from_is_err_and}
 use Rattle.dom_engine.specs.Run.{shown}
-use Rattle.dom_engine.proofs.FlushLaws.{flush-stops}
+use Rattle.dom_engine.proofs.ReadLaws.{flush-stops}
 use Rattle.dom_engine.proofs.runner.Runner.take_read.Goals as goal
 
 pub returns-in_err-flush_before_read-clause-stops : goal.returns-in_err-flush_before_read-clause-stops
