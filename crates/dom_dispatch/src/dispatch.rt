@@ -1,5 +1,5 @@
 //! Dispatching events.
-ghost use Rattle.std.specs.Prelude.{◌≡◌, ℕ, ◌<◌, ◌||◌, nat_eq, true, false, length, filter, fold, map, reverse, slice_get, None, Some, IfOk, OnOk};
+ghost use Rattle.std.specs.Prelude.{◌≡◌, ℕ, ◌<◌, ◌||◌, nat_eq, true, false, length, filter, fold, map, reverse, slice_get, Some, IfOk, OnOk};
 ghost use Rattle.std.specs.List.{AllByRecursion};
 ghost use Rattle.std.specs.Option.{ForSome};
 ghost use Rattle.dom_model.specs.Dispatch.{visit_of, is_at_target};
@@ -36,7 +36,6 @@ impl Listeners {
     ) -> Result<Outcome, AllocError>
         requires target_is_node { IsNode forest.now target }
         requires related_is_node { ForSome event.related (IsNode forest.now) }
-        requires free { slots.now.begun ≡ None }
         requires slots { AreSlotsOf forest.now slots.now }
         ensures keys { IfOk result (λ outcome. IsDispatched forest.now slots.now.hosts self.old self.new target event.related (event_words event) outcome) }
         ensures names { IfOk result (λ outcome. AllByRecursion (IsListenerAt forest.now.names) self.old →
