@@ -1,5 +1,5 @@
 //! The documents of a run.
-ghost use Rattle.std.specs.Prelude.{◌≡◌, ℕ, ◌∷◌, [], true, None, IfOk};
+ghost use Rattle.std.specs.Prelude.{◌≡◌, ℕ, ◌∷◌, [], true, IfOk};
 ghost use Rattle.dom_base.specs.declared.Owner.{Owner as OwnerOf};
 ghost use Rattle.dom_base.specs.declared.Owner.TheVariants.{Page};
 ghost use Rattle.dom_model.specs.Names.{node_of};
@@ -82,7 +82,6 @@ impl Doc {
     pub fn forest_and_slots(&self) -> (&Forest, &Slots)
         ensures names { result.0.now.names ≡ self.now.names }
         ensures trees { (o : OwnerOf) → trees_of_owner o result.0.now.trees ≡ (part_of self.now.world o).trees }
-        ensures free { result.1.now.begun ≡ None }
         ensures slots { AreSlotsOf result.0.now result.1.now }
         ensures shown { IsShownBy (shadows result.0.now result.1.now.hosts) self.now.world }
     {
