@@ -1,5 +1,5 @@
 //! The documents of a run: the document trees and the open turn.
-ghost use Rattle.std.specs.Prelude.{◌≡◌, ℕ, ◌∷◌, [], true, IfOk, Some, None, is_some};
+ghost use Rattle.std.specs.Prelude.{◌≡◌, ℕ, ◌∷◌, [], true, IfOk, Some, is_some};
 ghost use Rattle.std.specs.Option.{option_map, ForSome};
 ghost use Rattle.dom_base.specs.declared.Owner.{Owner as OwnerOf};
 ghost use Rattle.dom_base.specs.declared.Owner.TheVariants.{Page};
@@ -105,7 +105,6 @@ impl State {
     /// The forest and the slots of its shadow trees, for reading.
     pub fn forest_and_slots(&self) -> (&Forest, &Slots)
         ensures names { result.0.now.names ≡ self.now.names }
-        ensures free { result.1.now.begun ≡ None }
         ensures slots { AreSlotsOf result.0.now result.1.now }
         ensures shown { IsShownBy (shadows result.0.now result.1.now.hosts) self.now.world }
     {
