@@ -22,7 +22,6 @@ pub fn count_visits(
     composed: bool,
 ) -> Result<usize, AllocError>
     requires target_is_node { IsNode forest.now target }
-    requires free { slots.now.begun ≡ None }
     requires slots { AreSlotsOf forest.now slots.now }
     ensures { IfOk result (λ count. (w : World) → IsWorldOf forest.now slots.now.hosts w →
         count ≡ length (event_path w (name_of forest.now target) None composed)) }

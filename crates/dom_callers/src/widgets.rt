@@ -26,7 +26,6 @@ pub fn count_widget_visits(
     composed: bool,
 ) -> Result<usize, AllocError>
     requires target_is_node { IsNode forest.now target }
-    requires free { slots.now.begun ≡ None }
     requires slots { AreSlotsOf forest.now slots.now }
     requires widgets { AreWidgets forest.now slots.now.hosts }
     ensures { IfOk result (λ count. (nodes : List Name) ×
@@ -49,7 +48,6 @@ pub fn press(
 ) -> Result<bool, AllocError>
     requires button_is_node { IsNode forest.now button }
     requires related_is_node { ForSome event.related (IsNode forest.now) }
-    requires free { slots.now.begun ≡ None }
     requires slots { AreSlotsOf forest.now slots.now }
     requires widgets { AreWidgets forest.now slots.now.hosts }
     ensures { IfOk result (λ answer. IsAnswered forest.now slots.now.hosts listeners.old button event.related (event_words event) answer) }
