@@ -102,9 +102,7 @@ fn attach(
     root: &str,
 ) -> Result<(), AllocError>
     requires slots { AreSlotsOf forest.now slots.old }
-    requires free { slots.old.begun ≡ None }
     ensures slots { OnOk result (AreSlotsOf forest.now slots.new) }
-    ensures free { OnOk result (slots.new.begun ≡ None) }
 {
     forest.law_nodes_stand_once();
     let owner = name(root).owner;
@@ -125,18 +123,16 @@ fn append(
     child: &str,
 ) -> Result<(), AllocError>
     requires slots { AreSlotsOf forest.old slots.old }
-    requires free { slots.old.begun ≡ None }
     ensures slots { OnOk result (AreSlotsOf forest.new slots.new) }
-    ensures free { OnOk result (slots.new.begun ≡ None) }
 {
     let into = key_of(rt, forest, parent);
     let node = key_of(rt, forest, child);
     assert!(rt; forest.parent(node).is_none());
     assert!(rt; !forest.is_inclusive_ancestor(node, into));
     law_steps_end();
-    slots.begin(forest, Step::Place(node, into, None))?;
+    let change = slots.begin(forest, Step::Place(node, into, None));
     forest.link_before(into, node, None);
-    let _ = slots.end(forest)?;
+    let _ = slots.end(forest, change)?;
     Ok(())
 }
 
@@ -148,9 +144,7 @@ fn perform(
     line: &str,
 ) -> Result<(), AllocError>
     requires slots { AreSlotsOf forest.old slots.old }
-    requires free { slots.old.begun ≡ None }
     ensures slots { OnOk result (AreSlotsOf forest.new slots.new) }
-    ensures free { OnOk result (slots.new.begun ≡ None) }
 {
     let mut words = line.split(' ');
     let is_attach = words.next() == Some("attach");
@@ -199,7 +193,6 @@ fn compare(
     rows: &str,
 ) -> Result<(), AllocError>
     requires slots { AreSlotsOf forest.now slots.now }
-    requires free { slots.now.begun ≡ None }
 {
     let (target, related, composed) = event;
     let target = key_of(rt, forest, target);
@@ -241,7 +234,6 @@ fn play(
     rows: &str,
 ) -> Result<(), AllocError>
     requires slots { AreSlotsOf forest.old slots.old }
-    requires free { slots.old.begun ≡ None }
 {
     for line in lines.lines() {
         perform(rt, forest, slots, line)?;

@@ -1,9 +1,7 @@
-use Rattle.std.proofs.Common.{◌≡◌, None}
 use Rattle.dom_slots.specs.Kept.{AreSlotsOf}
 use Rattle.dom_layer_tests.proofs.paths.scene.play.Given as goal
 
 abbrev pub invariant-loop-line : goal.invariant-loop-line
 invariant-loop-line g l = record {
   slots : AreSlotsOf l.forest l.slots;
-  free : l.slots.begun ≡ None;
 }
