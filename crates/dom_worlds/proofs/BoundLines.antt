@@ -118,13 +118,13 @@ ForRanges p (Command.delete k) = HasRoom nowhere p → Roomy p (effect p (Comman
 ForRanges p (Command.insert_node k x) = HasRoom nowhere p → Roomy p (effect p (Command.insert_node k x))
 ForRanges p c = ⊤
 
+-- of a thing that may not be there
+some-room : {X : Type 0} (p : Part) (o : Option X) (f : X → Effect) → ((x : X) → Roomy p (f x)) → HasRoom nowhere p → Roomy p
+    (option_map_or f o (answers p nothing))
+some-room p o f h g = some-effect (Roomy p) o f h g
+
 -- Every accepted command.
 pub room-effect : (p : Part) → IsPart p → HasRoom nowhere p → (c : Command) → part_refusal p c ≡ None → ForRanges p c → Roomy p (effect p c)
-room-effect p i h (Command.new_element a) r s = room-make nowhere p (new_node p Element a [] (new_document_of p)) i h
-room-effect p i h (Command.new_text a) r s = room-make nowhere p (new_node p Text [] a (new_document_of p)) i h
-room-effect p i h (Command.new_comment a) r s = room-make nowhere p (new_node p Comment [] a (new_document_of p)) i h
-room-effect p i h Command.new_fragment r s = room-make nowhere p (new_node p Fragment [] [] (new_document_of p)) i h
-room-effect p i h Command.new_document r s = room-make nowhere p (new_node p Document [] [] None) i h
 room-effect p i h (Command.append a x) r s =
     let k = part-accepted p (Command.append a x) r in
     room-inserting observed None (record { part = i; room = h })
@@ -155,11 +155,6 @@ room-effect p i h (Command.replace a x c) r s =
           (replacement-apart p.trees (named p a) (named p x) (named p c) k.own);
       open_parent = replacement-open p.trees (named p a) (named p x) (named p c) k.own;
     })
-room-effect p i h (Command.remove x) r s = room-removing nowhere observed (named p x) p i h
-room-effect p i h (Command.adopt d x) r s = room-adopting nowhere (named p d) (named p x) p i h
-room-effect p i h (Command.normalize x) r s = room-normalizing (named p x) p i h
-room-effect p i h (Command.set_attribute x a v) r s = room-setting_attribute (named p x) a v p i h
-room-effect p i h (Command.unset_attribute x a) r s = room-unsetting_attribute (named p x) a p i h
 room-effect p i h (Command.set_data x t) r s =
     let k = part-accepted p (Command.set_data x t) r in
     room-replacing_data (named p x) 0 (length_of p.trees (named p x)) t (record { part = i; room = h })
@@ -192,35 +187,15 @@ room-effect p i h (Command.range_end k x j) r s =
     (under-end (reach nowhere p) p.trees b (accepted-offset p (named p x) j a.own)) (range_at p k) (under-at p k h))
 room-effect p i h (Command.range_collapse k t) r s =
     room-range p k _ h (under-mapped (reach nowhere p) (collapsed_to t) (under-collapsed (reach nowhere p) t) (range_at p k) (under-at p k h))
-room-effect p i h (Command.range_drop k) r s = room-range p k None h tt
-room-effect p i h (Command.range_get k) r s =
-    some-effect (Roomy p) (range_at p k) (λ (r : Range NodeName). answers p (boundaries r.start r.end)) (λ x. h) h
-room-effect p i h (Command.range_text k) r s =
-    some-effect (Roomy p) (range_at p k) (λ (r : Range NodeName). answers p (a_string (range_text_of p.trees r))) (λ x. h) h
-room-effect p i h (Command.extract k) r s = s h
-room-effect p i h (Command.delete k) r s = s h
-room-effect p i h (Command.insert_node k x) r s = s h
-room-effect p i h (Command.iterator_new x w) r s = room-same p _ refl refl h
-room-effect p i h (Command.walker_new x w) r s = room-same p _ refl refl h
-room-effect p i h (Command.iterator_next k) r s =
-    some-effect (Roomy p) (slice_get p.iterators k) (λ i. moves_iterator p k false i (iterator_next_node p.trees i))
-    (λ i. room-same p _ refl refl h) h
-room-effect p i h (Command.iterator_previous k) r s =
-    some-effect (Roomy p) (slice_get p.iterators k) (λ i. moves_iterator p k true i (iterator_previous_node p.trees i))
-    (λ i. room-same p _ refl refl h) h
-room-effect p i h (Command.iterator_at k) r s =
-    some-effect (Roomy p) (slice_get p.iterators k) (λ (i : Iterator). answers p (reference i.reference i.before)) (λ i. h) h
-room-effect p i h (Command.walk k m) r s =
-    some-effect (Roomy p) (slice_get p.walkers k) (λ w. sets_walker p k w (walker_move p.trees w m) (node_or_null (walker_move p.trees w m)))
-    (λ w. room-walker p k w (walker_move p.trees w m) (node_or_null (walker_move p.trees w m)) h) h
-room-effect p i h (Command.walker_at k) r s = some-effect (Roomy p) (slice_get p.walkers k) (λ (w : Walker). answers p (a_node w.current)) (λ w. h) h
-room-effect p i h (Command.walker_set k x) r s =
-    some-effect (Roomy p) (slice_get p.walkers k) (λ w. sets_walker p k w (Some (named p x)) nothing)
-    (λ w. room-walker p k w (Some (named p x)) nothing h) h
-room-effect p i h (Command.listen x w) r s = room-same p _ refl refl h
-room-effect p i h (Command.unlisten x e l c) r s = room-same p _ refl refl h
-room-effect p i h Command.observer r s = room-same p _ refl refl h
-room-effect p i h (Command.observe k x w) r s = room-same p _ refl refl h
-room-effect p i h (Command.disconnect k) r s = room-same p _ refl refl h
-room-effect p i h (Command.take k) r s = room-same p _ refl refl h
-room-effect p i h c r s = h
+room-effect p i h c r s = search (
+  some-room,
+  room-same,
+  room-walker,
+  room-make,
+  room-removing,
+  room-adopting,
+  room-normalizing,
+  room-setting_attribute,
+  room-unsetting_attribute,
+  room-range,
+)

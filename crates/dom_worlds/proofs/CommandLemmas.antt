@@ -4,3 +4,4 @@ pub use Rattle.dom_worlds.proofs.KindLines.{absent-any, has_node-times}
 pub use Rattle.dom_worlds.proofs.PartSteps.{count-grows, fragment-no_shadow, name-node_in, node-read}
 pub use Rattle.dom_worlds.proofs.TableCommands.{Holds, insertion-apart}
 pub use Rattle.dom_worlds.proofs.TableRegisters.{holds-effect, parent-of_range}
+pub use Rattle.dom_worlds.proofs.TableCommands.{ends-with_start, ends-with_end, ends-collapsed}

@@ -139,56 +139,16 @@ rest-walker : (p : Part) (k : ℕ) (w : Walker) (o : Option NodeName) (v : Value
 rest-walker p k w None v = rest-answer p v
 rest-walker p k w (Some x) v = ((refl, record { trees = refl; count = refl; attached = refl }), λ m h. h)
 
+-- of a thing that may not be there
+rest-some : {X : Type 0} (p : Part) (o : Option X) (f : X → Effect) → ((x : X) → KeepsRest p ⊤ (f x)) → KeepsRest p ⊤ (option_map_or f o (answers p nothing))
+rest-some p o f h = some-effect (KeepsRest p ⊤) o f h (rest-answer p nothing)
+
 -- every command
 rest-effect : (p : Part) (c : Command) → KeepsRest p (AddsLogs c) (effect p c)
-rest-effect p (Command.new_element a) = (tt, λ m. tt)
-rest-effect p (Command.new_text a) = (tt, λ m. tt)
-rest-effect p (Command.new_comment a) = (tt, λ m. tt)
-rest-effect p Command.new_fragment = (tt, λ m. tt)
-rest-effect p Command.new_document = (tt, λ m. tt)
-rest-effect p (Command.append a b) = (tt, λ m. tt)
-rest-effect p (Command.insert a b c) = (tt, λ m. tt)
-rest-effect p (Command.replace a b c) = (tt, λ m. tt)
-rest-effect p (Command.remove a) = (tt, λ m. tt)
-rest-effect p (Command.adopt a b) = (tt, λ m. tt)
-rest-effect p (Command.normalize a) = (tt, λ m. tt)
-rest-effect p (Command.set_attribute a b c) = (tt, λ m. tt)
-rest-effect p (Command.unset_attribute a b) = (tt, λ m. tt)
-rest-effect p (Command.set_data a b) = (tt, λ m. tt)
-rest-effect p (Command.replace_data a b c d) = (tt, λ m. tt)
-rest-effect p (Command.split a b) = (tt, λ m. tt)
-rest-effect p (Command.set_text a b) = (tt, λ m. tt)
-rest-effect p (Command.extract a) = (tt, λ m. tt)
-rest-effect p (Command.delete a) = (tt, λ m. tt)
-rest-effect p (Command.insert_node a b) = (tt, λ m. tt)
-rest-effect p (Command.range_get a) =
-    some-effect (KeepsRest p ⊤) (range_at p a) (λ (r : Range NodeName). answers p (boundaries r.start r.end))
-    (λ r. rest-answer p (boundaries r.start r.end)) (rest-answer p nothing)
-rest-effect p (Command.range_text a) =
-    some-effect (KeepsRest p ⊤) (range_at p a) (λ (r : Range NodeName). answers p (a_string (range_text_of p.trees r)))
-    (λ r. rest-answer p (a_string (range_text_of p.trees r))) (rest-answer p nothing)
-rest-effect p (Command.iterator_next a) =
-    some-effect (KeepsRest p ⊤) (slice_get p.iterators a) (λ i. moves_iterator p a false i (iterator_next_node p.trees i))
-    (λ i. ((refl, record { trees = refl; count = refl; attached = refl }), λ m h. h)) (rest-answer p nothing)
-rest-effect p (Command.iterator_previous a) =
-    some-effect (KeepsRest p ⊤) (slice_get p.iterators a) (λ i. moves_iterator p a true i (iterator_previous_node p.trees i))
-    (λ i. ((refl, record { trees = refl; count = refl; attached = refl }), λ m h. h)) (rest-answer p nothing)
-rest-effect p (Command.iterator_at a) =
-    some-effect (KeepsRest p ⊤) (slice_get p.iterators a) (λ (i : Iterator). answers p (reference i.reference i.before))
-    (λ i. rest-answer p (reference i.reference i.before)) (rest-answer p nothing)
-rest-effect p (Command.walk a b) =
-    some-effect (KeepsRest p ⊤) (slice_get p.walkers a) (λ w. sets_walker p a w (walker_move p.trees w b) (node_or_null (walker_move p.trees w b)))
-    (λ w. rest-walker p a w (walker_move p.trees w b) (node_or_null (walker_move p.trees w b))) (rest-answer p nothing)
-rest-effect p (Command.walker_at a) =
-    some-effect (KeepsRest p ⊤) (slice_get p.walkers a) (λ (w : Walker). answers p (a_node w.current)) (λ w. rest-answer p (a_node w.current))
-    (rest-answer p nothing)
-rest-effect p (Command.walker_set a b) =
-    some-effect (KeepsRest p ⊤) (slice_get p.walkers a) (λ w. sets_walker p a w (Some (named p b)) nothing)
-    (λ w. rest-walker p a w (Some (named p b)) nothing) (rest-answer p nothing)
 rest-effect p (Command.listen a b) = ((refl, record { trees = refl; count = refl; attached = refl }), λ m. all-listened (named p a) b p.listeners m)
 rest-effect p (Command.unlisten a b c d) =
     ((refl, record { trees = refl; count = refl; attached = refl }), λ m. all-filter OnlyLogs (λ l. not (is_listener name_eq (named p a) b c d l)) p.listeners)
-rest-effect p c = ((refl, record { trees = refl; count = refl; attached = refl }), λ m h. h)
+rest-effect p c = search (rest-some, rest-walker, rest-answer)
 
 -- every effect on tables leaves the base
 pub base-effect : (p : Part) (c : Command) → KeepsBase p (effect p c)
@@ -243,43 +203,23 @@ range-makes May p k f h =
 module _ {Inv : Part → Type 0} {May : Step → Type 0} {MayPlace : NodeName → Type 0} (rules : IsKept Inv May MayPlace) where
   -- every command
   pub made-effect : (p : Part) → Inv p → (c : Command) → MayDo May MayPlace p c → Makes May (effect p c)
-  made-effect p i (Command.new_element a) h = (h, tt)
-  made-effect p i (Command.new_text a) h = (h, tt)
-  made-effect p i (Command.new_comment a) h = (h, tt)
-  made-effect p i Command.new_fragment h = (h, tt)
-  made-effect p i Command.new_document h = (h, tt)
-  made-effect p i (Command.append a b) h = keeps-pre_inserting rules (named p b) (named p a) None h p i
-  made-effect p i (Command.insert a b c) h = keeps-pre_inserting rules (named p b) (named p a) (Some (named p c)) h p i
-  made-effect p i (Command.replace a b c) h = keeps-replacing rules (named p a) (named p b) (named p c) h p i
-  made-effect p i (Command.remove a) h = keeps-removing rules observed (named p a) p i
-  made-effect p i (Command.adopt a b) h = keeps-adopting rules (named p a) (named p b) p i
-  made-effect p i (Command.normalize a) h = keeps-normalizing rules (named p a) p i
   made-effect p i (Command.set_attribute a b c) h = keeps-setting_attribute rules (named p a) b c h.0 h.1 p i
   made-effect p i (Command.unset_attribute a b) h = keeps-unsetting_attribute rules (named p a) b h.0 h.1 p i
-  made-effect p i (Command.set_data a b) h = keeps-replacing_all_data rules (named p a) b p i
-  made-effect p i (Command.replace_data a b c d) h = keeps-replacing_data rules (named p a) b c d p i
-  made-effect p i (Command.split a b) h = keeps-splitting rules (named p a) b p i
-  made-effect p i (Command.set_text a b) h = keeps-setting_text rules (named p a) b p i
-  made-effect p i (Command.range_get a) h =
-      some-makes May (range_at p a) (λ (r : Range NodeName). answers p (boundaries r.start r.end)) (answers p nothing) (λ r. tt) tt
-  made-effect p i (Command.range_text a) h =
-      some-makes May (range_at p a) (λ (r : Range NodeName). answers p (a_string (range_text_of p.trees r))) (answers p nothing) (λ r. tt) tt
   made-effect p i (Command.extract a) h = range-makes May p a (λ range. extracting a range p) (λ range e. keeps-extracting rules a range p i)
   made-effect p i (Command.delete a) h = range-makes May p a (λ range. deleting a range p) (λ range e. keeps-deleting rules a range p i)
   made-effect p i (Command.insert_node a b) h =
       range-makes May p a (λ range. inserting_into_range a range (named p b) p)
       (λ range e. keeps-inserting_into_range rules a range (named p b) (h range e) p i)
-  made-effect p i (Command.iterator_next a) h =
-      some-makes May (slice_get p.iterators a) (λ i. moves_iterator p a false i (iterator_next_node p.trees i)) (answers p nothing) (λ i. tt) tt
-  made-effect p i (Command.iterator_previous a) h =
-      some-makes May (slice_get p.iterators a) (λ i. moves_iterator p a true i (iterator_previous_node p.trees i)) (answers p nothing) (λ i. tt) tt
-  made-effect p i (Command.iterator_at a) h =
-      some-makes May (slice_get p.iterators a) (λ (i : Iterator). answers p (reference i.reference i.before)) (answers p nothing) (λ i. tt) tt
-  made-effect p i (Command.walk a b) h =
-      some-makes May (slice_get p.walkers a) (λ w. sets_walker p a w (walker_move p.trees w b) (node_or_null (walker_move p.trees w b)))
-      (answers p nothing) (λ w. walker-makes May p a w (walker_move p.trees w b) (node_or_null (walker_move p.trees w b))) tt
-  made-effect p i (Command.walker_at a) h =
-      some-makes May (slice_get p.walkers a) (λ (w : Walker). answers p (a_node w.current)) (answers p nothing) (λ w. tt) tt
-  made-effect p i (Command.walker_set a b) h =
-      some-makes May (slice_get p.walkers a) (λ w. sets_walker p a w (Some (named p b)) nothing) (answers p nothing) (λ w. tt) tt
-  made-effect p i c h = tt
+  made-effect p i c h = search (
+    keeps-pre_inserting,
+    keeps-replacing,
+    keeps-removing,
+    keeps-adopting,
+    keeps-normalizing,
+    keeps-splitting,
+    keeps-setting_text,
+    keeps-replacing_all_data,
+    keeps-replacing_data,
+    some-makes,
+    walker-makes,
+  )

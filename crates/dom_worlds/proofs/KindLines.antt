@@ -164,11 +164,7 @@ component-may_do r p Command.new_fragment h = (tt, fragment-no_shadow)
 component-may_do r p Command.new_document h = (tt, document-no_shadow)
 component-may_do r p (Command.set_attribute a b c) h = ((λ old. (tt, tt)), (tt, tt))
 component-may_do r p (Command.unset_attribute a b) h = ((λ old. (tt, tt)), (tt, tt))
-component-may_do r p (Command.append a b) h = h
-component-may_do r p (Command.insert a b c) h = h
-component-may_do r p (Command.replace a b c) h = h
-component-may_do r p (Command.insert_node a b) h = h
-component-may_do r p c h = tt
+component-may_do r p c h = search
 
 -- what is made so makes no shadow root
 no_shadow-made : (r : NodeName) (e : Effect) → Makes (MayMake r) e → Makes MakesNoShadow e

@@ -8,3 +8,4 @@ pub use Rattle.dom_worlds.proofs.KeptOffsets.{insertion-keeps, join_at-keeps, ma
 pub use Rattle.dom_worlds.proofs.KeptOffsets.{removal-keeps, replacement-keeps, room-of, set_document-keeps, set_range-keeps, split-keeps, text_content-keeps}
 pub use Rattle.dom_worlds.proofs.RangeInsertions.{tail-child}
 pub use Rattle.dom_worlds.proofs.ExtractionPlans.{common-read}
+pub use Rattle.dom_worlds.proofs.Bounds.{Under, HasRoom, length-like, ranges-more}

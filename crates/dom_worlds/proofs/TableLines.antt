@@ -1,5 +1,6 @@
 -- Every line keeps the tables and the records of all parts.
 use Rattle.std.proofs.Common.{◌≡◌, ℕ, true, false, ◌&&◌, List, [], ◌∷◌, Option, Some, None, refl, sym, subst, Bool, not, ◌++◌, map, filter, fold, length, ◌∙◌}
+use Rattle.std.specs.Option.{option_map_or}
 use Rattle.std.proofs.Common.{arith, true≢false}
 use Rattle.std.specs.Prelude.{slice_get, nat_eq}
 use Rattle.std.specs.List.{AllByRecursion}
@@ -65,13 +66,13 @@ walker-records : (p : Part) (k : ℕ) (w : Walker) (o : Option NodeName) (v : Va
 walker-records p k w None v h = h
 walker-records p k w (Some x) v h = h
 
+-- of a thing that may not be there
+some-records : {X : Type 0} (p : Part) (o : Option X) (f : X → Effect) → ((x : X) → Records p (f x)) → HasRecords p → Records p
+    (option_map_or f o (answers p nothing))
+some-records p o f h g = some-effect (Records p) o f h g
+
 -- Every accepted command.
 pub records-effect : (p : Part) → IsPart p → HasTables p → HasRecords p → (c : Command) → part_refusal p c ≡ None → Records p (effect p c)
-records-effect p i t h (Command.new_element a) r = (tt, tt)
-records-effect p i t h (Command.new_text a) r = (tt, tt)
-records-effect p i t h (Command.new_comment a) r = (tt, tt)
-records-effect p i t h Command.new_fragment r = (tt, tt)
-records-effect p i t h Command.new_document r = (tt, tt)
 records-effect p i t h (Command.append a x) r =
     let k = part-accepted p (Command.append a x) r in
     tells-inserting observed None i
@@ -92,9 +93,6 @@ records-effect p i t h (Command.replace a x c) r =
     (named-may x (named p a) i (exists-second p a x rest true k.exist)
     (exists-first p a (has_node p.trees (named p x) && rest) true k.exist)
     (replacement-apart p.trees (named p a) (named p x) (named p c) k.own)) (exists-third p a x c k.exist)
-records-effect p i t h (Command.remove x) r = tells-removing observed (named p x) p i
-records-effect p i t h (Command.adopt d x) r = tells-adopting (named p d) (named p x) p i
-records-effect p i t h (Command.normalize x) r = tells-normalizing (named p x) p i
 records-effect p i t h (Command.set_attribute x a v) r = let k =
     part-accepted p (Command.set_attribute x a v) r in tells-setting_attribute (named p x) a v p (exists-first p x true true k.exist)
 records-effect p i t h (Command.unset_attribute x a) r = let k =
@@ -108,10 +106,6 @@ records-effect p i t h (Command.split x j) r = let k =
     part-accepted p (Command.split x j) r in (tells-splitting (named p x) j p i (exists-first p x true true k.exist)).0
 records-effect p i t h (Command.set_text x s) r = let k =
     part-accepted p (Command.set_text x s) r in tells-setting_text (named p x) s p i (exists-first p x true true k.exist)
-records-effect p i t h (Command.range_get k) r =
-    some-effect (Records p) (range_at p k) (λ (r : Range NodeName). answers p (boundaries r.start r.end)) (λ x. h) h
-records-effect p i t h (Command.range_text k) r =
-    some-effect (Records p) (range_at p k) (λ (r : Range NodeName). answers p (a_string (range_text_of p.trees r))) (λ x. h) h
 records-effect p i t h (Command.extract k) r =
     range-steps (TellsIn p) p k tt (λ range. extracting k range p) (λ range e. tells-extracting k range p i (range-ends p k t range e).0)
 records-effect p i t h (Command.delete k) r =
@@ -121,24 +115,7 @@ records-effect p i t h (Command.insert_node k x) r =
     range-steps (TellsIn p) p k tt (λ range. inserting_into_range k range (named p x) p)
     (λ range e. tells-inserting_into_range k range i (range-ends p k t range e).0
     (insert_node-may i t a e))
-records-effect p i t h (Command.iterator_next k) r =
-    some-effect (Records p) (slice_get p.iterators k) (λ i. moves_iterator p k false i (iterator_next_node p.trees i)) (λ i. h) h
-records-effect p i t h (Command.iterator_previous k) r =
-    some-effect (Records p) (slice_get p.iterators k) (λ i. moves_iterator p k true i (iterator_previous_node p.trees i)) (λ i. h) h
-records-effect p i t h (Command.iterator_at k) r =
-    some-effect (Records p) (slice_get p.iterators k) (λ (i : Iterator). answers p (reference i.reference i.before)) (λ i. h) h
-records-effect p i t h (Command.walk k m) r =
-    some-effect (Records p) (slice_get p.walkers k) (λ w. sets_walker p k w (walker_move p.trees w m) (node_or_null (walker_move p.trees w m)))
-    (λ w. walker-records p k w (walker_move p.trees w m) (node_or_null (walker_move p.trees w m)) h) h
-records-effect p i t h (Command.walker_at k) r =
-    some-effect (Records p) (slice_get p.walkers k) (λ (w : Walker). answers p (a_node w.current)) (λ w. h) h
-records-effect p i t h (Command.walker_set k x) r =
-    some-effect (Records p) (slice_get p.walkers k) (λ w. sets_walker p k w (Some (named p x)) nothing)
-    (λ w. walker-records p k w (Some (named p x)) nothing h) h
-records-effect p i t h Command.observer r = all-append (AllByRecursion (IsRecordIn p.trees)) p.record_queues ([] ∷ []) h (tt, tt)
-records-effect p i t h (Command.disconnect k) r = all-set (AllByRecursion (IsRecordIn p.trees)) p.record_queues k [] h tt
-records-effect p i t h (Command.take k) r = all-set (AllByRecursion (IsRecordIn p.trees)) p.record_queues k [] h tt
-records-effect p i t h c r = h
+records-effect p i t h c r = search (some-records, walker-records, all-append, all-set, tells-removing, tells-adopting, tells-normalizing)
 
 -- Listeners are called, and some go: those that are left are as they were.
 after-action : (P : Listener NodeName → Type 0) (a : Action) (c : Bool) (d : Dispatching NodeName) → AllByRecursion P d.listeners →

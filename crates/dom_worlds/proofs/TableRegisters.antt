@@ -149,11 +149,6 @@ some-any (Some x) = tt
 
 -- Every accepted command.
 pub holds-effect : (p : Part) → IsPart p → HasTables p → IsNodeIn p.trees (first_node p) → (c : Command) → part_refusal p c ≡ None → Holds p (effect p c)
-holds-effect p i h f (Command.new_element a) r = (tt, tt)
-holds-effect p i h f (Command.new_text a) r = (tt, tt)
-holds-effect p i h f (Command.new_comment a) r = (tt, tt)
-holds-effect p i h f Command.new_fragment r = (tt, tt)
-holds-effect p i h f Command.new_document r = (tt, tt)
 holds-effect p i h f (Command.append a x) r =
     let k = part-accepted p (Command.append a x) r in
     (leads-inserting observed (named p x) (named p a) None i
@@ -283,4 +278,4 @@ holds-effect p i h f (Command.take k) r =
     tables-observers (slice_set p.record_queues k []) p.registrations p.pending h
     (more-registered p.trees (length p.record_queues) (length (slice_set p.record_queues k [])) same p.registrations h.registrations)
     (more-pending (length p.record_queues) (length (slice_set p.record_queues k [])) same p.pending h.pending)
-holds-effect p i h f c r = h
+holds-effect p i h f c r = search

@@ -8,3 +8,6 @@ pub use Rattle.dom_worlds.proofs.Roots.{roots-equal, roots-same, node-new, read-
 pub use Rattle.dom_worlds.proofs.ChildCounts.{index-below, kids, kids-absent, length-children, rooted}
 pub use Rattle.dom_worlds.proofs.ChildPairs.{children-childs}
 pub use Rattle.dom_worlds.proofs.PlanChildren.{IsChild, child-parent}
+pub use Rattle.dom_worlds.proofs.ChildCounts.{kids-map_nodes}
+pub use Rattle.dom_worlds.proofs.Roots.{node-map_nodes, length-kids, length-absent}
+pub use Rattle.dom_worlds.proofs.TreeChangeLaws.{times-map_nodes}
