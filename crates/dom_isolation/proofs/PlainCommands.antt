@@ -163,48 +163,7 @@ module _ (p : Part) (i : IsPlainPart p) where
 
   -- every effect
   plain-effect : (c : Command) → HasPlainWords c → IsPlainEffect (effect p c)
-  plain-effect (Command.new_element a) h = tt
-  plain-effect (Command.new_text a) h = tt
-  plain-effect (Command.new_comment a) h = tt
-  plain-effect Command.new_fragment h = tt
-  plain-effect Command.new_document h = tt
-  plain-effect (Command.append a b) h = tt
-  plain-effect (Command.insert a b c) h = tt
-  plain-effect (Command.replace a b c) h = tt
-  plain-effect (Command.remove a) h = tt
-  plain-effect (Command.adopt a b) h = tt
-  plain-effect (Command.normalize a) h = tt
-  plain-effect (Command.set_attribute a b c) h = tt
-  plain-effect (Command.unset_attribute a b) h = tt
-  plain-effect (Command.set_data a b) h = tt
-  plain-effect (Command.replace_data a b c d) h = tt
-  plain-effect (Command.split a b) h = tt
-  plain-effect (Command.set_text a b) h = tt
-  plain-effect (Command.extract a) h = tt
-  plain-effect (Command.delete a) h = tt
-  plain-effect (Command.insert_node a b) h = tt
   plain-effect (Command.tree a) h = (i, tt, nodes-subtree IsPlainNode p.trees (named p a) i.0)
-  plain-effect (Command.range_get a) h =
-      plain-some (range_at p a) (λ (r : Range NodeName). answers p (boundaries r.start r.end)) (answers p nothing) (λ r. (i, tt, tt)) (i, tt, tt)
-  plain-effect (Command.range_text a) h =
-      plain-some (range_at p a) (λ (r : Range NodeName). answers p (a_string (range_text_of p.trees r))) (answers p nothing) (λ r. (i, tt, tt))
-      (i, tt, tt)
-  plain-effect (Command.iterator_next a) h =
-      plain-some (slice_get p.iterators a) (λ k. moves_iterator p a false k (iterator_next_node p.trees k)) (answers p nothing)
-      (λ k. (i, tt, plain-node_or_null (iterator_next_node p.trees k))) (i, tt, tt)
-  plain-effect (Command.iterator_previous a) h =
-      plain-some (slice_get p.iterators a) (λ k. moves_iterator p a true k (iterator_previous_node p.trees k)) (answers p nothing)
-      (λ k. (i, tt, plain-node_or_null (iterator_previous_node p.trees k))) (i, tt, tt)
-  plain-effect (Command.iterator_at a) h =
-      plain-some (slice_get p.iterators a) (λ (k : Iterator). answers p (reference k.reference k.before)) (answers p nothing) (λ k. (i, tt, tt))
-      (i, tt, tt)
-  plain-effect (Command.walk a b) h =
-      plain-some (slice_get p.walkers a) (λ w. sets_walker p a w (walker_move p.trees w b) (node_or_null (walker_move p.trees w b))) (answers p nothing)
-      (λ w. plain-walker a w (walker_move p.trees w b) (node_or_null (walker_move p.trees w b)) (plain-node_or_null (walker_move p.trees w b))) (i, tt, tt)
-  plain-effect (Command.walker_at a) h =
-      plain-some (slice_get p.walkers a) (λ (w : Walker). answers p (a_node w.current)) (answers p nothing) (λ w. (i, tt, tt)) (i, tt, tt)
-  plain-effect (Command.walker_set a b) h =
-      plain-some (slice_get p.walkers a) (λ w. sets_walker p a w (Some (named p b)) nothing) (answers p nothing) (λ w. (i, tt, tt)) (i, tt, tt)
   plain-effect (Command.listen a b) h = ((i.0, plain-listened (named p a) b p.listeners i.1 h, i.2), tt, tt)
   plain-effect (Command.unlisten a b c d) h =
       ((i.0, all-filter IsPlainListener (λ l. not (is_listener name_eq (named p a) b c d l)) p.listeners i.1, i.2), tt, tt)
@@ -216,7 +175,7 @@ module _ (p : Part) (i : IsPlainPart p) where
         (queue_of p.record_queues a) (plain-queue p.record_queues a i.2),
     tt,
   )
-  plain-effect c h = (i, tt, search (plain-node_or_null, plain-string_or_null, plain-nothing))
+  plain-effect c h = search (plain-some, plain-walker, plain-node_or_null, plain-string_or_null, plain-nothing)
 
 -- what it makes, and the attributes that it names
 plain-may_do : (p : Part) (c : Command) → HasPlainWords c → MayDo IsPlainStep (λ x. ⊤) p c
