@@ -4,13 +4,12 @@ ghost use Rattle.std.specs.Option.{ForSome};
 ghost use Rattle.dom_base.specs.declared.Kind.TheVariants.{Text};
 ghost use Rattle.dom_model.specs.Names.{node_of};
 ghost use Rattle.dom_mutation.specs.Doc.{name_in, HoldsNode};
-ghost use Rattle.dom_mutation.specs.Ready.{IsReady};
 ghost use Rattle.dom_mutation.specs.Still.{HasStillAll};
 ghost use Rattle.dom_callers.specs.Editing.{IsNodeOf, IsTextOf, IsRangeOf};
 
 use dom_base::{Fault, Owner};
 use dom_mutation::{Doc, law_new_node, law_newly_there, law_still};
-use dom_range_ops::{delete, extract, insert_node, law_ready};
+use dom_range_ops::{delete, extract, insert_node};
 use dom_tree::NodeData;
 use node_arena::Key;
 use std::alloc::Global;
@@ -26,18 +25,15 @@ pub fn rewrite(
     paragraph: Key,
     node: NodeData,
 ) -> Result<(Key, u32), Fault>
-    requires ready { IsReady doc.old }
     requires paragraph { IsNodeOf doc.old owner paragraph }
     requires first_is_node { HoldsNode doc.old first }
     requires is_first { name_in doc.old first ≡ node_of owner 0 }
     requires is_text { node.kind ≡ Text }
     requires document_is_node { ForSome node.document (HoldsNode doc.old) }
-    ensures ready { OnOk result (IsReady doc.new) }
     ensures still { OnOk result (HasStillAll doc.old doc.new) }
     ensures text { IfOk result (λ r. IsTextOf doc.new owner r.0) }
     ensures range { IfOk result (λ r. IsRangeOf doc.new owner r.1) }
 {
-    law_ready();
     law_still();
     let written = write(doc, owner, paragraph, node)?;
     let (text, tail) = written;
@@ -52,17 +48,14 @@ pub fn rewrite(
 
 /// A new Text of an owner becomes a paragraph's last child, and is split behind its first code unit: the two Texts.
 fn write(doc: &mut Doc, owner: Owner, paragraph: Key, node: NodeData) -> Result<(Key, Key), Fault>
-    requires ready { IsReady doc.old }
     requires paragraph { IsNodeOf doc.old owner paragraph }
     requires is_text { node.kind ≡ Text }
     requires document_is_node { ForSome node.document (HoldsNode doc.old) }
-    ensures ready { OnOk result (IsReady doc.new) }
     ensures still { OnOk result (HasStillAll doc.old doc.new) }
     ensures text { IfOk result (λ r. IsTextOf doc.new owner r.0) }
     ensures tail { IfOk result (λ r. IsTextOf doc.new owner r.1) }
 {
     doc.laws();
-    law_ready();
     law_still();
     law_new_node();
     let text = doc.add(owner, node)?;
@@ -77,12 +70,10 @@ fn write(doc: &mut Doc, owner: Owner, paragraph: Key, node: NodeData) -> Result<
 /// A new live range of an owner, from the beginning of a Text to behind the first code unit of another one. Refused with `IndexSize`
 /// where that one is empty.
 fn select(doc: &mut Doc, owner: Owner, first: Key, text: Key, tail: Key) -> Result<u32, Fault>
-    requires ready { IsReady doc.old }
     requires first_is_node { HoldsNode doc.old first }
     requires is_first { name_in doc.old first ≡ node_of owner 0 }
     requires text { IsNodeOf doc.old owner text }
     requires tail { IsNodeOf doc.old owner tail }
-    ensures ready { OnOk result (IsReady doc.new) }
     ensures still { OnOk result (HasStillAll doc.old doc.new) }
     ensures range { IfOk result (λ number. IsRangeOf doc.new owner number) }
 {
@@ -96,13 +87,10 @@ fn select(doc: &mut Doc, owner: Owner, first: Key, text: Key, tail: Key) -> Resu
 
 /// What is in a live range goes into a fragment, and comes back.
 fn take_and_put_back(alloc: Global, doc: &mut Doc, owner: Owner, range: u32) -> Result<(), Fault>
-    requires ready { IsReady doc.old }
     requires range { IsRangeOf doc.old owner range }
-    ensures ready { OnOk result (IsReady doc.new) }
     ensures still { OnOk result (HasStillAll doc.old doc.new) }
     ensures range { OnOk result (IsRangeOf doc.new owner range) }
 {
-    law_ready();
     law_still();
     law_new_node();
     doc.laws();
@@ -115,13 +103,10 @@ fn take_and_put_back(alloc: Global, doc: &mut Doc, owner: Owner, range: u32) -> 
 
 /// What is in a live range goes, and empty Texts below a node with it.
 fn tidy(alloc: Global, doc: &mut Doc, owner: Owner, range: u32, top: Key) -> Result<(), Fault>
-    requires ready { IsReady doc.old }
     requires range { IsRangeOf doc.old owner range }
     requires top { IsNodeOf doc.old owner top }
-    ensures ready { OnOk result (IsReady doc.new) }
     ensures still { OnOk result (HasStillAll doc.old doc.new) }
 {
-    law_ready();
     law_still();
     doc.laws();
     delete(alloc, doc, owner, range)?;

@@ -94,9 +94,6 @@ replace-requires-clause-child_owner c =
     (node-still e h o c.in_ok-written.written.1 to_h c.in_ok-written.ensures.tail.node).owner
     ∙ sym (node-still d h o c.args.paragraph all c.requires.paragraph).owner
 
-pub returns-clause-ready : goal.returns-clause-ready
-returns-clause-ready c = c.in_ok-replace.ensures.ready c.in_ok-tidy.ensures.ready
-
 pub returns-clause-still : goal.returns-clause-still
 returns-clause-still c =
     let d = c.args.doc.now in

@@ -6,8 +6,8 @@ use Rattle.dom_mutation.specs.Doc.{name_in, owner_in}
 use Rattle.dom_mutation.specs.Still.{HasNodes, HasStillAll}
 use Rattle.dom_callers.proofs.editing.tidy.Goals as goal
 
-pub returns-clause-still : goal.returns-clause-still
-returns-clause-still c =
+pub returns : goal.returns
+returns c =
     let d = c.args.doc.now in
     let e = c.delete.new.doc in
     let f = c.normalize.new.self in
@@ -18,4 +18,4 @@ returns-clause-still c =
     record { before = d_nodes; after = e_nodes; names = c.in_ok-delete.ensures.names; world = c.in_ok-delete.ensures.world } in
     let normalized : HasStillAll e f = still-same c.law_still.ensures.plans e f (owner_in e c.args.top) (normalizing (name_in e c.args.top))
     record { before = e_nodes; after = f_nodes; names = c.in_ok-normalize.ensures.names; world = c.in_ok-normalize.ensures.world } in
-    c.law_still.ensures.next d e f deleted normalized
+    record { still = c.law_still.ensures.next d e f deleted normalized }

@@ -33,9 +33,6 @@ split-requires-clause-text c =
     let written : IsTextOf f o text = text-still e f o text inserted new in
     ap is_text written.kind
 
-pub returns-clause-ready : goal.returns-clause-ready
-returns-clause-ready c = c.in_ok-tail.ensures.ready (c.in_ok-insert.ensures.ready (c.in_ok-text.ensures.ready c.requires.ready))
-
 pub returns-clause-still : goal.returns-clause-still
 returns-clause-still c =
     let d = c.args.doc.now in
