@@ -17,8 +17,10 @@ use Rattle.dom_model.proofs.PartLaws.{owner-part_of}
 use Rattle.dom_model.specs.Tree.{Trees, Node, nodes, names_of, has_node, node_in, no_node, is_document}
 use Rattle.dom_model.proofs.OwnerLaws.{name_eq-turned}
 use Rattle.dom_tree.specs.Forest.{name_at}
-use Rattle.dom_tree.specs.Owners.{trees_of_owner, AreOwned}
+use Rattle.dom_tree.specs.Owners.{trees_of_owner, AreOwned, IsReadOwn}
 use Rattle.dom_tree.proofs.Owned.{read_own}
+use Rattle.dom_mutation.specs.Doc.{DocState}
+use Rattle.dom_admission.specs.Turned.{turned}
 
 -- a node that is counted once is there
 pub counted : (ns : List Node) (x : NodeName) → count_by (λ n. name_eq n.name x) ns ≡ 1 → is_in name_eq x (names_of ns) ≡ true
@@ -50,6 +52,13 @@ owner-named w o s = ap (λ (y : NodeName). y.owner) (named-number_in (part_of w 
 pub read_at : {A : Type 0} {x y : NodeName} {own shown : Trees} (f : Trees → NodeName → A) (ts : Trees) → x ≡ y → own ≡ shown → f ts y ≡ f own y →
     f ts x ≡ f shown y
 read_at {y = y} f ts here own_trees same = ap (f ts) here ∙ same ∙ ap (λ us. f us y) own_trees
+
+-- what is read at a key in the trees of all owners is read of this node in its owner's
+pub record IsReadBy (names : List NodeName) (ts shown : Trees) (o : Owner) (key : ℕ) (x : NodeName) : Type 0 where
+  pub here : name_at names key ≡ x
+  pub trees : trees_of_owner o ts ≡ shown
+  pub mine : x.owner ≡ o
+  pub reads : IsReadOwn o ts x
 
 -- the node of a name, where the look-up found one
 pub found_node : (names : List NodeName) (x : NodeName) (r : Option ℕ) → ForSome r (λ k. slice_get names k ≡ Some x) →
@@ -117,10 +126,30 @@ pub name-found : (names : List NodeName) (x : NodeName) (r : Option ℕ) → For
 name-found names x (Some k) found e = ap Some (found k refl).1
 name-found names x None found e = absurd cc
 
--- the key of a node that is named
-abbrev pub IsKey : List NodeName → World → Owner → ℕ → NodeWord → Type 0
-IsKey names w o key s = name_at names key ≡ named (part_of w o) s
-
 -- a node that is named, by the number of its name
-pub numbered : (p : Part) (s : NodeWord) (x : NodeName) → x ≡ named p s → named p (own x.number) ≡ named p s
+numbered : (p : Part) (s : NodeWord) (x : NodeName) → x ≡ named p s → named p (own x.number) ≡ named p s
 numbered p s x is = ap (λ (y : NodeName). node_of p.owner y.number) (is ∙ named-number_in p s) ∙ sym (named-number_in p s)
+
+-- a key of the node that a line of an owner names, in these documents
+pub record KeyOf (d : DocState) (o : Owner) (s : NodeWord) (key : ℕ) : Type 0 where
+  pub name : name_at d.names key ≡ named (part_of d.world o) s
+  pub mine : (name_at d.names key).owner ≡ o
+  pub number : named (part_of d.world o) (own (name_at d.names key).number) ≡ named (part_of d.world o) s
+
+-- In a state with these documents, a key by which a node was looked up.
+module _ (t : Option Owner) (d now : DocState) (seen : turned t d ≡ now) (o : Owner) (s : NodeWord) (key : ℕ)
+    (is : name_at now.names key ≡ named (part_of now.world o) s) where
+  pub key_of : KeyOf d o s key
+  key_of =
+      let here : name_at d.names key ≡ named (part_of d.world o) s = rw (← seen) at is in
+      record { name = here; mine = ap (λ (y : NodeName). y.owner) here ∙ owner-named d.world o s; number = numbered (part_of d.world o) s _ here }
+
+  -- it is read in the trees of all owners as in its owner's
+  pub read_by_key : {names : List NodeName} (ts : Trees) → names ≡ d.names → AreOwned ts →
+      ((p : Owner) → trees_of_owner p ts ≡ (part_of d.world p).trees) → IsReadBy names ts (part_of d.world o).trees o key (named (part_of d.world o) s)
+  read_by_key ts all owned each = record {
+    here = ap (λ (names : List NodeName). name_at names key) all ∙ key_of.name;
+    trees = each o;
+    mine = owner-named d.world o s;
+    reads = read_own ts owned o (named (part_of d.world o) s) (owner-named d.world o s);
+  }

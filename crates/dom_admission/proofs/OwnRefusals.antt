@@ -1,41 +1,56 @@
 -- A command's own tests: what they refuse, and what was not refused.
-use Rattle.std.proofs.Common.{◌≡◌, ◌⊎◌, inl, inr, Bool, true, false, [], ◌∷◌, Option, Some, None, Result, Ok, Err, refl}
+use Rattle.std.proofs.Common.{◌≡◌, ◌⊎◌, ◌↔◌, inl, inr, Bool, true, false, not, [], ◌∷◌, Option, Some, None, Result, Ok, Err, refl, sym, ap, ◌∙◌}
 use Rattle.dom_base.specs.declared.Fault.{Fault}
 use Rattle.dom_base.specs.declared.Fault.TheVariants.{Refused, Memory}
 use Rattle.dom_base.specs.declared.Refusal.{Refusal}
 use Rattle.dom_model.specs.Validity.{first_refusal}
-use Rattle.dom_admission.proofs.Handling.{done}
 
--- a call that is done
+-- a call that was done, and one that was not
 abbrev pub ended : {X : Type 0} → X → Result X Fault
 ended x = Ok x
 
--- a command's one test holds: it is refused; or does not hold: it is not
-pub lone_holds : (b : Bool) (r : Refusal) → b ≡ true → first_refusal ((b, r) ∷ []) ≡ Some r
-lone_holds b r e = rw e refl
+abbrev pub failed : (X : Type 0) → Fault → Result X Fault
+failed X f = Err f
 
-pub lone_fails : (b : Bool) (r : Refusal) → (b ≡ true → ⊥) → first_refusal ((b, r) ∷ []) ≡ None
-lone_fails true r h = absurd (h refl)
-lone_fails false r h = refl
+-- What a call gives, whose refusal is this; the command's is the same.
+module _ {X : Type 0} {v own : Option Refusal} (same : v ≡ own) where
+  -- it was refused so
+  pub refuses : {f : Fault} → ((r : Refusal) → failed X f ≡ Err (Refused r) → v ≡ Some r) → (r : Refusal) → f ≡ Refused r → own ≡ Some r
+  refuses is r h = sym same ∙ is r (ap Err h)
 
--- a fault that may be one refusal, or want of memory
-pub only_refusal : (f : Fault) (q r : Refusal) → (f ≡ Refused q) ⊎ (f ≡ Memory) → f ≡ Refused r → r ≡ q
-only_refusal f q r (inl e) h = cc
-only_refusal f q r (inr e) h = absurd cc
+  -- it was done, or memory was refused: there is none
+  pub none_stopped : (x : X) → ((r : Refusal) → v ≡ Some r → (ended x ≡ Err (Refused r)) ⊎ (ended x ≡ Err Memory)) → own ≡ None
+  none_stopped x h = sym same ∙ by v h
+    where
+      by : (u : Option Refusal) → ((r : Refusal) → u ≡ Some r → (ended x ≡ Err (Refused r)) ⊎ (ended x ≡ Err Memory)) → u ≡ None
+      by None h = refl
+      by (Some r) h = either (h r refl)
+        where
+          either : (ended x ≡ Err (Refused r)) ⊎ (ended x ≡ Err Memory) → Some r ≡ None
+          either (inl e) = absurd cc
+          either (inr e) = absurd cc
 
--- what is done was not refused
-pub accepted_not : (r : Refusal) → done tt ≡ Err (Refused r) → ⊥
-accepted_not r h = absurd cc
+  pub none_refused : (x : X) → ((r : Refusal) → (ended x ≡ Err (Refused r)) ↔ (v ≡ Some r)) → own ≡ None
+  none_refused x is = none_stopped x (λ r e. inl ((is r).1 e))
 
--- what gave a value was not refused
-pub given_not : {X : Type 0} (x : X) (r : Refusal) → ended x ≡ Err (Refused r) → ⊥
-given_not x r h = absurd cc
+-- What a call gives, which is refused by this test alone; the command's test is the same.
+module _ {X : Type 0} {k : Refusal} where
+  -- the test held, and it was refused as it says; or memory was refused
+  pub held : {P : Type 0} {f : Fault} → (failed X f ≡ Err (Refused k)) ↔ P → (f ≡ Refused k) ⊎ (f ≡ Memory) → (r : Refusal) →
+      f ≡ Refused r → P × (k ≡ r)
+  held is (inl e) r h = (is.0 (ap Err e), cc)
+  held is (inr e) r h = absurd cc
 
--- nor did any of its tests hold, where each of them refuses
-pub none_stopped : {X : Type 0} (x : X) (v : Option Refusal) → ((r : Refusal) → v ≡ Some r → (ended x ≡ Err (Refused r)) ⊎ (ended x ≡ Err Memory)) → v ≡ None
-none_stopped x None h = refl
-none_stopped x (Some r) h = by (h r refl)
-  where
-    by : (ended x ≡ Err (Refused r)) ⊎ (ended x ≡ Err Memory) → Some r ≡ None
-    by (inl e) = absurd cc
-    by (inr e) = absurd cc
+  pub lone_refuses : {b own : Bool} {f : Fault} → b ≡ own → (failed X f ≡ Err (Refused k)) ↔ (b ≡ true) → (f ≡ Refused k) ⊎ (f ≡ Memory) →
+      (r : Refusal) → f ≡ Refused r → first_refusal ((own, k) ∷ []) ≡ Some r
+  lone_refuses same is other r h = let p = held is other r h in rw (sym same ∙ p.0) (ap Some p.1)
+
+  -- it was done: the test did not hold
+  pub lone_passes : {b own : Bool} (x : X) → b ≡ own → (ended x ≡ Err (Refused k)) ↔ (b ≡ true) → first_refusal ((own, k) ∷ []) ≡ None
+  lone_passes {own = true} x same is = let no : ended x ≡ Err (Refused k) = is.1 same in absurd cc
+  lone_passes {own = false} x same is = refl
+
+-- a test that is to hold, as one that is not to
+pub unless : {A : Type 0} {b : Bool} → A ↔ (b ≡ false) → A ↔ (not b ≡ true)
+unless {b = true} is = (λ h. sym (is.0 h), λ h. is.1 (sym h))
+unless {b = false} is = (λ h. refl, λ h. is.1 refl)

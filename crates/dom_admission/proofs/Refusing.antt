@@ -18,28 +18,17 @@ use Rattle.dom_admission.specs.declared.admission.Operand.TheVariants.{Slot}
 use Rattle.dom_reader.specs.declared.line.NodeWord.{NodeWord}
 use Rattle.dom_reader.specs.Views.{word_view}
 
--- a command of all owners that names these nodes, ranges, iterators, walkers and observers, and nothing else
-pub record IsNaming (c : Command) (names : List Operand) : Type 0 where
-  pub offered : (o : Owner) → is_command_of o c ≡ true
-  pub foreign : names_foreign c ≡ has_foreign names
-  pub exist : (p : Part) → (nodes_exist p c && thing_exists p c) ≡ are_there p names
-  pub fit : (p : Part) → nodes_fit p c ≡ are_fitting p names
-
--- one of this owner that names these
-pub record IsNamingOf (o : Owner) (c : Command) (names : List Operand) : Type 0 where
+-- a command of this owner that names these nodes, ranges, iterators, walkers and observers, and nothing else
+pub record IsNaming (o : Owner) (c : Command) (names : List Operand) : Type 0 where
   pub mine : is_command_of o c ≡ true
   pub foreign : names_foreign c ≡ has_foreign names
   pub exist : (p : Part) → (nodes_exist p c && thing_exists p c) ≡ are_there p names
   pub fit : (p : Part) → nodes_fit p c ≡ are_fitting p names
 
--- one of all owners is one of each
-pub naming_of : (o : Owner) (c : Command) (names : List Operand) → IsNaming c names → IsNamingOf o c names
-naming_of o c names is = record { mine = is.offered o; foreign = is.foreign; exist = is.exist; fit = is.fit }
-
--- what holds of the page and of each component holds of all owners
-pub by_owner : (P : Owner → Type 0) → P Page → ((k : ComponentName) → P (Component k)) → (o : Owner) → P o
-by_owner P page component Page = page
-by_owner P page component (Component k) = component k
+-- what the page may say, all owners may
+pub offered : (o : Owner) (c : Command) → is_command_of Page c ≡ true → is_command_of o c ≡ true
+offered Page c h = h
+offered (Component k) c h = refl
 
 -- two lists of tests, one after the other
 joined : (busy foreign absent unknown misfit : Bool) (own : Option Refusal) →
@@ -64,24 +53,19 @@ and_last true b = sym (and_true b)
 and_last false b = refl
 
 -- for a command that names these
-pub refusal-of_own : (w : World) (o : Owner) (c : Command) (names : List Operand) → IsNamingOf o c names →
+pub refusal-naming : (w : World) (o : Owner) (c : Command) (names : List Operand) → IsNaming o c names →
     refusal w o c ≡ option_or (early_refusal w o names) (own_refusal (part_of w o) c)
-refusal-of_own w o c names is =
+refusal-naming w o c names is =
     rw (is.mine, is.foreign, is.exist (part_of w o), is.fit (part_of w o))
     (joined (is_busy w o) (has_foreign names) (not (is_there w o)) (not (are_there (part_of w o) names)) (not (are_fitting (part_of w o) names))
     (own_refusal (part_of w o) c))
 
--- for one of all owners
-pub refusal-of_names : (w : World) (o : Owner) (c : Command) (names : List Operand) → IsNaming c names →
-    refusal w o c ≡ option_or (early_refusal w o names) (own_refusal (part_of w o) c)
-refusal-of_names w o c names is = refusal-of_own w o c names (naming_of o c names is)
-
 -- ---- what each command names
 
 -- That a command names what its handler admits follows by computation and these: a handler's proof says `search namings`.
-pub ruleset namings = (by_owner, and_true, and_last)
+pub ruleset namings = (offered, and_true, and_last)
 
 -- only components may say it
-pub naming-assigned : (o : Owner) → is_page o ≡ false → (x : NodeWord) → IsNamingOf o (Command.assigned (word_view x)) (Slot x ∷ [])
+pub naming-assigned : (o : Owner) → is_page o ≡ false → (x : NodeWord) → IsNaming o (Command.assigned (word_view x)) (Slot x ∷ [])
 naming-assigned Page h x = absurd cc
 naming-assigned (Component k) h x = record { mine = refl; foreign = refl; exist = λ p. and_true _; fit = λ p. refl }

@@ -10,7 +10,6 @@ use Rattle.dom_model.specs.Slots.{signals, with_signal}
 use Rattle.dom_model.specs.World.{World, part_of, component_at, components_below, shadow_root_of, trees_with}
 use Rattle.dom_model.specs.WorldSteps.{world_step, world_after, stepped, with_removal_signals, with_notify_if, with_shadow_document}
 use Rattle.dom_admission.specs.Turned.{with_turn, turned}
-use Rattle.dom_worlds.specs.Bounds.{IsBounded}
 use Rattle.dom_mutation.specs.Doc.{DocState}
 
 module _ (t : Option Owner) where
@@ -56,7 +55,3 @@ module _ (t : Option Owner) where
   pub after_turned : (o : Owner) (w : World) (steps : List Step) → world_after o (with_turn t w) steps ≡ with_turn t (world_after o w steps)
   after_turned o w [] = refl
   after_turned o w (s ∷ steps) = ap (λ (v : World). world_after o v steps) (step_turned o w s) ∙ after_turned o (world_step o w s) steps
-
--- the ends of ranges are within their nodes also without the turn
-pub bounded-inside : (t : Option Owner) (d s : DocState) → turned t d ≡ s → IsBounded s.world → IsBounded d.world
-bounded-inside t d s seen b = subst (λ (u : DocState). IsBounded u.world) (sym seen) b

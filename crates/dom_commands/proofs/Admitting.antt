@@ -1,5 +1,6 @@
 -- How the line of a dispatch is let pass.
-use Rattle.std.proofs.Common.{◌≡◌, ℕ, Bool, true, false, not, List, [], ◌∷◌, Option, Some, None, Ok, Err, refl, sym, ap, ◌∙◌}
+use Rattle.std.proofs.Common.{◌≡◌, ℕ, Bool, true, false, not, List, [], ◌∷◌, Option, Some, None, Result, Ok, Err, refl, sym, ap, ◌∙◌}
+use Rattle.std.specs.Prelude.{IsErrAnd}
 use Rattle.std.specs.Option.{option_or}
 use Rattle.dom_base.specs.declared.Fault.{Fault}
 use Rattle.dom_base.specs.declared.Fault.TheVariants.{Refused, Memory}
@@ -22,20 +23,19 @@ use Rattle.dom_admission.specs.declared.admission.Operand.{Operand}
 use Rattle.dom_admission.specs.declared.admission.Operand.TheVariants.{Any}
 use Rattle.dom_admission.specs.Handled.{IsHandled, let_pass}
 use Rattle.dom_admission.specs.Refusals.{early_refusal}
-use Rattle.dom_admission.proofs.Handling.{passed}
-use Rattle.dom_admission.proofs.Refusing.{IsNaming, refusal-of_names, namings}
+use Rattle.dom_admission.proofs.Handling.{may_act}
+use Rattle.dom_admission.proofs.Refusing.{IsNaming, refusal-naming, namings}
 
 -- An owner's command, by what it names.
-module _ (w : World) (o : Owner) (c : Command) (names : List Operand) (is : IsNaming c names) where
+module _ (w : World) (o : Owner) (c : Command) (names : List Operand) (is : IsNaming o c names) where
   -- a command that passes is refused by its own tests alone
   pub passes : (q : Option Refusal) → let_pass (early_refusal w o names) ≡ Ok tt → q ≡ own_refusal (part_of w o) c →
       let_pass q ≡ let_pass (refusal w o c)
-  passes q pass own =
-      ap let_pass (own ∙ sym (refusal-of_names w o c names is ∙ ap (λ e. option_or e (own_refusal (part_of w o) c)) (passed (early_refusal w o names) pass)))
+  passes q pass own = ap let_pass (own ∙ sym (may_act w o c names is refl pass).own)
 
   -- one that doesn't is refused before
   pub stops : (f : Fault) → let_pass (early_refusal w o names) ≡ Err f → Err f ≡ let_pass (refusal w o c)
-  stops f h = by (early_refusal w o names) h ∙ sym (ap let_pass (refusal-of_names w o c names is))
+  stops f h = by (early_refusal w o names) h ∙ sym (ap let_pass (refusal-naming w o c names is))
     where
       by : (e : Option Refusal) → let_pass e ≡ Err f → Err f ≡ let_pass (option_or e (own_refusal (part_of w o) c))
       by None h = absurd cc
@@ -56,7 +56,7 @@ pub target_passes : (w : World) (o : Owner) (x : NodeWord) (e : EventWords) →
     early_refusal w o (Any x ∷ []) ≡ refusal w o (Command.dispatch (word_view x) e None)
 target_passes w o x e =
     let early = early_refusal w o (Any x ∷ []) in
-    sym (refusal-of_names w o (Command.dispatch (word_view x) e None) (Any x ∷ []) (search namings) ∙
+    sym (refusal-naming w o (Command.dispatch (word_view x) e None) (Any x ∷ []) (search namings) ∙
     ap (option_or early) (no_related (part_of w o).owner (part_of w o) (named (part_of w o) (word_view x))) ∙ or_none early)
 
 -- with one
@@ -75,15 +75,23 @@ module _ (w : World) (o : Owner) (x y : NodeWord) (e : EventWords) where
 -- ---- what is refused, and what is not
 
 -- a line that is refused changes nothing
-pub refused_line : (w : World) (o : Owner) (c : Command) (text : List ℕ) (f : Fault) → let_pass (refusal w o c) ≡ Err f → IsHandled o c w w text text (Err f)
-refused_line w o c text f h = by (refusal w o c) refl f h
-  where
-    by : (e : Option Refusal) → refusal w o c ≡ e → (f : Fault) → let_pass e ≡ Err f → IsHandled o c w w text text (Err f)
-    by None is f h = absurd cc
-    by (Some r) is (Refused q) h =
-        let same : r ≡ q = cc in
-        (is ∙ ap Some same, refl, refl)
-    by (Some r) is Memory h = tt
+module _ (w : World) (o : Owner) (c : Command) where
+  pub refused_line : (text : List ℕ) {f : Fault} (q : Result (Unit {0}) Fault) → let_pass (refusal w o c) ≡ Err f →
+      IsErrAnd q (λ e. e ≡ f) → IsHandled o c w w text text q
+  refused_line text (Ok x) h err = absurd err
+  refused_line text (Err e) h err = by (refusal w o c) refl e (h ∙ ap Err (sym err))
+    where
+      by : (r : Option Refusal) → refusal w o c ≡ r → (f : Fault) → let_pass r ≡ Err f → IsHandled o c w w text text (Err f)
+      by None is f h = absurd cc
+      by (Some r) is (Refused q) h =
+          let same : r ≡ q = cc in
+          (is ∙ ap Some same, refl, refl)
+      by (Some r) is Memory h = tt
+
+-- a line that is let pass has no refusal
+pub unrefused_line : (r : Option Refusal) → let_pass r ≡ Ok tt → r ≡ None
+unrefused_line None h = refl
+unrefused_line (Some r) h = absurd cc
 
 -- whoever is not refused is there
 pub unrefused_there : (w : World) (o : Owner) (c : Command) → refusal w o c ≡ None → is_there w o ≡ true

@@ -49,10 +49,6 @@ bounded-told w o b = bounded-with_part (without_signals w o) (notified (part_of 
 pub bounded-opening : (w : World) (o : Owner) → IsBounded w → IsBounded (opening_turn w o)
 bounded-opening w o b = either_way IsBounded (is_some w.turn) w (record w { turn = Some o }) b b
 
--- the listeners are left out
-pub bounded-unheard : (of : Owner → List (Listener NodeName)) (w : World) → FitsIn of w → IsBounded (heard of w) → IsBounded w
-bounded-unheard of w fits b o = let h : HasBounds (hearing of (part_of w o)) =
-    subst HasBounds (part-heard of w fits o) (b o) in record { ranges = h.ranges; leaves = h.leaves }
-
+-- without its listeners too each owner has its first node
 pub first_nodes-unheard : (of : Owner → List (Listener NodeName)) (w : World) → FitsIn of w → HasFirstNodes (heard of w) → HasFirstNodes w
 first_nodes-unheard of w fits h o there = subst (λ (p : Part). IsNodeIn p.trees (first_node p)) (part-heard of w fits o) (h o (there-heard of w o ∙ there))

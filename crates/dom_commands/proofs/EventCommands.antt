@@ -1,9 +1,8 @@
 -- The commands on listeners, in a world with listeners.
 use Rattle.std.proofs.Common.{◌≡◌, ◌≢◌, ℕ, ◌<◌, Bool, true, false, List, [], ◌∷◌, ◌++◌, length, Option, Some, None, Result, Ok, Err, refl, sym, ap}
 use Rattle.std.proofs.Common.{subst, ◌∙◌, true≢false}
-use Rattle.std.specs.Prelude.{nat_eq, is_some}
+use Rattle.std.specs.Prelude.{nat_eq, is_some, IsErrAnd}
 use Rattle.std.specs.List.{AllByRecursion}
-use Rattle.std.specs.Option.{option_or}
 use Rattle.dom_base.specs.declared.Fault.{Fault}
 use Rattle.dom_base.specs.declared.Fault.TheVariants.{Refused, Memory}
 use Rattle.dom_base.specs.declared.NodeName.{NodeName}
@@ -27,18 +26,18 @@ use Rattle.dom_text.specs.Text.{output_text}
 use Rattle.dom_tree.specs.Forest.{name_at}
 use Rattle.dom_tree.specs.Apart.{TellApart}
 use Rattle.dom_dispatch.specs.ListenersByName.{IsListenerAt}
-use Rattle.dom_admission.specs.declared.admission.Operand.{Operand}
-use Rattle.dom_admission.specs.Handled.{IsDone, IsHandled, let_pass}
+use Rattle.dom_admission.specs.Handled.{IsDone, IsHandled}
 use Rattle.dom_commands.specs.WithListeners.{heard, own_listeners}
-use Rattle.dom_admission.specs.Refusals.{early_refusal}
+use Rattle.dom_commands.specs.Machine.{MachineNow, machine_now, IsAtRest, KeepsListeners}
+use Rattle.dom_mutation.specs.Doc.{DocState}
 use Rattle.dom_commands.proofs.Dispatching.{written-heard}
 use Rattle.dom_admission.proofs.Finding.{owner-named}
-use Rattle.dom_admission.proofs.Handling.{passed, admitted, opened-there}
+use Rattle.dom_admission.proofs.Handling.{MayAct, opened-there}
 use Rattle.dom_commands.proofs.ListenerWorlds.{FitsIn, part-heard, there-heard}
 use Rattle.dom_commands.proofs.HeardCommands.{refusal-heard, opening-heard, fits-opening}
 use Rattle.dom_commands.proofs.Listening.{OwnersAreThere, fits-own, own-listened, others-listened, own-unlistened, others-unlistened, at-listened}
 use Rattle.dom_commands.proofs.Listening.{at-unlistened}
-use Rattle.dom_admission.proofs.Refusing.{IsNaming, refusal-of_names}
+use Rattle.dom_commands.proofs.Machines.{seen_at, always_at}
 
 -- ---- the turn that a command opens
 
@@ -78,19 +77,24 @@ whole-opening w o h = either_way IsWhole (is_some w.turn) w (record w { turn = S
 
 -- ---- refusals
 
--- An owner's command, in a world with the listeners of its owners.
-module _ (of : Owner → List (Listener NodeName)) (w : World) (fits : FitsIn of w) (o : Owner) (c : Command) where
-  -- a command that is refused before it begins
-  pub stopped-heard : (text : List ℕ) (f : Fault) → IsHandled o c w w text text (Err f) → IsHandled o c (heard of w) (heard of w) text text (Err f)
-  stopped-heard text (Refused r) h = (refusal-heard of w fits o c ∙ h.0, refl, refl)
-  stopped-heard text Memory h = tt
+-- In a machine at rest that is seen as this state with these listeners, a command of an owner.
+module _ (s : DocState) (ls : List (Listener ℕ)) (m : MachineNow) (seen : machine_now s ls ≡ m) (sound : IsAtRest m)
+    (there : OwnersAreThere s.names s.world) (o : Owner) (c : Command) where
+  pub refusal-seen : refusal m.world o c ≡ refusal s.world o c
+  refusal-seen =
+      ap (λ (n : MachineNow). refusal n.world o c) (sym seen) ∙
+      refusal-heard (own_listeners s.names ls) s.world (fits-own s.names s.world there ls (seen_at s ls m seen sound)) o c
 
-  -- one that passes, and has no refusal of its own
-  pub passed-heard : (names : List Operand) → IsNaming c names → let_pass (early_refusal w o names) ≡ Ok tt → own_refusal (part_of w o) c ≡ None →
-      refusal (heard of w) o c ≡ None
-  passed-heard names is pass none =
-      refusal-heard of w fits o c ∙ refusal-of_names w o c names is ∙ ap (λ e. option_or e (own_refusal (part_of w o) c))
-      (passed (early_refusal w o names) pass) ∙ none
+  -- it is refused before it begins
+  pub stopped : (text : List ℕ) (f : Fault) (q : Result (Unit {0}) Fault) → IsErrAnd q (λ e. e ≡ f) → IsHandled o c s.world s.world text text q →
+      IsHandled o c m.world m.world text text q
+  stopped text f (Ok x) err h = absurd err
+  stopped text f (Err (Refused r)) err h = (refusal-seen ∙ h.0, refl, refl)
+  stopped text f (Err Memory) err h = tt
+
+  -- it may act, and has no refusal of its own
+  pub unrefused : MayAct s.world o c → own_refusal (part_of s.world o) c ≡ None → refusal m.world o c ≡ None
+  unrefused may none = refusal-seen ∙ may.own ∙ none
 
 -- ---- listeners
 
@@ -101,10 +105,8 @@ pub record ChangesListeners (names : List NodeName) (ls now : List (Listener ℕ
   pub at : AllByRecursion (IsListenerAt names) ls
   pub at_now : AllByRecursion (IsListenerAt names) now
   pub reached : IsReached false (heard (own_listeners names ls) w)
-  -- the command names these nodes, passes, and has no refusal of its own
-  pub nodes : List Operand
-  pub is : IsNaming c nodes
-  pub pass : let_pass (early_refusal w o nodes) ≡ Ok tt
+  -- the command may act, and has no refusal of its own
+  pub may : MayAct w o c
   pub none : own_refusal (part_of w o) c ≡ None
   -- its effect is this change, which makes those of these, and leaves other owners' as they are
   pub change : List (Listener NodeName) → List (Listener NodeName)
@@ -122,7 +124,7 @@ listens changing end before after (Err Memory) done = tt
 listens {names = names} {ls = ls} {now = now} {w = w} {o = o} {c = c} changing end before after (Ok x) done =
     let of = own_listeners names ls in
     let to = own_listeners names now in
-    let here : is_there w o ≡ true = admitted w o changing.nodes changing.pass in
+    let here = changing.may.there in
     let v = opening_turn w o in
     let fits : FitsIn of w = fits-own names w changing.there ls changing.at in
     let fits_v : FitsIn of v = fits-opening of w o fits in
@@ -137,10 +139,29 @@ listens {names = names} {ls = ls} {now = now} {w = w} {o = o} {c = c} changing e
     ∙ ap (λ (u : World). (u, says o (replied nothing) ∷ []))
     (written-heard of to v fits_v fits_to reached_v o (opened-there w o here) (changing.change p.listeners) (changing.mine ∙ ap changing.change (sym hears))
     changing.others) in (
-      passed-heard of w fits o c changing.nodes changing.is changing.pass changing.none,
+      refusal-heard of w fits o c ∙ changing.may.own ∙ changing.none,
       ap (heard to) done.1 ∙ sym (ap (λ (q : Run World). q.0) run),
       done.2 ∙ sym (ap (λ (q : Run World). before ++ output_text q.1) run),
     )
+
+-- so it is in machines that are seen as these states with these listeners
+module _ (s t : DocState) (ls ms : List (Listener ℕ)) {now : List (Listener ℕ)} {o : Owner} {c : Command}
+    (changing : ChangesListeners s.names ls now s.world o c) (kept : t.names ≡ s.names) (is : ms ≡ now) where
+  pub listens_in : (m : MachineNow) → machine_now s ls ≡ m → (before after : List ℕ) (r : Result (Unit {0}) Fault) →
+      IsDone None (opening_turn s.world o, says o (replied nothing) ∷ []) s.world t.world before after r →
+      IsHandled o c m.world (machine_now t ms).world before after r
+  listens_in m seen before after r done =
+      let Done : MachineNow → List NodeName → List (Listener ℕ) → Type 0 =
+      λ n names xs. IsHandled o c n.world (heard (own_listeners names xs) t.world) before after r in
+      let here : Done (machine_now s ls) s.names now = listens changing t.world before after r done in
+      subst (λ (n : MachineNow). Done n t.names ms) seen (subst (λ (names : List NodeName). Done (machine_now s ls) names ms) (sym kept)
+      (subst (λ (xs : List (Listener ℕ)). Done (machine_now s ls) s.names xs) (sym is) here))
+
+  -- and the listeners stay at nodes
+  pub listens_at : (r : Result (Unit {0}) Fault) → KeepsListeners (machine_now t ms) r
+  listens_at r =
+      always_at (machine_now t ms) r (subst (λ (names : List NodeName). AllByRecursion (IsListenerAt names) ms) (sym kept)
+      (subst (AllByRecursion (IsListenerAt s.names)) (sym is) changing.at_now))
 
 -- an owner's parts read a spelling alike
 pub named_alike : (p q : Part) (x : NodeWord) → p.owner ≡ q.owner → named p x ≡ named q x
@@ -151,8 +172,7 @@ named_alike p q foreign e = ap (λ (o : Owner). node_of o 0) e
 module _ (names : List NodeName) (ls : List (Listener ℕ)) (w : World) (apart : TellApart names) (there : OwnersAreThere names w)
     (at : AllByRecursion (IsListenerAt names) ls)
     (reached : IsReached false (heard (own_listeners names ls) w)) (o : Owner) (x : NodeWord) (k : ℕ) (within : k < length names)
-    (name : name_at names k ≡ named (part_of w o) x)
-    (nodes : List Operand) (pass : let_pass (early_refusal w o nodes) ≡ Ok tt) where
+    (name : name_at names k ≡ named (part_of w o) x) where
   its_owner : (name_at names k).owner ≡ o
   its_owner = ap (λ (y : NodeName). y.owner) name ∙ owner-named w o x
 
@@ -160,18 +180,16 @@ module _ (names : List NodeName) (ls : List (Listener ℕ)) (w : World) (apart :
   its_name p e = named_alike p (part_of w o) x (e ∙ sym (owner-part_of w o)) ∙ sym name
 
   -- `listen`
-  pub listening : (words : ListenerWords) → IsNaming (Command.listen x words) nodes →
+  pub listening : (words : ListenerWords) → MayAct w o (Command.listen x words) →
       ChangesListeners names ls (listened nat_eq k words ls) w o (Command.listen x words)
-  listening words is =
+  listening words may =
       let y = name_at names k in
       record {
         there = there;
         at = at;
         at_now = at-listened names apart ls at k within words;
         reached = reached;
-        nodes = nodes;
-        is = is;
-        pass = pass;
+        may = may;
         none = refl;
         change = listened name_eq y words;
         runs = λ v. refl;
@@ -182,9 +200,9 @@ module _ (names : List NodeName) (ls : List (Listener ℕ)) (w : World) (apart :
       }
 
   -- `unlisten`
-  pub unlistening : (event label : Word) (capture : Bool) → IsNaming (Command.unlisten x event label capture) nodes →
+  pub unlistening : (event label : Word) (capture : Bool) → MayAct w o (Command.unlisten x event label capture) →
       ChangesListeners names ls (unlistened nat_eq k event label capture ls) w o (Command.unlisten x event label capture)
-  unlistening event label capture is =
+  unlistening event label capture may =
       let y = name_at names k in
       let less = unlistened nat_eq k event label capture ls in
       record {
@@ -192,9 +210,7 @@ module _ (names : List NodeName) (ls : List (Listener ℕ)) (w : World) (apart :
         at = at;
         at_now = at-unlistened names apart ls at k within event label capture;
         reached = reached;
-        nodes = nodes;
-        is = is;
-        pass = pass;
+        may = may;
         none = refl;
         change = unlistened name_eq y event label capture;
         runs = λ v. refl;

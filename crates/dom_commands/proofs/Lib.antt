@@ -11,6 +11,5 @@ mod HeardCommands
 mod Listening
 mod Machines
 mod Opening
-mod RangeLaws
 mod RangePlans
 mod SameWorlds

@@ -29,15 +29,14 @@ use Rattle.dom_dispatch.specs.ListenersByName.{IsListenerAt}
 use Rattle.dom_admission.specs.Handled.{IsHandled}
 use Rattle.dom_commands.specs.WithListeners.{heard, own_listeners}
 use Rattle.dom_commands.specs.Machine.{MachineNow, machine_now, IsAtRest, AreAtNodes, KeepsListeners}
-use Rattle.dom_commands.specs.RangeWorlds.{HasFirstNodes, HasLoneShadowRoots, HasRangeEnds}
+use Rattle.dom_commands.specs.RangeWorlds.{HasFirstNodes}
 use Rattle.dom_admission.specs.Handled.{BeginsWith, KeepsNames}
 use Rattle.dom_commands.specs.CommandGroups.{is_plain}
-use Rattle.dom_commands.proofs.Bounded.{bounded-unheard, first_nodes-unheard}
+use Rattle.dom_commands.proofs.Bounded.{first_nodes-unheard}
 use Rattle.dom_admission.proofs.Handling.{opened-part}
 use Rattle.dom_commands.proofs.ListenerWorlds.{FitsIn, there-heard, part-heard}
 use Rattle.dom_commands.proofs.HeardCommands.{IsNew, IsHeardPlain, handled-heard}
 use Rattle.dom_commands.proofs.Listening.{OwnersAreThere, fits-own, at-kept, own-kept}
-use Rattle.dom_commands.proofs.RangeLaws.{range_ends-unheard, shadow_roots-unheard}
 
 -- the same names
 pub begins_same : (names : List NodeName) → BeginsWith names names
@@ -108,31 +107,18 @@ seen_at s ls m seen sound = (subst IsAtRest (sym seen) sound).listeners
 pub seen_reached : (s : DocState) (ls : List (Listener ℕ)) (m : MachineNow) → machine_now s ls ≡ m → IsAtRest m → IsReached false (machine_now s ls).world
 seen_reached s ls m seen sound = (subst IsAtRest (sym seen) sound).reached
 
--- the ends of ranges are within their nodes in the world of its documents
-pub seen_bounds : (s : DocState) (ls : List (Listener ℕ)) (m : MachineNow) → machine_now s ls ≡ m → IsAtRest m → OwnersAreThere s.names s.world →
-    IsBounded s.world
-seen_bounds s ls m seen sound there =
-    bounded-unheard (own_listeners s.names ls) s.world (fits-own s.names s.world there ls (seen_at s ls m seen sound)) (subst IsAtRest (sym seen) sound).bounds
+-- and of the world of its documents
+module _ (s : DocState) (ls : List (Listener ℕ)) (m : MachineNow) (seen : machine_now s ls ≡ m) (sound : IsAtRest m)
+    (there : OwnersAreThere s.names s.world) where
+  rest : IsAtRest (machine_now s ls)
+  rest = subst IsAtRest (sym seen) sound
 
--- and each owner that is there has its first node
-pub seen_first_nodes : (s : DocState) (ls : List (Listener ℕ)) (m : MachineNow) → machine_now s ls ≡ m → IsAtRest m →
-    OwnersAreThere s.names s.world → HasFirstNodes s.world
-seen_first_nodes s ls m seen sound there =
-    first_nodes-unheard (own_listeners s.names ls) s.world (fits-own s.names s.world there ls (seen_at s ls m seen sound))
-    (subst IsAtRest (sym seen) sound).whole.first
+  fits : FitsIn (own_listeners s.names ls) s.world
+  fits = fits-own s.names s.world there ls rest.listeners
 
--- and the ends of ranges are at nodes, both of a range in one tree
-pub seen_range_ends : (s : DocState) (ls : List (Listener ℕ)) (m : MachineNow) → machine_now s ls ≡ m → IsAtRest m →
-    OwnersAreThere s.names s.world → HasRangeEnds s.world
-seen_range_ends s ls m seen sound there =
-    range_ends-unheard (own_listeners s.names ls) s.world (fits-own s.names s.world there ls (seen_at s ls m seen sound))
-    (λ o. ((subst IsAtRest (sym seen) sound).whole.tables o).ranges)
-
--- and no shadow root has a parent
-pub seen_shadow_roots : (s : DocState) (ls : List (Listener ℕ)) (m : MachineNow) → machine_now s ls ≡ m → IsAtRest m →
-    OwnersAreThere s.names s.world → HasLoneShadowRoots s.world
-seen_shadow_roots s ls m seen sound there =
-    shadow_roots-unheard (own_listeners s.names ls) s.world (fits-own s.names s.world there ls (seen_at s ls m seen sound)) (seen_reached s ls m seen sound)
+  -- each owner that is there has its first node
+  pub seen_first_nodes : HasFirstNodes s.world
+  seen_first_nodes = first_nodes-unheard (own_listeners s.names ls) s.world fits rest.whole.first
 
 -- ---- lines
 

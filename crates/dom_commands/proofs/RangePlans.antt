@@ -8,8 +8,7 @@ use Rattle.dom_base.specs.declared.Fault.TheVariants.{Refused, Memory}
 use Rattle.dom_base.specs.declared.NodeName.{NodeName}
 use Rattle.dom_base.specs.declared.Owner.{Owner}
 use Rattle.dom_base.specs.declared.Owner.TheVariants.{Page}
-use Rattle.dom_model.specs.Command.{Command, NodeWord, own_refusal}
-use Rattle.dom_model.specs.CommandNames.{named}
+use Rattle.dom_model.specs.Command.{Command}
 use Rattle.dom_model.specs.Effects.{answers}
 use Rattle.dom_model.specs.Extract.{clone_count, made_by_extracting, pieces_of}
 use Rattle.dom_model.specs.Names.{DomString, node_of}
@@ -19,12 +18,10 @@ use Rattle.dom_model.specs.RangeOps.{range_text_of}
 use Rattle.dom_model.specs.Ranges.{Range}
 use Rattle.dom_model.specs.World.{World, part_of, find_part, is_there}
 use Rattle.dom_model.proofs.PartLaws.{owner-part_of}
-use Rattle.dom_mutation.specs.Doc.{made, Makes}
-use Rattle.dom_range_ops.specs.Insertions.{inserting_node, inserting_refusal}
+use Rattle.dom_mutation.specs.Doc.{Makes}
 use Rattle.dom_range_ops.specs.Takings.{new_names}
 use Rattle.dom_tree.specs.Forest.{name_at}
 use Rattle.dom_admission.specs.Handled.{BeginsWith, KeepsNames}
-use Rattle.dom_admission.proofs.Finding.{IsKey, owner-named}
 use Rattle.dom_admission.proofs.Handling.{with_part-same}
 
 -- names that stay in front of others are kept, however a command ends
@@ -83,15 +80,3 @@ module _ (names more : List NodeName) (w : World) (o : Owner) (k : ℕ) (known :
       front : (xs ys : List NodeName) → take (length xs) (xs ++ ys) ≡ xs
       front [] ys = refl
       front (x ∷ xs) ys = ap (λ zs. x ∷ zs) (front xs ys)
-
-module _ (names : List NodeName) (w : World) (o : Owner) (k : ℕ) (x : NodeWord) (node : ℕ) (node_is : IsKey names w o node x) where
-  -- the node that is inserted is the owner's
-  pub inserted-own : (name_at names node).owner ≡ o
-  inserted-own = ap (λ (y : NodeName). y.owner) node_is ∙ owner-named w o x
-
-  -- the refusal of its insertion, and what that does
-  pub inserted-refused : inserting_refusal (part_of w o) k (name_at names node) ≡ own_refusal (part_of w o) (Command.insert_node k x)
-  inserted-refused = rw node_is refl
-
-  pub inserted-made : (new : World) → new ≡ made o (inserting_node k (name_at names node)) w → new ≡ made o (λ p. inserting_node k (named p x) p) w
-  inserted-made new e = rw node_is at e

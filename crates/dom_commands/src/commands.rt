@@ -1,9 +1,8 @@
 //! Which handler does a command.
 ghost use Rattle.std.specs.Prelude.{◌≡◌, true, false};
-ghost use Rattle.dom_worlds.specs.Bounds.{IsBounded};
 ghost use Rattle.dom_reader.specs.Views.{command_view};
 ghost use Rattle.dom_admission.specs.Handled.{IsHandled, KeepsNames};
-ghost use Rattle.dom_commands.specs.RangeWorlds.{HasFirstNodes, HasLoneShadowRoots, HasRangeEnds};
+ghost use Rattle.dom_commands.specs.RangeWorlds.{HasFirstNodes};
 ghost use Rattle.dom_commands.specs.CommandGroups.{is_plain, is_change};
 
 use crate::ranging::perform_on_range;
@@ -21,10 +20,7 @@ pub(crate) fn perform(
     out: &mut Vec<u8>,
 ) -> Result<(), Fault>
     requires plain { is_plain (command_view command) ≡ true }
-    requires bounds { IsBounded state.old.world }
     requires first { HasFirstNodes state.old.world }
-    requires ends { HasRangeEnds state.old.world }
-    requires roots { HasLoneShadowRoots state.old.world }
     ensures handled { IsHandled owner (command_view command) state.old.world state.new.world out.old.items out.new.items result }
     ensures names { KeepsNames state.old.names state.new.names result }
 {
@@ -66,10 +62,7 @@ pub(crate) fn perform(
 fn ask(state: &mut State, owner: Owner, command: Command, out: &mut Vec<u8>) -> Result<(), Fault>
     requires plain { is_plain (command_view command) ≡ true }
     requires unchanging { is_change (command_view command) ≡ false }
-    requires bounds { IsBounded state.old.world }
     requires first { HasFirstNodes state.old.world }
-    requires ends { HasRangeEnds state.old.world }
-    requires roots { HasLoneShadowRoots state.old.world }
     ensures handled { IsHandled owner (command_view command) state.old.world state.new.world out.old.items out.new.items result }
     ensures names { KeepsNames state.old.names state.new.names result }
 {

@@ -3,10 +3,9 @@ ghost use Rattle.std.specs.Prelude.{◌≡◌, true};
 ghost use Rattle.dom_model.specs.Command.{range_new, range_start, range_end, range_collapse, range_drop, range_get, range_text};
 ghost use Rattle.dom_model.specs.Command.{extract as extract_command, delete as delete_command, insert_node as insert_node_command};
 ghost use Rattle.dom_model.specs.Ranges.{at};
-ghost use Rattle.dom_worlds.specs.Bounds.{IsBounded};
 ghost use Rattle.dom_printer.specs.Replies.{boundary_view};
 ghost use Rattle.dom_reader.specs.Views.{command_view, word_view};
-ghost use Rattle.dom_commands.specs.RangeWorlds.{HasFirstNodes, HasLoneShadowRoots, HasRangeEnds};
+ghost use Rattle.dom_commands.specs.RangeWorlds.{HasFirstNodes};
 ghost use Rattle.dom_admission.specs.Handled.{KeepsNames, IsHandled};
 ghost use Rattle.dom_commands.specs.CommandGroups.{is_range};
 ghost use Rattle.dom_mutation.specs.Doc.{HoldsNode, name_in};
@@ -26,10 +25,7 @@ pub(crate) fn perform_on_range(
     out: &mut Vec<u8>,
 ) -> Result<(), Fault>
     requires range { is_range (command_view command) ≡ true }
-    requires bounds { IsBounded state.old.world }
     requires first { HasFirstNodes state.old.world }
-    requires ends { HasRangeEnds state.old.world }
-    requires roots { HasLoneShadowRoots state.old.world }
     ensures handled { IsHandled owner (command_view command) state.old.world state.new.world out.old.items out.new.items result }
     ensures names { KeepsNames state.old.names state.new.names result }
 {
@@ -166,8 +162,6 @@ fn text_of_range(
     number: u32,
     out: &mut Vec<u8>,
 ) -> Result<(), Fault>
-    requires bounds { IsBounded state.old.world }
-    requires ends { HasRangeEnds state.old.world }
     ensures handled { IsHandled owner (range_text number) state.old.world state.new.world out.old.items out.new.items result }
     ensures names { KeepsNames state.old.names state.new.names result }
 {
@@ -178,9 +172,6 @@ fn text_of_range(
 
 /// `extract R`: what a range contains goes into a new fragment, with clones of the nodes that it contains in part.
 fn extract(state: &mut State, owner: Owner, number: u32, out: &mut Vec<u8>) -> Result<(), Fault>
-    requires bounds { IsBounded state.old.world }
-    requires ends { HasRangeEnds state.old.world }
-    requires roots { HasLoneShadowRoots state.old.world }
     ensures handled { IsHandled owner (extract_command number) state.old.world state.new.world out.old.items out.new.items result }
     ensures names { KeepsNames state.old.names state.new.names result }
 {
@@ -192,8 +183,6 @@ fn extract(state: &mut State, owner: Owner, number: u32, out: &mut Vec<u8>) -> R
 
 /// `delete R`: what a range contains goes.
 fn delete(state: &mut State, owner: Owner, number: u32, out: &mut Vec<u8>) -> Result<(), Fault>
-    requires bounds { IsBounded state.old.world }
-    requires ends { HasRangeEnds state.old.world }
     ensures handled { IsHandled owner (delete_command number) state.old.world state.new.world out.old.items out.new.items result }
     ensures names { KeepsNames state.old.names state.new.names result }
 {
@@ -210,8 +199,6 @@ fn insert_node(
     node: NodeWord,
     out: &mut Vec<u8>,
 ) -> Result<(), Fault>
-    requires bounds { IsBounded state.old.world }
-    requires ends { HasRangeEnds state.old.world }
     ensures handled { IsHandled owner (insert_node_command number (word_view node)) state.old.world state.new.world out.old.items out.new.items result }
     ensures names { KeepsNames state.old.names state.new.names result }
 {

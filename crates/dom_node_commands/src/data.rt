@@ -1,6 +1,5 @@
 //! The commands on the data of Texts and Comments, and on the text below a node.
 ghost use Rattle.dom_model.specs.Command.{set_data, replace_data, split, set_text, normalize};
-ghost use Rattle.dom_worlds.specs.Bounds.{IsBounded};
 ghost use Rattle.dom_reader.specs.Views.{word_view};
 ghost use Rattle.dom_admission.specs.Handled.{KeepsNames, IsHandled};
 
@@ -17,7 +16,6 @@ pub fn set_data(
     text: DomStr,
     out: &mut Vec<u8>,
 ) -> Result<(), Fault>
-    requires bounds { IsBounded state.old.world }
     ensures handled { IsHandled owner (set_data (word_view node) text.items) state.old.world state.new.world out.old.items out.new.items result }
     ensures names { KeepsNames state.old.names state.new.names result }
 {
@@ -37,7 +35,6 @@ pub fn replace_data(
     text: DomStr,
     out: &mut Vec<u8>,
 ) -> Result<(), Fault>
-    requires bounds { IsBounded state.old.world }
     ensures handled { IsHandled owner (replace_data (word_view node) offset count text.items) state.old.world state.new.world out.old.items
         out.new.items result }
     ensures names { KeepsNames state.old.names state.new.names result }
@@ -58,7 +55,6 @@ pub fn split(
     offset: u32,
     out: &mut Vec<u8>,
 ) -> Result<(), Fault>
-    requires bounds { IsBounded state.old.world }
     ensures handled { IsHandled owner (split (word_view node) offset) state.old.world state.new.world out.old.items out.new.items result }
     ensures names { KeepsNames state.old.names state.new.names result }
 {
@@ -78,7 +74,6 @@ pub fn set_text(
     text: DomStr,
     out: &mut Vec<u8>,
 ) -> Result<(), Fault>
-    requires bounds { IsBounded state.old.world }
     ensures handled { IsHandled owner (set_text (word_view node) text.items) state.old.world state.new.world out.old.items out.new.items result }
     ensures names { KeepsNames state.old.names state.new.names result }
 {
@@ -95,7 +90,6 @@ pub fn normalize(
     node: NodeWord,
     out: &mut Vec<u8>,
 ) -> Result<(), Fault>
-    requires bounds { IsBounded state.old.world }
     ensures handled { IsHandled owner (normalize (word_view node)) state.old.world state.new.world out.old.items out.new.items result }
     ensures names { KeepsNames state.old.names state.new.names result }
 {

@@ -1,13 +1,13 @@
 //! The commands that make a node, alone.
-ghost use Rattle.std.specs.Prelude.{◌≡◌, true, false, string_bytes};
+ghost use Rattle.std.specs.Prelude.{◌≡◌, false, [], string_bytes};
 ghost use Rattle.std.specs.Option.{option_map, ForSome};
-ghost use Rattle.dom_model.specs.Tree.{is_document, is_shadow};
+ghost use Rattle.dom_model.specs.Tree.{is_document, is_shadow, is_element, has_data};
 ghost use Rattle.dom_model.specs.Command.{new_element, new_text, new_comment, new_fragment, new_document};
 ghost use Rattle.dom_model.specs.Effects.{new_document_of};
-ghost use Rattle.dom_model.specs.World.{part_of, is_there};
-ghost use Rattle.dom_admission.specs.Handled.{KeepsNames, IsDone, IsHandled};
+ghost use Rattle.dom_model.specs.World.{part_of};
+ghost use Rattle.dom_admission.specs.Handled.{KeepsNames, IsHandled};
 ghost use Rattle.dom_node_commands.specs.Making.{making, document_for};
-ghost use Rattle.dom_mutation.specs.Doc.{HoldsNode, adding_refusal, name_in};
+ghost use Rattle.dom_mutation.specs.Doc.{HoldsNode, name_in};
 
 use dom_admission::State;
 use dom_base::{DomStr, Fault, Kind, Owner};
@@ -27,7 +27,6 @@ pub fn new_element(
     ensures handled { IsHandled owner (new_element (string_bytes name)) state.old.world state.new.world out.old.items out.new.items result }
     ensures names { KeepsNames state.old.names state.new.names result }
 {
-    state.admit(owner, &[])?;
     let text = Vec::new(state.alloc);
     make(state, owner, Kind::Element, name, text, out)
 }
@@ -42,7 +41,6 @@ pub fn new_text(
     ensures handled { IsHandled owner (new_text text.items) state.old.world state.new.world out.old.items out.new.items result }
     ensures names { KeepsNames state.old.names state.new.names result }
 {
-    state.admit(owner, &[])?;
     let element = String::new(state.alloc);
     make(state, owner, Kind::Text, element, text, out)
 }
@@ -57,7 +55,6 @@ pub fn new_comment(
     ensures handled { IsHandled owner (new_comment text.items) state.old.world state.new.world out.old.items out.new.items result }
     ensures names { KeepsNames state.old.names state.new.names result }
 {
-    state.admit(owner, &[])?;
     let element = String::new(state.alloc);
     make(state, owner, Kind::Comment, element, text, out)
 }
@@ -67,7 +64,6 @@ pub fn new_fragment(state: &mut State, owner: Owner, out: &mut Vec<u8>) -> Resul
     ensures handled { IsHandled owner new_fragment state.old.world state.new.world out.old.items out.new.items result }
     ensures names { KeepsNames state.old.names state.new.names result }
 {
-    state.admit(owner, &[])?;
     let (element, text) = (String::new(state.alloc), Vec::new(state.alloc));
     make(state, owner, Kind::Fragment, element, text, out)
 }
@@ -77,12 +73,12 @@ pub fn new_document(state: &mut State, owner: Owner, out: &mut Vec<u8>) -> Resul
     ensures handled { IsHandled owner new_document state.old.world state.new.world out.old.items out.new.items result }
     ensures names { KeepsNames state.old.names state.new.names result }
 {
-    state.admit(owner, &[])?;
     let (element, text) = (String::new(state.alloc), Vec::new(state.alloc));
     make(state, owner, Kind::Document, element, text, out)
 }
 
-/// Makes a node of an owner without attributes, and replies with it. It is refused as the new node is.
+/// Does the command that makes a node of this kind, with this local name if it is an element and with this text if it is a Text or
+/// a Comment, and replies with the node.
 fn make(
     state: &mut State,
     owner: Owner,
@@ -91,12 +87,13 @@ fn make(
     text: DomStr,
     out: &mut Vec<u8>,
 ) -> Result<(), Fault>
-    requires owner_is_there { is_there state.old.world owner ≡ true }
     requires no_shadow { is_shadow kind ≡ false }
-    ensures done { IsDone (adding_refusal (part_of state.old.world owner) kind (string_bytes element))
-        (making owner kind (string_bytes element) text.items state.old.world) state.old.world state.new.world out.old.items out.new.items result }
+    requires nameless { is_element kind ≡ false → string_bytes element ≡ [] }
+    requires textless { has_data kind ≡ false → text.items ≡ [] }
+    ensures handled { IsHandled owner (making kind (string_bytes element) text.items) state.old.world state.new.world out.old.items out.new.items result }
     ensures names { KeepsNames state.old.names state.new.names result }
 {
+    state.admit(owner, &[])?;
     let node = NodeData {
         kind,
         element,

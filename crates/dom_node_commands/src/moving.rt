@@ -1,6 +1,5 @@
 //! The commands that move nodes.
 ghost use Rattle.dom_model.specs.Command.{append, insert, replace, remove, adopt};
-ghost use Rattle.dom_worlds.specs.Bounds.{IsBounded};
 ghost use Rattle.dom_reader.specs.Views.{word_view};
 ghost use Rattle.dom_admission.specs.Handled.{KeepsNames, IsHandled};
 
@@ -17,7 +16,6 @@ pub fn append(
     node: NodeWord,
     out: &mut Vec<u8>,
 ) -> Result<(), Fault>
-    requires bounds { IsBounded state.old.world }
     ensures handled { IsHandled owner (append (word_view parent) (word_view node)) state.old.world state.new.world out.old.items out.new.items result }
     ensures names { KeepsNames state.old.names state.new.names result }
 {
@@ -36,7 +34,6 @@ pub fn insert(
     child: NodeWord,
     out: &mut Vec<u8>,
 ) -> Result<(), Fault>
-    requires bounds { IsBounded state.old.world }
     ensures handled { IsHandled owner (insert (word_view parent) (word_view node) (word_view child)) state.old.world state.new.world
         out.old.items out.new.items result }
     ensures names { KeepsNames state.old.names state.new.names result }
@@ -62,7 +59,6 @@ pub fn replace(
     child: NodeWord,
     out: &mut Vec<u8>,
 ) -> Result<(), Fault>
-    requires bounds { IsBounded state.old.world }
     ensures handled { IsHandled owner (replace (word_view parent) (word_view node) (word_view child)) state.old.world state.new.world
         out.old.items out.new.items result }
     ensures names { KeepsNames state.old.names state.new.names result }

@@ -1,5 +1,4 @@
 mod Connecting
-mod CursorLaws
 mod Notices
 mod ObserverLaws
 mod Places

@@ -24,7 +24,6 @@ use Rattle.dom_selectors.specs.Reads.{IsRefusalWhere}
 use Rattle.dom_tree.specs.Owners.{AreOwned, trees_of_owner}
 use Rattle.dom_tree.proofs.Owned.{read_own, stays_own}
 use Rattle.dom_laws.proofs.Lists.{In, is_in-from, In-right, before-in, after-in, filter-same, last_split}
-use Rattle.dom_admission.proofs.OwnRefusals.{lone_holds}
 
 -- ---- tests that agree
 
@@ -162,7 +161,7 @@ pub unread : {text units : List ℕ} (f : Fault) → units ≡ text → IsRefusa
     first_refusal ((is_none (parse_selectors text), Selector) ∷ []) ≡ Some r
 unread {text = text} {units = units} f same none r e =
     let h = subst (IsRefusalWhere (parse_selectors units ≡ None)) e none in
-    lone_holds (is_none (parse_selectors text)) Selector (ap (λ (u : List ℕ). is_none (parse_selectors u)) (sym same) ∙ ap is_none h.1) ∙ ap Some (sym h.0)
+    ap (λ (b : Bool). first_refusal ((b, Selector) ∷ [])) (ap (λ (u : List ℕ). is_none (parse_selectors u)) (sym same) ∙ ap is_none h.1) ∙ ap Some (sym h.0)
 
 module _ (text units : List ℕ) (s : List Complex) (same : units ≡ text) (read : parse_selectors units ≡ Some s) where
   -- one that is read is not

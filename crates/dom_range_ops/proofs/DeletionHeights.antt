@@ -54,7 +54,7 @@ depth-height f k = by (place_from 0 f.trees (name_at f.names k)) (inclusive_ance
 
 module _ (ts : Trees) (once : Once ts) where
   -- what is above a node is no higher than it is deep
-  above-less : (a x : NodeName) → Has ts x → In a (inclusive_ancestors ts x) → length (inclusive_ancestors ts a) ≤ length (inclusive_ancestors ts x)
+  pub above-less : (a x : NodeName) → Has ts x → In a (inclusive_ancestors ts x) → length (inclusive_ancestors ts a) ≤ length (inclusive_ancestors ts x)
   above-less a x h i =
       let long = ap (length {A = NodeName}) (above-split ts a x once h i) ∙ length-append (items_before name_eq a (inclusive_ancestors ts x))
       (inclusive_ancestors ts a) in
@@ -88,10 +88,6 @@ module _ (ts : Trees) (once : Once ts) where
 -- ---- keys
 
 module _ (f : NamedTrees) (once : StandOnce f) (only : StandAlone f) where
-  -- each node has itself
-  pub height-node : (k : ℕ) → k < length f.names → 0 < height_at f k
-  height-node k node = let long = ap (length {A = NodeName}) (above-present f.trees (name_at f.names k) (Has-forest f once k node)).1 in omega (arith, long)
-
   -- a parent has one fewer
   pub height-up : (k p : ℕ) → k < length f.names → Some (name_at f.names p) ≡ parent_of f.trees (name_at f.names k) → height_at f k ≡ height_at f p + 1
   height-up k p node e =

@@ -3,26 +3,25 @@ use Rattle.std.proofs.Common.{◌≡◌, ◌⊎◌, inl, inr, ℕ, ◌<◌, Bool
 use Rattle.std.proofs.Common.{ap, subst, ◌∙◌, arith, true≢false, length-append}
 use Rattle.std.specs.Prelude.{filter}
 use Rattle.std.specs.Option.{option_map_or}
-use Rattle.std.proofs.lemmas.Bool.{cases_Bool, and_parts, false_from_ne_true, le-ltb, lt-ltb, leb-false, lt-leb, cond-false}
+use Rattle.std.proofs.lemmas.Bool.{cases_Bool, and_parts, false_from_ne_true, le-ltb, lt-ltb, lt-leb, cond-false}
 use Rattle.dom_base.specs.declared.NodeName.{NodeName}
 use Rattle.dom_model.specs.Names.{name_eq, items_before, items_after}
 use Rattle.dom_model.specs.Place.{boundary_place, is_before, place_of}
 use Rattle.dom_model.specs.Ranges.{Range, at, is_contained}
 use Rattle.dom_model.specs.Tree.{Trees, node_in, kind_of, has_data, children_of, inclusive_descendants, inclusive_ancestors, is_inclusive_ancestor}
 use Rattle.dom_model.specs.Tree.{root_of, length_of, parent_of}
-use Rattle.dom_ranges.proofs.Before.{before-same, before-up, before-down, before-beside}
+use Rattle.dom_ranges.proofs.Before.{before-same, before-up, before-down}
 use Rattle.dom_laws.proofs.Children.{In-names, Has-names}
-use Rattle.dom_laws.proofs.Lists.{In, In-from, In-parts, split_at, filter-none, Single, Single-apart}
+use Rattle.dom_laws.proofs.Lists.{In, In-from, split_at, filter-none, Single, Single-apart}
 use Rattle.dom_laws.proofs.Steps.{within-itself}
-use Rattle.dom_laws.proofs.Order.{IsWithin, stands_in, all_single, below, here, splits, inside-test}
+use Rattle.dom_laws.proofs.Order.{IsWithin, stands_in, all_single, below, here}
 use Rattle.dom_laws.proofs.Shapes.{Has-above, Has-subtree, above-parent, above-root, above-from_below, below-from_above}
-use Rattle.dom_laws.specs.Within.{ahead_of, beyond}
 use Rattle.dom_model.proofs.ListOrder.{before-less, before-turned}
 use Rattle.dom_range_ops.specs.Texts.{nodes_around}
 use Rattle.dom_range_ops.proofs.OneTree.{root-above, root-path}
 use Rattle.dom_range_ops.proofs.OwnTexts.{around-root}
-use Rattle.dom_range_ops.proofs.Parting.{joined-in, under-kid, behind-apart, ahead-apart}
-use Rattle.dom_range_ops.proofs.Between.{IsBounded, IsBetween, member-within, end-within, start-within, start-out, end-node-out}
+use Rattle.dom_range_ops.proofs.Parting.{joined-in, under-kid}
+use Rattle.dom_range_ops.proofs.Between.{IsBounded, member-within, end-within, start-within, start-out, end-node-out}
 
 -- no Text and no Comment of a range's tree has children
 abbrev pub HasLeaves : Trees → Range NodeName → Type 0
@@ -93,31 +92,6 @@ module _ (ts : Trees) (r : Range NodeName) (bounded : IsBounded ts r) where
   -- so that is not contained
   pub start-above-out : (a : NodeName) → In a (inclusive_ancestors ts r.start.node) → is_contained ts r a ≡ false
   start-above-out a i = start-out ts r bounded a (start-above a i)
-
-  -- a node between that is not above the end is contained
-  pub between-in : (x : NodeName) → IsBetween ts r x → is_inclusive_ancestor ts x r.end.node ≡ false → is_contained ts r x ≡ true
-  between-in x m other =
-      let w = member-within ts r bounded x m.around in
-      let i : In r.end.node (ahead_of ts root x ++ (inclusive_descendants ts x ++ beyond ts root x)) = subst (In r.end.node) (splits ts root x w) end-in in
-      ap (λ b. b && is_before ts (at x (length_of ts x)) r.end) m.start
-      ∙ elim (In-parts r.end.node (ahead_of ts root x) (inclusive_descendants ts x ++ beyond ts root x) i) [
-        | inl j ↦ elim (ahead-apart ts bounded.ends.once root x r.end.node w j) [
-          | inl p ↦
-              absurd (true≢false (sym (before-beside ts r.end.node x r.end.offset 0 p.common p.first p.second
-              (p.first_rest, p.first_place) (p.second_rest, p.second_place) (λ same. let l = p.less in omega (arith, l, same)) ∙
-              lt-ltb p.first p.second p.less) ∙ m.end))
-          | inr u ↦
-              before-up ts x r.end.node (length_of ts x) r.end.offset u.child u.rest u.place
-              ∙ lt-ltb u.child r.end.offset (leb-false r.end.offset u.child (sym (before-down ts r.end.node x r.end.offset 0 u.child u.rest u.place) ∙ m.end))
-        ]
-        | inr j ↦ elim (In-parts r.end.node (inclusive_descendants ts x) (beyond ts root x) j) [
-          | inl g ↦ absurd (true≢false (sym (inside-test ts x r.end.node bounded.ends.once (stands_in ts root x w) g) ∙ other))
-          | inr g ↦
-              let p = behind-apart ts bounded.ends.once root x r.end.node w g in
-              before-beside ts x r.end.node (length_of ts x) r.end.offset p.common p.first p.second
-              (p.first_rest, p.first_place) (p.second_rest, p.second_place) (λ same. let l = p.less in omega (arith, l, same)) ∙ lt-ltb p.first p.second p.less
-        ]
-      ]
 
   module _ (leaves : HasLeaves ts r) where
     -- a node with children is as long as these are many

@@ -26,7 +26,7 @@ use Rattle.dom_range_ops.proofs.OwnTexts.{contained-own, around-own, around-owne
 use Rattle.dom_range_ops.proofs.DeletionOrder.{is_outermost}
 
 -- the outermost contained nodes are in the range's tree
-outermost-tree : (ts : Trees) (r : Range NodeName) → HasOneTree ts r → outermost_contained ts r ≡ filter (is_outermost ts r) (nodes_around ts r)
+pub outermost-tree : (ts : Trees) (r : Range NodeName) → HasOneTree ts r → outermost_contained ts r ≡ filter (is_outermost ts r) (nodes_around ts r)
 outermost-tree ts r ends =
     filter-tree ts ends.once
     (Has-above ts (root_of ts r.start.node) r.start.node ends.once ends.start (root-above ts r.start.node ends.start))

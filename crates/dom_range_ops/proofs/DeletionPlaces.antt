@@ -1,9 +1,9 @@
 -- Where a range stands after its contents were taken.
-use Rattle.std.proofs.Common.{◌≡◌, ◌⊎◌, ℕ, eqb, true≢false, inl, inr, suc, true, false, not, List, [], ◌∷◌, ◌++◌, length, Bool, Option, Some, None}
+use Rattle.std.proofs.Common.{◌≡◌, ◌⊎◌, true≢false, inl, inr, suc, true, false, not, List, [], ◌∷◌, ◌++◌, length, Bool, Option, Some, None}
 use Rattle.std.proofs.Common.{refl, sym, ap, subst, ◌∙◌, arith, append_assoc, length-append}
 use Rattle.std.specs.Prelude.{filter, unwrap_or}
 use Rattle.std.specs.Option.{option_map_or}
-use Rattle.std.proofs.lemmas.Bool.{cases_Bool, cond-false, false_from_ne_true, eqb-true, eq-eqb}
+use Rattle.std.proofs.lemmas.Bool.{cases_Bool, cond-false, false_from_ne_true}
 use Rattle.std.proofs.lemmas.List.Elements.{filter-append}
 use Rattle.dom_base.specs.declared.NodeName.{NodeName}
 use Rattle.dom_model.specs.Extract.{behind_node}
@@ -19,10 +19,6 @@ use Rattle.dom_laws.proofs.Counts.{Once}
 use Rattle.dom_laws.proofs.Shapes.{Has, Has-above, above-parent, above-root, above-present, below-from_above}
 use Rattle.dom_range_ops.specs.Texts.{nodes_around}
 use Rattle.dom_range_ops.proofs.OneTree.{root-above, root-path}
-
--- a test of keys the other way round
-pub eqb-turned : (j k : ℕ) → eqb j k ≡ false → eqb k j ≡ false
-eqb-turned j k e = false_from_ne_true (eqb k j) (λ t. true≢false (sym (eq-eqb j k (sym (eqb-true k j t))) ∙ e))
 
 -- what passes alone is not above the other node
 pub not_above : (ts : Trees) (e low : NodeName) → filter (λ a. not (is_inclusive_ancestor ts a e)) (inclusive_ancestors ts low) ≡ low ∷ [] →

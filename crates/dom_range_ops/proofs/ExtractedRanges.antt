@@ -1,7 +1,6 @@
 -- The extraction of a live range of a `Doc`: what its pieces are, that they may be taken, and what is left.
-use Rattle.std.proofs.Common.{◌≡◌, ◌≤◌, ◌+◌, ℕ, suc, true, false, List, [], ◌∷◌, ◌++◌, length, map, Option, Some, None, sym, ap}
+use Rattle.std.proofs.Common.{◌≡◌, ◌≤◌, ◌+◌, ℕ, suc, true, false, List, [], ◌∷◌, ◌++◌, map, Option, Some, None, sym, ap}
 use Rattle.std.proofs.Common.{subst, ◌∙◌, refl, arith}
-use Rattle.std.specs.List.{AllByRecursion}
 use Rattle.std.specs.Option.{ForSome, option_map_or}
 use Rattle.std.proofs.lemmas.Bool.{ltb-false}
 use Rattle.dom_base.specs.declared.NodeName.{NodeName}
@@ -23,27 +22,28 @@ use Rattle.dom_model.specs.WorldSteps.{world_after}
 use Rattle.dom_mutation.specs.Doc.{DocState, made, name_in, trees_in}
 use Rattle.dom_ranges.specs.declared.table.Points.{Points}
 use Rattle.dom_range_ops.specs.declared.pieces.Piece.{Piece}
-use Rattle.dom_range_ops.specs.declared.pieces.Piece.TheVariants.{Whole, Cut, Clone, End}
+use Rattle.dom_range_ops.specs.Deletions.{IsOfPoints}
 use Rattle.dom_range_ops.specs.Extractions.{ShadowRootsHaveNoParent, extracting_items}
-use Rattle.dom_range_ops.specs.Pieces.{Item, item_in, items_of, made_by, IsPieceIn}
-use Rattle.dom_range_ops.specs.Takings.{new_names, MayTake, IsPieceOf}
+use Rattle.dom_range_ops.specs.Pieces.{Item, item_in, items_of, made_by}
+use Rattle.dom_range_ops.specs.Takings.{new_names, MayTake}
 use Rattle.dom_range_ops.specs.Texts.{range_at_points}
-use Rattle.dom_range_ops.proofs.DeletionDocs.{IsOfPoints}
 use Rattle.dom_range_ops.proofs.PieceSteps.{made-pieces}
 use Rattle.dom_range_ops.proofs.TakingItems.{items-extracting}
 use Rattle.dom_range_ops.proofs.TakingRanges.{extract-may_take}
 
--- pieces whose nodes are below a number are pieces of as many names
-pub pieces-of_names : (names : List NodeName) (pieces : List Piece) → AllByRecursion (IsPieceIn (length names)) pieces → AllByRecursion (IsPieceOf names) pieces
-pieces-of_names names [] h = tt
-pieces-of_names names (Whole x ∷ ps) h = (h.0, pieces-of_names names ps h.1)
-pieces-of_names names (Cut x from to ∷ ps) h = (h.0, pieces-of_names names ps h.1)
-pieces-of_names names (Clone x ∷ ps) h = (h.0, pieces-of_names names ps h.1)
-pieces-of_names names (End ∷ ps) h = (tt, pieces-of_names names ps h.1)
+-- an owner's live range of a number, and its pieces
+pub record RangePieces : Type 0 where
+  pub doc : DocState
+  pub owner : Owner
+  pub number : ℕ
+  pub points : Points
+  pub here : IsOfPoints doc owner number points
+  pub pieces : List Piece
+  pub value : map (item_in doc.names) pieces ≡ items_of (pieces_of (trees_in doc points.start.0) (range_at_points doc.names points))
 
--- In a state: the points of an owner's live range, and its pieces.
-module _ (d : DocState) (o : Owner) (k : ℕ) (points : Points) (here : IsOfPoints d o k points) (pieces : List Piece)
-    (value : map (item_in d.names) pieces ≡ items_of (pieces_of (trees_in d points.start.0) (range_at_points d.names points))) where
+module _ (m : RangePieces) where
+  open m use {doc as d, owner as o, number as k, points, here, pieces, value}
+
   abbrev p : Part
   p = part_of d.world o
 

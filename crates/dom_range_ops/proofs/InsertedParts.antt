@@ -1,5 +1,6 @@
 -- What an owner's plan keeps of the nodes that it does not name, in the state that it leaves.
-use Rattle.std.proofs.Common.{◌≡◌, ℕ, true, false, Option, sym, ap, subst, ◌∙◌}
+use Rattle.std.proofs.Common.{◌≡◌, ℕ, Bool, true, false, Option, sym, ap, subst, ◌∙◌}
+use Rattle.dom_base.specs.declared.Kind.{Kind}
 use Rattle.dom_base.specs.declared.NodeName.{NodeName}
 use Rattle.dom_base.specs.declared.Owner.{Owner}
 use Rattle.dom_worlds.proofs.CommandLemmas.{has_node-times}
@@ -7,7 +8,7 @@ use Rattle.dom_worlds.proofs.PlanLemmas.{Changed}
 use Rattle.dom_model.specs.Changes.{Plan}
 use Rattle.dom_model.specs.Part.{Part}
 use Rattle.dom_model.specs.Steps.{after}
-use Rattle.dom_model.specs.Tree.{Trees, kind_of, has_data, has_node}
+use Rattle.dom_model.specs.Tree.{Trees, kind_of, has_node}
 use Rattle.dom_model.specs.World.{World, part_of}
 use Rattle.dom_mutation.specs.Doc.{DocState, made, name_in, owner_in, trees_in}
 use Rattle.dom_mutation.specs.Hosting.{PlansOwn, IsAlone}
@@ -27,11 +28,11 @@ module _ (d e : DocState) (o : Owner) (f : Plan) (alone : IsAlone d.world o) (ow
   now-at P k name owner h = subst (λ (z : NodeName). P (part_of e.world z.owner).trees z) (sym name)
       (subst (λ w. P (part_of e.world w).trees (name_in d k)) (sym owner) h)
 
-  -- a node without data has none
-  pub open-kept : {spot : Option NodeName} → Changed spot p (after p (f p)) → (k : ℕ) → name_in e k ≡ name_in d k → owner_in d k ≡ o →
-      has_node p.trees (name_in d k) ≡ true → has_data (kind_of p.trees (name_in d k)) ≡ false
-      → has_data (kind_of (trees_in e k) (name_in e k)) ≡ false
-  open-kept changed k name owner there plain =
-      now-at (λ ts x. has_data (kind_of ts x) ≡ false) k name owner
-      (ap (λ (q : Part). has_data (kind_of q.trees (name_in d k))) part-now ∙
-      ap has_data (changed.kinds (name_in d k) (has_node-times p.trees (name_in d k) there)) ∙ plain)
+  -- what is told of a node's kind
+  pub kind-kept : (is : Kind → Bool) {spot : Option NodeName} → Changed spot p (after p (f p)) → (k : ℕ) →
+      (name_in e k ≡ name_in d k) × (owner_in d k ≡ o) → has_node p.trees (name_in d k) ≡ true → is (kind_of p.trees (name_in d k)) ≡ false
+      → is (kind_of (trees_in e k) (name_in e k)) ≡ false
+  kind-kept is changed k same there plain =
+      now-at (λ ts x. is (kind_of ts x) ≡ false) k same.0 same.1
+      (ap (λ (q : Part). is (kind_of q.trees (name_in d k))) part-now ∙
+      ap is (changed.kinds (name_in d k) (has_node-times p.trees (name_in d k) there)) ∙ plain)

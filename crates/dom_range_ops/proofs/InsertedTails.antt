@@ -1,44 +1,55 @@
 -- After a Text was split that is a child of a parent: what is kept, and the tail.
-use Rattle.std.proofs.Common.{◌≡◌, ◌<◌, ℕ, ◌+◌, true, false, List, [], ◌∷◌, ◌++◌, length, Some, sym, ap, subst, ◌∙◌, arith}
+use Rattle.std.proofs.Common.{◌≡◌, ◌<◌, ℕ, Bool, true, false, [], ◌∷◌, ◌++◌, length, Some, is_some, sym, ap, subst, ◌∙◌, arith}
 use Rattle.std.proofs.lemmas.Bool.{false_from_ne_true}
-use Rattle.std.proofs.lemmas.List.{length_push}
-use Rattle.std.proofs.Math.ListN.{get_or-append}
-use Rattle.std.proofs.Math.Seq.{get_or-append_seam}
+use Rattle.dom_base.specs.declared.Kind.{Kind}
 use Rattle.dom_base.specs.declared.NodeName.{NodeName}
 use Rattle.dom_base.specs.declared.Owner.{Owner}
-use Rattle.dom_base.specs.declared.Owner.TheVariants.{Page}
-use Rattle.dom_worlds.specs.Bounds.{HasBounds}
 use Rattle.dom_worlds.specs.Worlds.{IsPart}
 use Rattle.dom_worlds.proofs.TreeLemmas.{ancestor-inside, inside-no_ancestor, child-parent}
 use Rattle.dom_worlds.proofs.CommandLemmas.{has_node-times}
-use Rattle.dom_worlds.proofs.RangeLemmas.{split-keeps, tail-child}
 use Rattle.dom_worlds.proofs.PlanLemmas.{Changed, leads-splitting}
+use Rattle.dom_worlds.proofs.RangeLemmas.{tail-child}
 use Rattle.dom_model.specs.Changes.{Plan, ◌and_then◌}
-use Rattle.dom_model.specs.Names.{node_of}
-use Rattle.dom_model.specs.Part.{Part, next_name}
+use Rattle.dom_model.specs.Part.{Part, next_name, range_at}
 use Rattle.dom_model.specs.Ranges.{Range}
 use Rattle.dom_model.specs.RangeOps.{inserting_at}
 use Rattle.dom_model.specs.Steps.{after}
 use Rattle.dom_model.specs.TextChanges.{splitting}
-use Rattle.dom_model.specs.Tree.{kind_of, is_text, has_data, has_node, parent_of, is_inclusive_ancestor}
+use Rattle.dom_model.specs.Tree.{kind_of, has_node, parent_of, is_inclusive_ancestor}
 use Rattle.dom_model.specs.World.{part_of}
 use Rattle.dom_model.proofs.PartLaws.{owner-part_of}
 use Rattle.dom_mutation.specs.Doc.{DocState, made, planned, name_in, owner_in, trees_in, IsChild}
 use Rattle.dom_mutation.specs.Hosting.{IsAlone}
 use Rattle.dom_parts.proofs.Made.{made_then}
 use Rattle.dom_parts.proofs.OwnPlans.{plans_splitting}
-use Rattle.dom_tree.specs.Forest.{name_at}
 use Rattle.dom_range_ops.specs.Insertions.{inserting_before_tail}
-use Rattle.dom_range_ops.proofs.InsertedParts.{part-now, now-at, open-kept}
+use Rattle.dom_range_ops.proofs.InsertedParts.{part-now, now-at, kind-kept}
+use Rattle.dom_range_ops.proofs.InsertedRanges.{range-kept}
+use Rattle.dom_range_ops.proofs.TakingDocs.{name-kept, new-name, new-node}
 
--- in a state e with one name more
-kept-name : (d e : DocState) (y : NodeName) → e.names ≡ d.names ++ y ∷ [] → (k : ℕ) → k < length d.names → name_in e k ≡ name_in d k
-kept-name d e y names k less = ap (λ (ns : List NodeName). name_at ns k) names ∙ get_or-append d.names (y ∷ []) (node_of Page 0) k less
+-- a child of a parent, a Text, was split, and a node is to go before its tail
+pub record TailSplit : Type 0 where
+  pub before : DocState
+  pub after : DocState
+  pub owner : Owner
+  pub start : ℕ
+  pub offset : ℕ
+  pub parent : ℕ
+  pub node : ℕ
+  pub tail : ℕ
+  pub alone : IsAlone before.world owner
+  pub part : IsPart (part_of before.world owner)
+  pub names : after.names ≡ before.names ++ next_name (part_of before.world owner) ∷ []
+  pub world : after.world ≡ made owner (splitting (name_in before start) offset) before.world
+  pub key : tail ≡ length before.names
+  pub child : IsChild before parent start
+  pub parent_is : parent < length before.names
+  pub parent_own : owner_in before parent ≡ owner
+  pub node_is : node < length before.names
 
--- ---- a child of a parent, a Text, was split in d, and e is the state then, where the tail has the key `tail`
-module _ (d e : DocState) (o : Owner) (start offset parent node tail : ℕ) (alone : IsAlone d.world o) (part : IsPart (part_of d.world o))
-    (names : e.names ≡ d.names ++ next_name (part_of d.world o) ∷ []) (world : e.world ≡ made o (splitting (name_in d start) offset) d.world)
-    (key : tail ≡ length d.names) (child : IsChild d parent start) (parent_is : parent < length d.names) (parent_own : owner_in d parent ≡ o) where
+module _ (m : TailSplit) where
+  open m use {before as d, after as e, owner as o, start, offset, parent, node, tail, alone, part, names, world, key, child, parent_is, parent_own, node_is}
+
   abbrev p : Part
   p = part_of d.world o
 
@@ -60,29 +71,25 @@ module _ (d e : DocState) (o : Owner) (start offset parent node tail : ℕ) (alo
   now : part_of e.world o ≡ after p (f p)
   now = part-now d e o f alone (plans_splitting o x offset) world
 
-  pub longer : length e.names ≡ length d.names + 1
-  longer = ap (λ (ns : List NodeName). length ns) names ∙ length_push d.names (next_name p)
-
   -- names of the keys from before are kept
   pub split-name : (k : ℕ) → k < length d.names → name_in e k ≡ name_in d k
-  split-name = kept-name d e (next_name p) names
+  split-name k less = name-kept d e (next_name p ∷ []) k names less
 
   pub split-owner : (k : ℕ) → k < length d.names → owner_in e k ≡ owner_in d k
   split-owner k less = ap (λ (z : NodeName). z.owner) (split-name k less)
 
   tail_name : name_in e tail ≡ next_name p
-  tail_name = ap (λ (ns : List NodeName). name_at ns tail) names ∙
-      (ap (name_at (d.names ++ next_name p ∷ [])) key ∙ get_or-append_seam d.names (next_name p) [] (node_of Page 0))
+  tail_name = new-name d e (next_name p) tail names key
 
-  -- the parent has no data
-  pub split-open : has_node p.trees y ≡ true → has_data (kind_of p.trees y) ≡ false → has_data (kind_of (trees_in e parent) (name_in e parent)) ≡ false
-  split-open there plain = open-kept d e o f alone (plans_splitting o x offset) world changed parent (split-name parent parent_is)
-      parent_own there plain
+  -- what is told of a node's kind
+  pub split-kind : (is : Kind → Bool) (k : ℕ) → k < length d.names → owner_in d k ≡ o → has_node p.trees (name_in d k) ≡ true →
+      is (kind_of p.trees (name_in d k)) ≡ false → is (kind_of (trees_in e k) (name_in e k)) ≡ false
+  split-kind is k less own = kind-kept d e o f alone (plans_splitting o x offset) world is changed k (split-name k less, own)
 
   -- what was not above the parent is not
-  pub split-apart : node < length d.names → has_node p.trees (name_in d node) ≡ true → is_inclusive_ancestor p.trees (name_in d node) y ≡ false →
+  pub split-apart : has_node p.trees (name_in d node) ≡ true → is_inclusive_ancestor p.trees (name_in d node) y ≡ false →
       is_inclusive_ancestor (trees_in e parent) (name_in e node) (name_in e parent) ≡ false
-  split-apart node_is there off =
+  split-apart there off =
       let z = name_in d node in
       let was = inside-no_ancestor p.trees z y part.unique off in
       let none = changed.apart z y (has_node-times p.trees z there) was was in
@@ -99,22 +106,22 @@ module _ (d e : DocState) (o : Owner) (start offset parent node tail : ℕ) (alo
       let below = child-parent (after p (f p)) (next_name p) y changed.part (tail-child x offset p y part up) in
       let found : parent_of (part_of e.world o).trees (next_name p) ≡ Some y = ap (λ (q : Part). parent_of q.trees (next_name p)) now ∙ below in
       record {
-        node = let more = longer in omega (arith, key, more);
+        node = new-node d e (next_name p) tail names key;
         owner = ap (λ (z : NodeName). z.owner) tail_name ∙ (owner-part_of d.world o ∙ (sym parent_own ∙ sym (split-owner parent parent_is)));
         child = subst (λ v. parent_of (trees_in e parent) v ≡ Some (name_in e parent)) (sym tail_name)
             (now-at d e o f alone (plans_splitting o x offset) world (λ ts v. parent_of ts (next_name p) ≡ Some v) parent
             (split-name parent parent_is) parent_own found);
       }
 
-  -- live ranges end within their nodes
-  pub split-bounds : has_node p.trees x ≡ true → is_text (kind_of p.trees x) ≡ true → HasBounds p → HasBounds (part_of e.world o)
-  split-bounds there text bounds = subst HasBounds (sym now) (split-keeps x offset p part there text bounds)
+  -- a live range that was there is there
+  pub split-there : (k : ℕ) → is_some (range_at p k) ≡ true → is_some (range_at (part_of e.world o) k) ≡ true
+  split-there = range-kept f alone (plans_splitting o x offset) world
 
   -- and then the node is inserted before the tail
-  pub split-whole : node < length d.names → {g : DocState} (k : ℕ) (r : Range NodeName) → r.start.node ≡ x → r.start.offset ≡ offset →
+  pub split-whole : {g : DocState} (k : ℕ) (r : Range NodeName) → r.start.node ≡ x → r.start.offset ≡ offset →
       g ≡ planned o (inserting_at k (name_in e node) (name_in e parent) (Some (name_in e tail))) e
       → g.world ≡ made o (inserting_before_tail k r (name_in d parent) (name_in d node)) d.world
-  split-whole node_is k r at_node at_offset is =
+  split-whole k r at_node at_offset is =
       let put : Plan = inserting_at k (name_in d node) y (Some (next_name p)) in
       ap (λ (s : DocState). s.world) is
       ∙ ap (λ z. made o (inserting_at k z (name_in e parent) (Some (name_in e tail))) e.world) (split-name node node_is)

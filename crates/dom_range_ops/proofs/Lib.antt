@@ -1,7 +1,6 @@
 -- Lemmas of the operations on live ranges.
 mod OneTree
 mod OwnTexts
-mod DocTexts
 mod Parting
 mod Sides
 mod Between
@@ -26,11 +25,7 @@ mod TakingRanges
 mod TakingExtracts
 mod DeletionPlaces
 mod DeletionOrder
-mod DeletionSteps
-mod DeletionPaths
-mod DeletionKeys
 mod DeletionOwn
-mod DeletionDocs
 mod DeletionPlans
 mod PieceItems
 mod PieceLevels
@@ -43,4 +38,7 @@ mod PieceSteps
 mod PieceLaws
 mod DeletionHeights
 mod PieceOwn
+mod DocRanges
+mod OutermostTrees
+mod OutermostPieces
 mod ExtractedRanges

@@ -62,7 +62,7 @@ module _ (ts : Trees) (r : Range NodeName) (is : IsRange ts r) (c : NodeName) (r
           let up = above-parent ts x p is.once h (ap (λ xs. first_of (drop 1 xs)) e) in
           last-above p path up.1 (tail-same x (inclusive_ancestors ts p) ((p ∷ path) ++ (c ∷ rest)) (sym up.0 ∙ e)) end k
 
-  common-is : common_ancestor ts r ≡ c
+  pub common-is : common_ancestor ts r ≡ c
   common-is =
       ap (λ xs. unwrap_or (find (λ a. is_inclusive_ancestor ts a r.end.node) xs) r.start.node) parts.start
       ∙ ap (λ o. unwrap_or o r.start.node)

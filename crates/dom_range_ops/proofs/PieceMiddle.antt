@@ -34,7 +34,7 @@ module _ (ts : Trees) (r : Range NodeName) where
   not-start z e = ap (λ b. b && is_before ts (at z (length_of ts z)) r.end) e
 
   -- nor is what is not in front of the end
-  not-end : (z : NodeName) → is_before ts (at z (length_of ts z)) r.end ≡ false → is_contained ts r z ≡ false
+  pub not-end : (z : NodeName) → is_before ts (at z (length_of ts z)) r.end ≡ false → is_contained ts r z ≡ false
   not-end z e = ap (λ b. is_before ts r.start (at z 0) && b) e ∙ and-no (is_before ts r.start (at z 0))
 
   -- where the end comes before the start nothing is

@@ -1,11 +1,9 @@
 -- The pieces of an owner's range are the same among all trees and among the owner's own.
-use Rattle.std.proofs.Common.{◌≡◌, inl, inr, ℕ, ◌<◌, ◌≤◌, length, Bool, true, false, not, ◌&&◌, List, [], ◌∷◌, refl, sym, ap, subst, ◌∙◌}
+use Rattle.std.proofs.Common.{◌≡◌, inl, inr, ℕ, Bool, true, false, not, ◌&&◌, List, [], ◌∷◌, refl, sym, ap, subst, ◌∙◌}
 use Rattle.std.specs.Prelude.{filter, find, unwrap_or, if◌then◌else◌}
 use Rattle.std.proofs.lemmas.Bool.{cases_Bool}
 use Rattle.dom_base.specs.declared.NodeName.{NodeName}
 use Rattle.dom_base.specs.declared.Owner.{Owner}
-use Rattle.dom_worlds.specs.Bounds.{IsWithin}
-use Rattle.dom_worlds.specs.Tables.{HasEnds}
 use Rattle.dom_model.specs.Extract.{Pieces, nothing, whole, cut, clone, pieces_along, pieces_behind, pieces_in_front, tree_holding, all_whole}
 use Rattle.dom_model.specs.Extract.{◌followed_by◌, common_ancestor, is_in_one_data, pieces_apart, pieces_of}
 use Rattle.dom_model.specs.Names.{name_eq, is_in}
@@ -14,17 +12,10 @@ use Rattle.dom_model.specs.Ranges.{Range, at, is_collapsed, is_contained}
 use Rattle.dom_model.specs.Tree.{Trees, none, tree, Node, names_of, roots, has_data, inclusive_ancestors, is_inclusive_ancestor}
 use Rattle.dom_model.specs.Tree.{inclusive_descendants, length_of, root_of, subtree, trees_below}
 use Rattle.dom_tree.proofs.Owned.{read_own, stays_own}
-use Rattle.dom_ranges.specs.declared.table.Points.{Points}
-use Rattle.dom_tree.specs.Forest.{NamedTrees}
 use Rattle.dom_tree.specs.Owners.{AreOwned, trees_of_owner}
 use Rattle.dom_laws.proofs.Children.{In-names, Has-root}
-use Rattle.dom_tree.proofs.Standing.{StandOnce, StandAlone}
 use Rattle.dom_laws.proofs.Lists.{In, filter-same, is_in-from}
 use Rattle.dom_laws.proofs.Shapes.{Has, Has-subtree, Has-above, above-present, above-from_below, subtree-present}
-use Rattle.dom_range_ops.specs.Deletions.{AreLeaves}
-use Rattle.dom_range_ops.specs.Pieces.{AreSpanned}
-use Rattle.dom_range_ops.specs.Texts.{range_at_points}
-use Rattle.dom_range_ops.proofs.DocTexts.{are-ends, start-there, end-there, one-tree}
 use Rattle.dom_range_ops.proofs.OneTree.{HasOneTree, root-path}
 use Rattle.dom_range_ops.proofs.OwnTexts.{behind-own, in_front-own, contained-own}
 
@@ -180,27 +171,3 @@ module _ (ts : Trees) (owned : AreOwned ts) (o : Owner) (r : Range NodeName) (en
       let all = λ (in_one : Bool) (apart : Pieces). (if is_collapsed name_eq r then nothing else (if in_one then one else apart)) in
       ap (λ (n : Node). all (name_eq r.start.node r.end.node && has_data n.kind) (pieces_apart ts r))
       (read_own ts owned o r.start.node start).node ∙ ap (all (is_in_one_data own r)) apart-own
-
--- ---- by keys
-
-module _ (f : NamedTrees) (once : StandOnce f) (only : StandAlone f) (owned : AreOwned f.trees) (o : Owner) (ts : Trees)
-    (own_is : trees_of_owner o f.trees ≡ ts) (points : Points) (r : Range NodeName) (is : r ≡ range_at_points f.names points)
-    (ends : HasEnds ts r) where
-  -- what is asked of a range between two points holds where it does of the owner's range
-  pub are-spanned : points.start.0 < length f.names → points.end.0 < length f.names → IsWithin ts r.end → AreLeaves f points → AreSpanned f points
-  are-spanned start end fits leaves =
-      let size = (read_own f.trees owned o r.end.node (end-there f once only owned o ts own_is points r is ends).0).size ∙
-      ap (λ us. length_of us r.end.node) own_is in
-      record {
-        ends = are-ends f once only owned o ts own_is points r is ends start end;
-        within = subst (λ (s : Range NodeName). s.end.offset ≤ length_of f.trees s.end.node) is (subst (λ n. r.end.offset ≤ n) (sym size) fits);
-        leaves = leaves;
-      }
-
-  -- the pieces between the points are those of the owner's range
-  pub pieces-points : pieces_of f.trees (range_at_points f.names points) ≡ pieces_of ts r
-  pieces-points =
-      ap (pieces_of f.trees) (sym is)
-      ∙ (pieces-own f.trees owned o r (one-tree f once only owned o ts own_is points r is ends)
-      (start-there f once only owned o ts own_is points r is ends).0 (end-there f once only owned o ts own_is points r is ends).0 ∙
-      ap (λ us. pieces_of us r) own_is)

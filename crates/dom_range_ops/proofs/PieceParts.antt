@@ -91,7 +91,7 @@ module _ (ts : Trees) (once : Once ts) (c : NodeName) (rest : List NodeName) whe
   abbrev kids : List NodeName
   kids = children_of ts c
 
-  pub level : (b : Boundary NodeName) (path : List NodeName) → Course b path → Level ts once c b
+  unfoldable pub level : (b : Boundary NodeName) (path : List NodeName) → Course b path → Level ts once c b
   level b path (at_top empty same) = record {
     front = take b.offset kids;
     middle = [];

@@ -2,7 +2,6 @@
 use Rattle.std.proofs.Common.{zero, suc, ◌≡◌, ◌<◌, ◌≤◌, ℕ, ◌+◌, ◌-◌, List, [], ◌∷◌, ◌++◌, length, map, drop, None, refl, sym, ap, ◌∙◌, subst, arith}
 use Rattle.std.proofs.Common.{append_assoc, get_or, drop-cons, add-one}
 use Rattle.std.specs.List.{AllByRecursion}
-use Rattle.std.proofs.lemmas.List.{append-nil}
 use Rattle.dom_base.specs.declared.NodeName.{NodeName}
 use Rattle.dom_base.specs.declared.Owner.{Owner}
 use Rattle.dom_worlds.specs.Worlds.{IsPart}
@@ -31,7 +30,7 @@ use Rattle.dom_range_ops.specs.declared.pieces.Piece.TheVariants.{Whole, Cut, Cl
 -- the steps for an item that may be taken are in its owner's part
 pub plans-item : {o : Owner} (into top : NodeName) {p : Part} (item : Item) → IsPart p → p.owner ≡ o → MayBeTaken into p.trees item →
     PlansOwn o (taking_item top item)
-plans-item {o} into top {p} (whole_item x) i is h = plans_inserting o observed x top None (i.owned x (has_node-times p.trees x h.there) ∙ is)
+plans-item {o} into top {p} (whole_item x) i is h = plans_inserting o observed x top None (i.owned x (has_node-times p.trees x h.0.there) ∙ is)
 plans-item {o} into top (cut_item x from to) i is h = λ q own.
     let n = clone_part (next_name q) from to (node_in q.trees x) in
     plans_then o (making_below top n) (replacing_data x from (to - from) []) (plans-below o top n own.owner) (plans_data o x from (to - from) []) q own
@@ -60,11 +59,6 @@ pub record Progress (d : DocState) (into : ℕ) (pieces left : List Piece) (e : 
       ≡ d.names ++ new_names (owner_in d into) (part_of d.world (owner_in d into)).node_count (made_by (map (item_in d.names) pieces))
   pub world : made (owner_in d into) (taking_items (name_in d into) (names_in e ks) (map (item_in d.names) left)) e.world
       ≡ made (owner_in d into) (taking_items (name_in d into) [] (map (item_in d.names) pieces)) d.world
-
--- at first all are
-pub progress-first : (d : DocState) (into : ℕ) (pieces : List Piece) → AllByRecursion (IsPieceOf d.names) pieces →
-    MayTake (part_of d.world (owner_in d into)) (name_in d into) [] (map (item_in d.names) pieces) → Progress d into pieces pieces d []
-progress-first d into pieces nodes may = record { more = []; longer = sym (append-nil d.names); own = tt; nodes = nodes; may = may; names = refl; world = refl }
 
 -- a piece of nodes that stay is the same item
 pub item-same : (d e : DocState) (more : List NodeName) → e.names ≡ d.names ++ more → (piece : Piece) → IsPieceOf d.names piece →

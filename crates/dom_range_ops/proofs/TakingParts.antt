@@ -44,7 +44,7 @@ module _ (into top : NodeName) (p q : Part) (le : into.number ≤ top.number) (i
 
   -- each item
   item-still : (item : Item) → MayBeTaken into p.trees item → MayBeTaken into q.trees item
-  item-still (whole_item x) h = taken-still x h
+  item-still (whole_item x) h = (taken-still x h.0, ap is_shadow (c.kinds x (has_node-times p.trees x h.0.there)) ∙ h.1)
   item-still (cut_item x from to) h =
       (taken-still x h.0, ap has_data (c.kinds x (has_node-times p.trees x h.0.there)) ∙ h.1)
   item-still (clone_item x) h =
@@ -110,16 +110,16 @@ item-leaves : {into : NodeName} {clones : List NodeName} {p : Part} → IsPart p
 item-leaves {into} {clones} {p} i h t le (whole_item x) m =
     let top = top_of into clones in
     let taker = top-takes into p.trees clones t in
-    let may = old-may top i (old-of into p x i m) (has_node-times p.trees top taker.there) taker.new in
+    let may = old-may top i (old-of into p x i m.0) (has_node-times p.trees top taker.there) taker.new in
     let l = leads-inserting observed x top None i may in
     let q = after p (inserting observed x top None p) in
     record {
       leads = l;
       bounds = insertion-keeps observed x top None p (record {
         part = i;
-        there = m.there;
+        there = m.0.there;
         parent_there = taker.there;
-        apart = m.apart top taker.new;
+        apart = m.0.apart top taker.new;
         opened = taker.no_data;
         bounds = h;
       });

@@ -1,12 +1,10 @@
 -- A piece that may be taken, by its key.
-use Rattle.std.proofs.Common.{zero, suc, ◌≡◌, ◌<◌, ℕ, ◌-◌, false, List, [], ◌∷◌, ◌++◌, length, map, reverse, length-append, None, refl, sym, ap, ◌∙◌}
+use Rattle.std.proofs.Common.{zero, suc, ◌≡◌, ◌<◌, ℕ, ◌-◌, false, List, [], ◌∷◌, ◌++◌, length, map, reverse, None, refl, sym, ap, ◌∙◌}
 use Rattle.std.proofs.Common.{subst, arith}
 use Rattle.std.specs.Prelude.{slice_get, unwrap_or}
 use Rattle.std.specs.List.{AllByRecursion}
-use Rattle.std.proofs.Math.Seq.{get_or-append_seam}
 use Rattle.dom_base.specs.declared.NodeName.{NodeName}
 use Rattle.dom_base.specs.declared.Owner.{Owner}
-use Rattle.dom_base.specs.declared.Owner.TheVariants.{Page}
 use Rattle.dom_worlds.specs.Bounds.{HasBounds}
 use Rattle.dom_worlds.specs.Worlds.{IsPart}
 use Rattle.dom_worlds.proofs.CommandLemmas.{has_node-times}
@@ -14,16 +12,15 @@ use Rattle.dom_worlds.proofs.ListLemmas.{all-append, all-then}
 use Rattle.dom_model.proofs.PartLaws.{owner-part_of}
 use Rattle.dom_model.specs.Names.{node_of}
 use Rattle.dom_model.specs.Part.{Part, next_name}
-use Rattle.dom_model.specs.Tree.{kind_of, has_data, is_inclusive_ancestor}
+use Rattle.dom_model.specs.Tree.{kind_of, has_data, is_shadow, is_inclusive_ancestor}
 use Rattle.dom_model.specs.World.{part_of}
 use Rattle.dom_mutation.specs.Doc.{DocState, made, name_in, owner_in, trees_in, IsOwnNode, MayMove}
-use Rattle.dom_range_ops.proofs.TakingDocs.{name-kept, node-kept}
+use Rattle.dom_range_ops.proofs.TakingDocs.{name-kept, node-kept, new-name, new-node}
 use Rattle.dom_range_ops.proofs.TakingParts.{top-takes}
 use Rattle.dom_range_ops.proofs.TakingStacks.{stack-push, stack-top}
-use Rattle.dom_range_ops.specs.Pieces.{Item, item_in, made_by}
-use Rattle.dom_range_ops.specs.Takings.{top_of, taking_item, new_names, names_in, IsTaker, IsTaken, MayTake}
+use Rattle.dom_range_ops.specs.Pieces.{Item, whole_item, item_in, made_by}
+use Rattle.dom_range_ops.specs.Takings.{top_of, taking_item, new_names, names_in, IsTaker, IsTaken, MayBeTaken, MayTake, TakesNew}
 use Rattle.dom_range_ops.specs.declared.pieces.Piece.{Piece}
-use Rattle.dom_tree.specs.Forest.{name_at}
 
 -- one of some, or another one
 or-one : (P : ℕ → Type 0) (ks : List ℕ) (i k : ℕ) → AllByRecursion P ks → P k → P (unwrap_or (slice_get ks i) k)
@@ -56,24 +53,37 @@ module _ (d e : DocState) (y : NodeName) (into new : ℕ) (names : e.names ≡ d
   -- with a new one
   pub names-pushed : (ks : List ℕ) → AllByRecursion (IsOwnNode d into) ks → names_in e (ks ++ new ∷ []) ≡ y ∷ names_in d ks
   names-pushed ks h =
-      let is : name_in e new ≡ y = ap (name_in e) key ∙ ap (λ (ns : List NodeName). name_at ns (length d.names)) names ∙
-      get_or-append_seam d.names y [] (node_of Page 0) in
-      stack-push (name_in e) ks new ∙ ap (λ x. x ∷ names_in e ks) is ∙ ap (λ xs. y ∷ xs) (names-same d e (y ∷ []) into names ks h)
+      stack-push (name_in e) ks new ∙ ap (λ x. x ∷ names_in e ks) (new-name d e y new names key) ∙ ap (λ xs. y ∷ xs) (names-same d e (y ∷ []) into names ks h)
 
   -- which is the owner's
   pub own-pushed : y.owner ≡ owner_in d into → into < length d.names → (ks : List ℕ) → AllByRecursion (IsOwnNode d into) ks →
       AllByRecursion (IsOwnNode e into) (ks ++ new ∷ [])
   own-pushed owner here ks h =
-      let is : name_in e new ≡ y = ap (name_in e) key ∙ ap (λ (ns : List NodeName). name_at ns (length d.names)) names ∙
-      get_or-append_seam d.names y [] (node_of Page 0) in
-      let size = ap (λ (ns : List NodeName). length ns) names in
-      let more = length-append d.names (y ∷ []) in
-      all-append (IsOwnNode e into) ks (new ∷ []) (own-kept d e (y ∷ []) into names here ks h)
-      ((omega arith, ap (λ (x : NodeName). x.owner) is ∙ owner ∙ sym (ap (λ (x : NodeName). x.owner) (name-kept d e (y ∷ []) into names here))), tt)
+      all-append (IsOwnNode e into) ks (new ∷ []) (own-kept d e (y ∷ []) into names here ks h) (
+        (
+          new-node d e y new names key,
+          ap (λ (x : NodeName). x.owner) (new-name d e y new names key)
+              ∙ owner ∙ sym (ap (λ (x : NodeName). x.owner) (name-kept d e (y ∷ []) into names here)),
+        ),
+        tt,
+      )
 
-module _ (d : DocState) (into : ℕ) (ks : List ℕ) (piece : Piece) (here : into < length d.names) (own : AllByRecursion (IsOwnNode d into) ks)
-    (may : MayTake (part_of d.world (owner_in d into)) (name_in d into) (names_in d ks) (item_in d.names piece ∷ []))
-    (part : IsPart (part_of d.world (owner_in d into))) (top : ℕ) (is-top : top ≡ unwrap_or (slice_get ks (length ks - 1)) into) where
+-- a piece that may be taken into a fragment, and the node into which it goes
+pub record Taking : Type 0 where
+  pub doc : DocState
+  pub into : ℕ
+  pub clones : List ℕ
+  pub piece : Piece
+  pub top : ℕ
+  pub here : into < length doc.names
+  pub own : AllByRecursion (IsOwnNode doc into) clones
+  pub may : MayTake (part_of doc.world (owner_in doc into)) (name_in doc into) (names_in doc clones) (item_in doc.names piece ∷ [])
+  pub part : IsPart (part_of doc.world (owner_in doc into))
+  pub is_top : top ≡ unwrap_or (slice_get clones (length clones - 1)) into
+
+module _ (m : Taking) where
+  open m use {doc as d, into, clones as ks, piece, top, here, own, may, part, is_top as is-top}
+
   abbrev o : Owner
   o = owner_in d into
 
@@ -94,17 +104,31 @@ module _ (d : DocState) (into : ℕ) (ks : List ℕ) (piece : Piece) (here : int
   pub top-bounds : HasBounds (part_of d.world (owner_in d top))
   top-bounds = subst (λ w. HasBounds (part_of d.world w)) (sym top-own.1) may.bounds
 
-  pub top-no_data : has_data (kind_of (trees_in d top) (name_in d top)) ≡ false
-  top-no_data = ap (λ w. has_data (kind_of (part_of d.world w).trees (name_in d top))) top-own.1 ∙ top-taker.no_data
+  pub top-open : has_data (kind_of (trees_in d top) (name_in d top)) ≡ false
+  top-open = ap (λ w. has_data (kind_of (part_of d.world w).trees (name_in d top))) top-own.1 ∙ top-taker.no_data
 
-  pub top-limited : (count : ℕ) → made_by (item_in d.names piece ∷ []) ≡ suc count → (part_of d.world (owner_in d top)).node_count < 1000000
-  top-limited count some =
+  pub top-new : (count : ℕ) → made_by (item_in d.names piece ∷ []) ≡ suc count → TakesNew d top
+  top-new count some =
       let same = ap (λ w. (part_of d.world w).node_count) top-own.1 in
-      let few = may.limited in omega arith
+      let few = may.limited in
+      record {
+        node = top-own.0;
+        bounds = top-bounds;
+        no_data = top-open;
+        limited = omega arith;
+      }
+
+  -- the piece may be taken as what it is
+  pub taken-as : (q : Piece) → piece ≡ q → MayBeTaken (name_in d into) p.trees (item_in d.names q)
+  taken-as q is = subst (λ r. MayBeTaken (name_in d into) p.trees (item_in d.names r)) is may.taken.0
 
   -- a node that is taken is the owner's
   pub taken-owner : (k : ℕ) → IsTaken (name_in d into) p.trees (name_in d k) → owner_in d k ≡ owner_in d top
   taken-owner k t = part.owned (name_in d k) (has_node-times p.trees (name_in d k) t.there) ∙ owner-part_of d.world o ∙ sym top-own.1
+
+  -- no shadow root stays none
+  pub taken-plain : (k : ℕ) → MayBeTaken (name_in d into) p.trees (whole_item (name_in d k)) → is_shadow (kind_of (trees_in d k) (name_in d k)) ≡ false
+  taken-plain k t = ap (λ w. is_shadow (kind_of (part_of d.world w).trees (name_in d k))) (taken-owner k t.0 ∙ top-own.1) ∙ t.1
 
   -- and may go there
   pub taken-moves : (k : ℕ) → k < length d.names → IsTaken (name_in d into) p.trees (name_in d k) → MayMove d top None k

@@ -21,14 +21,14 @@ use Rattle.dom_model.specs.Ranges.{Range, at}
 use Rattle.dom_model.specs.Steps.{make, part_step}
 use Rattle.dom_model.specs.Tree.{Node, node_in, kind_of, has_data, is_shadow, subtree, trees_below, is_inclusive_ancestor, times_in}
 use Rattle.dom_model.specs.TreeChanges.{with_name}
-use Rattle.dom_range_ops.proofs.TakingParts.{taken-of}
+use Rattle.dom_range_ops.proofs.TakingParts.{data-no_shadow, taken-of}
 use Rattle.dom_range_ops.specs.Pieces.{Item, whole_item, cut_item, clone_item, end_item, items_of, made_by}
 use Rattle.dom_range_ops.specs.Extractions.{ShadowRootsHaveNoParent}
 use Rattle.dom_range_ops.specs.Takings.{MayBeTaken, MayTake}
 
 -- What is known of an item before the fragment is made.
 abbrev pub IsItemIn : Part → Item → Type 0
-IsItemIn p (whole_item x) = HasNode p x
+IsItemIn p (whole_item x) = HasNode p x × (is_shadow (kind_of p.trees x) ≡ false)
 IsItemIn p (cut_item x from to) = HasNode p x × (has_data (kind_of p.trees x) ≡ true)
 IsItemIn p (clone_item x) = HasNode p x × (has_data (kind_of p.trees x) ≡ false) × (is_shadow (kind_of p.trees x) ≡ false)
 IsItemIn p end_item = Unit {0}
@@ -82,7 +82,8 @@ module _ (p : Part) (r : Range NodeName) (part : IsPart p) (ends : HasEnds p.tre
   -- so their items are as is asked
   items-in : (pieces : Pieces) → AllWhole IsLower pieces → AreKinds pieces → AllByRecursion (IsItemIn p) (items_of pieces)
   items-in nothing h k = tt
-  items-in (whole x rest) h k = (h.0.0, items-in rest h.1 k.1)
+  items-in (whole x rest) h k =
+      ((h.0.0, by_cases (has_data (kind_of p.trees x)) (data-no_shadow (kind_of p.trees x)) h.0.1), items-in rest h.1 k.1)
   items-in (cut x from to rest) h k = ((h.0.0, k.0), items-in rest h.1 k.1)
   items-in (clone x inner rest) h k =
       ((h.0.0, k.0, h.0.1 k.0), all-append (IsItemIn p) (items_of inner) (end_item ∷ items_of rest) (items-in inner h.1 k.1) (tt, items-in rest h.2 k.2))
@@ -100,7 +101,7 @@ module _ (p : Part) (r : Range NodeName) (part : IsPart p) (ends : HasEnds p.tre
     old x t = let o = old-there p part x t in record { there = still changed x o.there; alone = λ z h. changed.apart x z o.there tt (o.alone z h) }
 
     item-may : (item : Item) → IsItemIn p item → MayBeTaken (next_name p) (part_step p (make n)).trees item
-    item-may (whole_item x) h = taken-of (next_name p) q x (old x h)
+    item-may (whole_item x) h = (taken-of (next_name p) q x (old x h.0), ap is_shadow (changed.kinds x h.0) ∙ h.1)
     item-may (cut_item x from to) h = (taken-of (next_name p) q x (old x h.0), ap has_data (changed.kinds x h.0) ∙ h.1)
     item-may (clone_item x) h = (taken-of (next_name p) q x (old x h.0), ap has_data (changed.kinds x h.0) ∙ h.1, ap is_shadow (changed.kinds x h.0) ∙ h.2)
     item-may end_item h = tt

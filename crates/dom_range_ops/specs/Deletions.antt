@@ -1,12 +1,15 @@
 -- What is asked of the trees in which the contents of a range are deleted, and what is cut at its ends.
 use Rattle.std.specs.Prelude.{◌≡◌, ◌<◌, ℕ, true, [], length, IsTrue, Option, Some, None}
 use Rattle.dom_base.specs.declared.NodeName.{NodeName}
+use Rattle.dom_base.specs.declared.Owner.{Owner}
 use Rattle.dom_worlds.specs.Bounds.{IsWithin}
 use Rattle.dom_worlds.specs.Tables.{HasEnds}
 use Rattle.dom_model.specs.Changes.{Plan, steps_of}
 use Rattle.dom_model.specs.Names.{name_eq, is_in}
+use Rattle.dom_model.specs.Part.{range_at}
 use Rattle.dom_model.specs.TextChanges.{replacing_data}
 use Rattle.dom_model.specs.Tree.{kind_of, has_data, children_of}
+use Rattle.dom_model.specs.World.{part_of}
 use Rattle.dom_mutation.specs.Doc.{DocState, owner_in, trees_in}
 use Rattle.dom_ranges.specs.declared.table.Points.{Points}
 use Rattle.dom_tree.specs.Forest.{NamedTrees}
@@ -25,6 +28,12 @@ pub record IsRangeIn (d : DocState) (points : Points) : Type 0 where
   pub ends : HasEnds (trees_in d points.start.0) (range_at_points d.names points)
   pub within : IsWithin (trees_in d points.start.0) (range_at_points d.names points).end
   pub leaves : (x : NodeName) → IsTrue (has_data (kind_of (trees_in d points.start.0) x)) → children_of (trees_in d points.start.0) x ≡ []
+
+-- these are the ends of an owner's live range of a number, at nodes of the owner
+pub record IsOfPoints (d : DocState) (o : Owner) (k : ℕ) (points : Points) : Type 0 where
+  pub there : range_at (part_of d.world o) k ≡ Some (range_at_points d.names points)
+  pub owner : owner_in d points.start.0 ≡ o
+  pub range : IsRangeIn d points
 
 -- from an offset on so many code units of a node go, or none
 abbrev pub cutting : NodeName → Option (ℕ × ℕ) → Plan

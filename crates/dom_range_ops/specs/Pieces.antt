@@ -57,6 +57,22 @@ pub record AreItems (names : List NodeName) (pieces : List Piece) (items : List 
   pub value : map (item_in names) pieces ≡ items
   pub nodes : AllByRecursion (IsPieceIn (length names)) pieces
 
+-- the nodes that are taken as they are
+abbrev pub wholes : List Item → List NodeName
+wholes [] = []
+wholes (whole_item x ∷ items) = x ∷ wholes items
+wholes (cut_item x from to ∷ items) = wholes items
+wholes (clone_item x ∷ items) = wholes items
+wholes (end_item ∷ items) = wholes items
+
+-- and their keys
+abbrev pub whole_keys : List Piece → List ℕ
+whole_keys [] = []
+whole_keys (Whole x ∷ pieces) = x ∷ whole_keys pieces
+whole_keys (Cut x from to ∷ pieces) = whole_keys pieces
+whole_keys (Clone x ∷ pieces) = whole_keys pieces
+whole_keys (End ∷ pieces) = whole_keys pieces
+
 -- pieces to which others were added, of which these are the items
 abbrev pub Adds : List NodeName → List Piece → List Piece → List Item → Type 0
 Adds names old new items = (xs : List Item) → AreItems names old xs → AreItems names new (xs ++ items)
@@ -131,3 +147,7 @@ pub record ArePaths (f : NamedTrees) (points : Points) (start_path end_path : Li
   pub apart : (y : NodeName) → last_of (map (name_at f.names) start_path) ≡ Some y → last_of (map (name_at f.names) end_path) ≡ Some y → ⊥
   pub start_nodes : AllByRecursion (λ k. k < length f.names) start_path
   pub end_nodes : AllByRecursion (λ k. k < length f.names) end_path
+
+-- there are such paths
+abbrev pub HasPaths : NamedTrees → Points → Type 0
+HasPaths f points = (start_path : List ℕ) × (end_path : List ℕ) × ArePaths f points start_path end_path

@@ -1,6 +1,7 @@
 -- The taking of what an extraction takes, item by item, and what is asked for it.
-use Rattle.std.specs.Prelude.{◌≡◌, ℕ, zero, suc, ◌+◌, ◌-◌, ◌<◌, ◌≤◌, true, false, List, [], ◌∷◌, map, reverse, drop, length, None, unwrap_or}
+use Rattle.std.specs.Prelude.{◌≡◌, ℕ, zero, suc, ◌+◌, ◌-◌, ◌<◌, ◌≤◌, true, false, List, [], ◌∷◌, map, reverse, drop, length, None, unwrap_or, string_bytes}
 use Rattle.std.specs.List.{AllByRecursion}
+use Rattle.std.specs.Option.{ForSome}
 use Rattle.dom_base.specs.declared.NodeName.{NodeName}
 use Rattle.dom_base.specs.declared.Owner.{Owner}
 use Rattle.dom_worlds.specs.Bounds.{HasBounds}
@@ -11,10 +12,11 @@ use Rattle.dom_model.specs.Part.{Part, next_name}
 use Rattle.dom_model.specs.TextChanges.{replacing_data}
 use Rattle.dom_model.specs.Tree.{Trees, node_in, kind_of, has_node, has_data, is_shadow, is_inclusive_ancestor}
 use Rattle.dom_model.specs.TreeChanges.{with_name}
-use Rattle.dom_mutation.specs.Doc.{DocState, name_in}
-use Rattle.dom_range_ops.specs.Pieces.{Item, whole_item, cut_item, clone_item, end_item, made_by}
+use Rattle.dom_model.specs.World.{part_of}
+use Rattle.dom_mutation.specs.Doc.{DocState, name_in, owner_in, trees_in}
+use Rattle.dom_range_ops.specs.Pieces.{Item, whole_item, cut_item, clone_item, end_item, made_by, IsPieceIn}
 use Rattle.dom_range_ops.specs.declared.pieces.Piece.{Piece}
-use Rattle.dom_range_ops.specs.declared.pieces.Piece.TheVariants.{Whole, Cut, Clone, End}
+use Rattle.dom_tree.specs.declared.data.NodeData.{NodeData}
 
 -- into what an item goes: the last clone that is not ended, the first of these, or the fragment (own rule)
 abbrev pub top_of : NodeName → List NodeName → NodeName
@@ -59,9 +61,10 @@ pub record IsTaken (into : NodeName) (ts : Trees) (x : NodeName) : Type 0 where
   pub there : has_node ts x ≡ true
   pub apart : (z : NodeName) → into.number ≤ z.number → is_inclusive_ancestor ts x z ≡ false
 
--- what an item names may be taken: what is cut is a Text or a Comment, and what is cloned is neither that nor a shadow root
+-- what an item names may be taken: what is moved is no shadow root, what is cut is a Text or a Comment, and what is cloned is neither that
+-- nor a shadow root
 abbrev pub MayBeTaken : NodeName → Trees → Item → Type 0
-MayBeTaken into ts (whole_item x) = IsTaken into ts x
+MayBeTaken into ts (whole_item x) = IsTaken into ts x × (is_shadow (kind_of ts x) ≡ false)
 MayBeTaken into ts (cut_item x from to) = IsTaken into ts x × (has_data (kind_of ts x) ≡ true)
 MayBeTaken into ts (clone_item x) = IsTaken into ts x × (has_data (kind_of ts x) ≡ false) × (is_shadow (kind_of ts x) ≡ false)
 MayBeTaken into ts end_item = Unit {0}
@@ -74,12 +77,23 @@ pub record MayTake (p : Part) (into : NodeName) (clones : List NodeName) (items 
   pub taken : AllByRecursion (MayBeTaken into p.trees) items
   pub limited : p.node_count + made_by items ≤ 1000000
 
+-- a node of an owner below which a new node may be put: it takes nodes, and the owner may have one more
+pub record TakesNew (d : DocState) (top : ℕ) : Type 0 where
+  pub node : top < length d.names
+  pub bounds : HasBounds (part_of d.world (owner_in d top))
+  pub no_data : has_data (kind_of (trees_in d top) (name_in d top)) ≡ false
+  pub limited : (part_of d.world (owner_in d top)).node_count < 1000000
+
+-- what a clone of a node holds: a node of its kind and element name, which is no shadow root (DOM Standard, concept: clone a single node)
+pub record IsCopyOf (d : DocState) (of : ℕ) (copy : NodeData) : Type 0 where
+  pub kind : copy.kind ≡ kind_of (trees_in d of) (name_in d of)
+  pub element : string_bytes copy.element ≡ (node_in (trees_in d of) (name_in d of)).element
+  pub no_shadow : is_shadow copy.kind ≡ false
+  pub document : ForSome copy.document (λ k. k < length d.names)
+
 -- the node of a piece is a node, if it has one
 abbrev pub IsPieceOf : List NodeName → Piece → Type 0
-IsPieceOf names (Whole x) = x < length names
-IsPieceOf names (Cut x from to) = x < length names
-IsPieceOf names (Clone x) = x < length names
-IsPieceOf names End = Unit {0}
+IsPieceOf names = IsPieceIn (length names)
 
 -- the clones that are not ended by their keys, of which the last comes last; in names it comes first
 abbrev pub names_in : DocState → List ℕ → List NodeName

@@ -1,10 +1,7 @@
 //! Deleting the contents of a live range (DOM Standard, 5.5 Interface Range).
 ghost use Rattle.std.specs.Prelude.{◌≡◌, map, true, is_some, IfOk, IfErr, OnOk};
 ghost use Rattle.std.specs.List.{AllByRecursion};
-ghost use Rattle.std.specs.Option.{ForSome};
 ghost use Rattle.dom_base.specs.declared.Fault.TheVariants.{Memory};
-ghost use Rattle.dom_worlds.specs.Bounds.{HasBounds};
-ghost use Rattle.dom_worlds.specs.Tables.{HasEnds};
 ghost use Rattle.dom_model.specs.Changes.{in_turn, removing, observed};
 ghost use Rattle.dom_model.specs.Effects.{plan_of_range};
 ghost use Rattle.dom_model.specs.Extract.{is_in_one_data, new_place};
@@ -13,14 +10,13 @@ ghost use Rattle.dom_model.specs.RangeOps.{cutting_data, outermost_contained, de
 ghost use Rattle.dom_model.specs.Ranges.{at};
 ghost use Rattle.dom_model.specs.World.{part_of};
 ghost use Rattle.dom_mutation.specs.Doc.{made, planned, name_in, owner_in, trees_in};
-ghost use Rattle.dom_mutation.specs.Ready.{IsReady};
 ghost use Rattle.dom_range_ops.specs.Deletions.{IsRangeIn, cutting};
 ghost use Rattle.dom_range_ops.specs.Texts.{range_at_points, AreEnds};
 ghost use Rattle.dom_tree.specs.Forest.{IsNode, name_of};
 ghost use Rattle.dom_parts.specs.Doc.{HoldsNode};
 
 use crate::contained::outermost_contained;
-use crate::ends::{has_data, is_collapsed, is_in_one_data, new_place};
+use crate::ends::{has_data, is_collapsed, is_in_one_data, live_points, new_place};
 use dom_base::{Fault, Owner};
 use dom_mutation::Doc;
 use dom_ranges::Points;
@@ -34,36 +30,24 @@ use std::alloc::{AllocError, Global};
 /// then; the document is then only to be dropped.
 pub fn delete(alloc: Global, doc: &mut Doc, owner: Owner, number: u32) -> Result<(), Fault>
     requires there { is_some (range_at (part_of doc.old.world owner) number) ≡ true }
-    requires ends { ForSome (range_at (part_of doc.old.world owner) number) (HasEnds (part_of doc.old.world owner).trees) }
-    requires bounds { HasBounds (part_of doc.old.world owner) }
     ensures names { OnOk result (doc.new.names ≡ doc.old.names) }
     ensures world { OnOk result (doc.new.world ≡ made owner (λ p. plan_of_range p number (deleting number)) doc.old.world) }
     ensures other { IfErr result (λ fault. fault ≡ Memory) }
-    ensures ready { IsReady doc.old → OnOk result (IsReady doc.new) }
-    ensures there { IsReady doc.old → OnOk result (is_some (range_at (part_of doc.new.world owner) number) ≡ true) }
+    ensures there { OnOk result (is_some (range_at (part_of doc.new.world owner) number) ≡ true) }
 {
     doc.laws();
-    doc.forest().law_nodes_stand_once();
-    let points = doc.range_points(owner, number);
+    let points = live_points(doc, owner, number);
     if is_collapsed(&points) {
         return Ok(());
     }
-    let place = place_after(doc, &points);
+    let (node, offset) = place_after(doc, &points);
     delete_contents(alloc, doc, &points)?;
-    doc.range_put(owner, number, both_at(place));
-    Ok(())
-}
-
-/// A range with both ends at one boundary point.
-fn both_at(place: (Key, usize)) -> Points
-    ensures start { result.start ≡ place }
-    ensures end { result.end ≡ place }
-{
-    let (node, offset) = place;
-    Points {
+    let collapsed = Points {
         start: (node, offset),
         end: (node, offset),
-    }
+    };
+    doc.range_put(owner, number, collapsed);
+    Ok(())
 }
 
 /// What is in a range is deleted, of which the parts are found first.
@@ -75,12 +59,14 @@ fn delete_contents(alloc: Global, doc: &mut Doc, points: &Points) -> Result<(), 
     doc.laws();
     let first = points.start.0;
     let last = points.end.0;
-    let at_start = part_at(doc, points, first);
-    if is_within_one(doc, points) {
+    let forest = doc.forest();
+    forest.law_nodes_stand_once();
+    let at_start = part_in(forest, points, first);
+    if is_in_one_data(forest, points) {
         return cut(doc, first, at_start);
     }
-    let at_end = part_at(doc, points, last);
-    let found = contained_in(alloc, doc, points)?;
+    let at_end = part_in(forest, points, last);
+    let found = outermost_contained(alloc, forest, points)?;
     cut(doc, first, at_start)?;
     remove_each(doc, first, found.as_slice())?;
     cut(doc, last, at_end)
@@ -98,43 +84,7 @@ pub(crate) fn place_after(doc: &Doc, points: &Points) -> (Key, usize)
     new_place(forest, points)
 }
 
-/// Whether both ends of a range of a document are in one Text or Comment.
-fn is_within_one(doc: &Doc, points: &Points) -> bool
-    requires { IsRangeIn doc.now points.now }
-    ensures { result ≡ is_in_one_data (trees_in doc.now points.now.start.0) (range_at_points doc.now.names points.now) }
-{
-    let forest = doc.forest();
-    forest.law_nodes_stand_once();
-    is_in_one_data(forest, points)
-}
-
-/// The nodes of a document that a range contains and whose parents it does not, in tree order.
-fn contained_in(alloc: Global, doc: &Doc, points: &Points) -> Result<Vec<Key>, AllocError>
-    requires { IsRangeIn doc.now points.now }
-    ensures value { IfOk result (λ keys. map (name_in doc.now) keys.items ≡ outermost_contained (trees_in doc.now points.now.start.0)
-        (range_at_points doc.now.names points.now)) }
-    ensures nodes { IfOk result (λ keys. AllByRecursion
-        (λ k. (HoldsNode doc.now k) × (owner_in doc.now k ≡ owner_in doc.now points.now.start.0)) keys.items) }
-{
-    let forest = doc.forest();
-    forest.law_nodes_stand_once();
-    outermost_contained(alloc, forest, points)
-}
-
 /// The part of a node in a range, by an offset and a count of code units, if the node is a Text or a Comment.
-fn part_at(doc: &Doc, points: &Points, key: Key) -> Option<(usize, usize)>
-    requires range { IsRangeIn doc.now points.now }
-    requires node { HoldsNode doc.now key }
-    requires owner { owner_in doc.now key ≡ owner_in doc.now points.now.start.0 }
-    ensures { cutting (name_in doc.now key) result ≡ cutting_data (trees_in doc.now points.now.start.0) (range_at_points doc.now.names points.now)
-        (name_in doc.now key) }
-{
-    let forest = doc.forest();
-    forest.law_nodes_stand_once();
-    part_in(forest, points, key)
-}
-
-/// The part of a node's data that lies between two points, read in a forest.
 fn part_in(forest: &Forest, points: &Points, key: Key) -> Option<(usize, usize)>
     requires node { IsNode forest.now key }
     requires ends { AreEnds forest.now points.now }

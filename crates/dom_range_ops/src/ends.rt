@@ -1,18 +1,30 @@
 //! How the two ends of a live range stand to one another (DOM Standard, 5.5 Interface Range).
-ghost use Rattle.std.specs.Prelude.{◌≡◌, true, false, not, filter, Some, List, [], ◌∷◌};
+ghost use Rattle.std.specs.Prelude.{◌≡◌, true, false, not, filter, is_some, Some, List, [], ◌∷◌};
 ghost use Rattle.dom_base.specs.declared.NodeName.{NodeName as Name};
 ghost use Rattle.dom_model.specs.Extract.{is_in_one_data, behind_node, new_place};
 ghost use Rattle.dom_model.specs.Names.{name_eq};
+ghost use Rattle.dom_model.specs.Part.{range_at};
 ghost use Rattle.dom_model.specs.Ranges.{at, is_collapsed};
 ghost use Rattle.dom_model.specs.Tree.{kind_of, has_data, parent_of, inclusive_ancestors, is_inclusive_ancestor};
-ghost use Rattle.dom_range_ops.specs.Deletions.{AreLeaves};
+ghost use Rattle.dom_model.specs.World.{part_of};
+ghost use Rattle.dom_range_ops.specs.Deletions.{AreLeaves, IsOfPoints};
 ghost use Rattle.dom_range_ops.specs.Texts.{range_at_points, AreEnds};
 ghost use Rattle.dom_tree.specs.Forest.{name_at, IsNode, name_of};
 
-use dom_base::Kind;
+use dom_base::{Kind, Owner};
+use dom_mutation::Doc;
 use dom_ranges::{Points, climb, climb_together};
 use dom_tree::Forest;
 use node_arena::Key;
+
+/// The ends of an owner's live range that is there.
+pub(crate) fn live_points(doc: &Doc, owner: Owner, number: u32) -> Points
+    requires there { is_some (range_at (part_of doc.now.world owner) number) ≡ true }
+    ensures { IsOfPoints doc.now owner number result }
+{
+    doc.laws();
+    doc.range_points(owner, number)
+}
 
 /// Whether both ends of a range are one boundary point (DOM Standard, 5.3: collapsed), whatever the names of the
 /// nodes are that tell them apart.

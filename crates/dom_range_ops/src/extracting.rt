@@ -3,8 +3,6 @@ ghost use Rattle.std.specs.Prelude.{◌≡◌, ◌⊎◌, suc, ◌<◌, ◌++◌
 ghost use Rattle.std.specs.List.{AllByRecursion};
 ghost use Rattle.std.specs.Option.{option_map, ForSome};
 ghost use Rattle.dom_base.specs.declared.Refusal.{Refusal as RefusalOf};
-ghost use Rattle.dom_worlds.specs.Bounds.{HasBounds};
-ghost use Rattle.dom_worlds.specs.Tables.{HasEnds};
 ghost use Rattle.dom_model.specs.Changes.{doing};
 ghost use Rattle.dom_model.specs.CommandRefusals.{limit_on, of_range, past_limit};
 ghost use Rattle.dom_model.specs.Effects.{plan_of_range};
@@ -15,8 +13,8 @@ ghost use Rattle.dom_model.specs.Steps.{make, part_step};
 ghost use Rattle.dom_model.specs.Tree.{kind_of, is_document};
 ghost use Rattle.dom_model.specs.World.{part_of, is_there};
 ghost use Rattle.dom_mutation.specs.Doc.{made, name_in, owner_in, trees_in};
-ghost use Rattle.dom_mutation.specs.Ready.{IsReady};
-ghost use Rattle.dom_range_ops.specs.Extractions.{ShadowRootsHaveNoParent, extracting_items};
+ghost use Rattle.dom_mutation.specs.Ready.{AreReady};
+ghost use Rattle.dom_range_ops.specs.Extractions.{extracting_items};
 ghost use Rattle.dom_range_ops.specs.Deletions.{IsRangeIn};
 ghost use Rattle.dom_range_ops.specs.Pieces.{item_in, items_of, made_by};
 ghost use Rattle.dom_range_ops.specs.Takings.{new_names, MayTake, IsPieceOf};
@@ -25,6 +23,7 @@ ghost use Rattle.dom_tree.specs.Forest.{IsNode, name_of};
 ghost use Rattle.dom_parts.specs.Doc.{HoldsNode};
 
 use crate::deleting::place_after;
+use crate::ends::live_points;
 use crate::pieces::{Piece, count_made, pieces_between};
 use crate::taking::take_pieces;
 use dom_base::{Fault, Kind, MAX_NODES, Owner, Refusal};
@@ -42,9 +41,6 @@ use std::alloc::{AllocError, Global};
 /// document is only to be dropped.
 pub fn extract(alloc: Global, doc: &mut Doc, owner: Owner, number: u32) -> Result<Key, Fault>
     requires there { is_some (range_at (part_of doc.old.world owner) number) ≡ true }
-    requires ends { ForSome (range_at (part_of doc.old.world owner) number) (HasEnds (part_of doc.old.world owner).trees) }
-    requires bounds { HasBounds (part_of doc.old.world owner) }
-    requires roots { ShadowRootsHaveNoParent (part_of doc.old.world owner).trees }
     ensures key { IfOk result (λ key. key ≡ length doc.old.names) }
     ensures names { OnOk result (ForSome (range_at (part_of doc.old.world owner) number)
         (λ r. doc.new.names ≡ doc.old.names ++ new_names owner (part_of doc.old.world owner).node_count
@@ -59,26 +55,17 @@ pub fn extract(alloc: Global, doc: &mut Doc, owner: Owner, number: u32) -> Resul
         (λ range. limit_on (part_of doc.old.world owner).node_count (made_by_extracting (part_of doc.old.world owner) range)) ≡ Some r →
         (result ≡ Err (Fault.Refused r)) ⊎ (result ≡ Err Fault.Memory) }
     ensures unchanged { (r : RefusalOf) → result ≡ Err (Fault.Refused r) → doc.new ≡ doc.old }
-    ensures ready { IsReady doc.old → OnOk result (IsReady doc.new) }
-    ensures there { IsReady doc.old → OnOk result (is_some (range_at (part_of doc.new.world owner) number) ≡ true) }
+    ensures there { OnOk result (is_some (range_at (part_of doc.new.world owner) number) ≡ true) }
 {
     doc.laws();
-    doc.forest().law_nodes_stand_once();
-    let points = doc.range_points(owner, number);
-    let pieces = pieces_in(alloc, doc, &points)?;
-    if is_past_limit(doc, owner, count_made(&pieces)) {
+    let points = live_points(doc, owner, number);
+    let found = pieces_in(alloc, doc, &points)?;
+    let pieces = found.as_slice();
+    if is_past_limit(doc, owner, count_made(pieces)) {
         return Err(Fault::Refused(Refusal::Limit));
     }
     let place = place_after(doc, &points);
-    extract_pieces(
-        alloc,
-        doc,
-        owner,
-        number,
-        points.start.0,
-        place,
-        pieces.as_slice(),
-    )
+    extract_pieces(alloc, doc, owner, number, points.start.0, place, pieces)
 }
 
 /// The pieces that an extraction takes of a range of a document, in order.
@@ -123,6 +110,9 @@ fn extract_pieces(
         (make (new_fragment_node (next_name (part_of doc.old.world owner))
         (own_document (part_of doc.old.world owner).trees (name_in doc.old start))))) (next_name (part_of doc.old.world owner)) []
         (map (item_in doc.old.names) pieces.now) }
+    requires ready { AreReady (made owner
+        (extracting_items number (name_in doc.old start) (at (name_in doc.old place.0) place.1) (map (item_in doc.old.names) pieces.now))
+        doc.old.world) }
     ensures key { IfOk result (λ key. key ≡ length doc.old.names) }
     ensures names { OnOk result (doc.new.names ≡ doc.old.names ++ new_names owner (part_of doc.old.world owner).node_count
         (suc (made_by (map (item_in doc.old.names) pieces.now)))) }

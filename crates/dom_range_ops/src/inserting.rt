@@ -2,16 +2,15 @@
 ghost use Rattle.std.specs.Prelude.{◌≡◌, ◌≤◌, ◌⊎◌, ◌++◌, ◌∷◌, [], true, false, is_some, slice_get, Some, None, OnOk};
 ghost use Rattle.std.specs.Option.{option_map, ForSome};
 ghost use Rattle.dom_base.specs.declared.Refusal.{Refusal as RefusalOf};
-ghost use Rattle.dom_worlds.specs.Bounds.{HasBounds};
 ghost use Rattle.dom_model.specs.CommandRefusals.{limit_on, made_by_insert_node};
 ghost use Rattle.dom_model.specs.Part.{range_at, next_name};
 ghost use Rattle.dom_model.specs.Ranges.{at};
 ghost use Rattle.dom_model.specs.RangeOps.{start_reference, insertion_parent, cannot_take_node, insert_node_refusal, ending_at, inserting_before};
 ghost use Rattle.dom_model.specs.RangeOps.{inserting_at, inserting_into_range};
-ghost use Rattle.dom_model.specs.Tree.{kind_of, has_data, is_text, children_of, length_of, is_inclusive_ancestor};
+ghost use Rattle.dom_model.specs.Tree.{kind_of, has_data, is_shadow, is_text, children_of, length_of, is_inclusive_ancestor};
 ghost use Rattle.dom_model.specs.World.{part_of};
 ghost use Rattle.dom_mutation.specs.Doc.{made, planned, name_in, owner_in, trees_in, MayMove, IsChild};
-ghost use Rattle.dom_mutation.specs.Ready.{IsReady};
+ghost use Rattle.dom_mutation.specs.Ready.{AreReady};
 ghost use Rattle.dom_range_ops.specs.Insertions.{inserting_node, inserting_before_tail, node_refusal, inserting_refusal, names_given, tail_names};
 ghost use Rattle.dom_range_ops.specs.Insertions.{offset_behind};
 ghost use Rattle.dom_range_ops.specs.Texts.{range_at_points};
@@ -33,7 +32,6 @@ pub fn insert_node(doc: &mut Doc, owner: Owner, number: u32, node: Key) -> Resul
     requires there { is_some (range_at (part_of doc.old.world owner) number) ≡ true }
     requires node_is_node { HoldsNode doc.old node }
     requires own { owner_in doc.old node ≡ owner }
-    requires bounds { HasBounds (part_of doc.old.world owner) }
     ensures names { OnOk result (doc.new.names ≡ doc.old.names ++ names_given (part_of doc.old.world owner) number) }
     ensures world { OnOk result (doc.new.world ≡ made owner (inserting_node number (name_in doc.old node)) doc.old.world) }
 
@@ -44,8 +42,7 @@ pub fn insert_node(doc: &mut Doc, owner: Owner, number: u32, node: Key) -> Resul
     ensures stopped { (r : RefusalOf) → inserting_refusal (part_of doc.old.world owner) number (name_in doc.old node) ≡ Some r →
         (result ≡ Err (Fault.Refused r)) ⊎ (result ≡ Err Fault.Memory) }
     ensures unchanged { (r : RefusalOf) → result ≡ Err (Fault.Refused r) → doc.new ≡ doc.old }
-    ensures ready { IsReady doc.old → OnOk result (IsReady doc.new) }
-    ensures there { IsReady doc.old → OnOk result (is_some (range_at (part_of doc.new.world owner) number) ≡ true) }
+    ensures there { OnOk result (is_some (range_at (part_of doc.new.world owner) number) ≡ true) }
 {
     doc.laws();
     let points = doc.range_points(owner, number);
@@ -173,8 +170,8 @@ fn insert_tested(
     requires parent { name_in doc.old parent ≡ insertion_parent (part_of doc.old.world owner).trees (range_at_points doc.old.names points.now) }
     requires child { option_map (name_in doc.old) child ≡ start_reference (part_of doc.old.world owner).trees (range_at_points doc.old.names points.now) }
     requires tested { insert_node_refusal (part_of doc.old.world owner).trees (range_at_points doc.old.names points.now) (name_in doc.old node) ≡ None }
-    requires bounds { HasBounds (part_of doc.old.world owner) }
     requires within { points.now.start.1 ≤ length_of (part_of doc.old.world owner).trees (name_in doc.old points.now.start.0) }
+    requires ready { AreReady (made owner (inserting_into_range number (range_at_points doc.old.names points.now) (name_in doc.old node)) doc.old.world) }
     ensures names { OnOk result (doc.new.names ≡ doc.old.names ++ tail_names (part_of doc.old.world owner) (name_in doc.old points.now.start.0)) }
     ensures world { OnOk result (doc.new.world ≡ made owner
         (inserting_into_range number (range_at_points doc.old.names points.now) (name_in doc.old node)) doc.old.world) }
@@ -212,8 +209,10 @@ fn insert_before_tail(
     requires open { has_data (kind_of (part_of doc.old.world owner).trees (name_in doc.old parent)) ≡ false }
     requires text { is_text (kind_of (part_of doc.old.world owner).trees (name_in doc.old points.now.start.0)) ≡ true }
     requires start_is_child { IsChild doc.old parent points.now.start.0 }
-    requires bounds { HasBounds (part_of doc.old.world owner) }
     requires within { points.now.start.1 ≤ length_of (part_of doc.old.world owner).trees (name_in doc.old points.now.start.0) }
+    requires no_shadow { is_shadow (kind_of (part_of doc.old.world owner).trees (name_in doc.old node)) ≡ false }
+    requires ready { AreReady (made owner
+        (inserting_before_tail number (range_at_points doc.old.names points.now) (name_in doc.old parent) (name_in doc.old node)) doc.old.world) }
     ensures names { OnOk result (doc.new.names ≡ doc.old.names ++ next_name (part_of doc.old.world owner) ∷ []) }
     ensures world { OnOk result (doc.new.world ≡ made owner
         (inserting_before_tail number (range_at_points doc.old.names points.now) (name_in doc.old parent) (name_in doc.old node)) doc.old.world) }
@@ -247,12 +246,14 @@ fn insert_at(
     requires not_above { is_inclusive_ancestor (trees_in doc.old parent) (name_in doc.old node) (name_in doc.old parent) ≡ false }
     requires open { has_data (kind_of (trees_in doc.old parent) (name_in doc.old parent)) ≡ false }
     requires child_is_child { ForSome child (IsChild doc.old parent) }
-    requires bounds { HasBounds (part_of doc.old.world owner) }
+    requires no_shadow { is_shadow (kind_of (trees_in doc.old node) (name_in doc.old node)) ≡ false }
+    requires ready { AreReady (made owner
+        (inserting_at number (name_in doc.old node) (name_in doc.old parent) (option_map (name_in doc.old) child)) doc.old.world) }
     ensures { OnOk result (doc.new ≡ planned owner
         (inserting_at number (name_in doc.old node) (name_in doc.old parent) (option_map (name_in doc.old) child)) doc.old) }
 {
     doc.laws();
-    let reference = doc.reference_for(parent, node, child);
+    let reference = doc.reference_child(parent, node, child);
     doc.remove(node)?;
     insert_before(doc, owner, number, parent, node, reference)
 }
@@ -272,14 +273,16 @@ fn insert_before(
     requires open { has_data (kind_of (trees_in doc.old parent) (name_in doc.old parent)) ≡ false }
     requires may_move { MayMove doc.old parent reference node }
     requires child_is_child { ForSome reference (IsChild doc.old parent) }
-    requires bounds { HasBounds (part_of doc.old.world owner) }
+    requires no_shadow { is_shadow (kind_of (trees_in doc.old node) (name_in doc.old node)) ≡ false }
+    requires ready { AreReady (made owner
+        (inserting_before number (name_in doc.old node) (name_in doc.old parent) (option_map (name_in doc.old) reference)) doc.old.world) }
     ensures { OnOk result (doc.new ≡ planned owner
         (inserting_before number (name_in doc.old node) (name_in doc.old parent) (option_map (name_in doc.old) reference)) doc.old) }
 {
     doc.laws();
     let child = reference;
     let offset = offset_behind(doc, parent, node, child);
-    doc.insert_before(parent, node, reference)?;
+    doc.insert_unchecked(parent, node, reference)?;
     end_at(doc, owner, number, parent, offset);
     Ok(())
 }
@@ -309,6 +312,7 @@ fn end_at(doc: &mut Doc, owner: Owner, number: u32, node: Key, offset: usize)
     requires there { is_some (range_at (part_of doc.old.world owner) number) ≡ true }
     requires node_is_node { HoldsNode doc.old node }
     requires own { owner_in doc.old node ≡ owner }
+    requires ready { AreReady (made owner (ending_at number (at (name_in doc.old node) offset)) doc.old.world) }
     ensures { doc.new ≡ planned owner (ending_at number (at (name_in doc.old node) offset)) doc.old }
 {
     doc.laws();

@@ -2,7 +2,7 @@
 ghost use Rattle.std.specs.Prelude.{◌≡◌, ◌∷◌, [], map, List, IfOk, if◌then◌else◌};
 ghost use Rattle.dom_base.specs.declared.NodeName.{NodeName as Name};
 ghost use Rattle.dom_model.specs.Extract.{pieces_of, pieces_apart};
-ghost use Rattle.dom_range_ops.specs.Pieces.{items_of, item_in, made_by, AreItems, AreSpanned};
+ghost use Rattle.dom_range_ops.specs.Pieces.{items_of, item_in, made_by, AreItems, AreSpanned, HasPaths};
 ghost use Rattle.dom_range_ops.specs.Texts.{range_at_points};
 
 use crate::ends::{is_collapsed, is_in_one_data};
@@ -57,9 +57,14 @@ pub(crate) fn pieces_between(
 }
 
 /// The pieces of a range that is neither collapsed nor in one Text or Comment.
-fn pieces_apart(alloc: Global, forest: &Forest, points: &Points) -> Result<Vec<Piece>, AllocError>
+pub(crate) fn pieces_apart(
+    alloc: Global,
+    forest: &Forest,
+    points: &Points,
+) -> Result<Vec<Piece>, AllocError>
     requires { AreSpanned forest.now points.now }
-    ensures { IfOk result (λ pieces. AreItems forest.now.names pieces.items
+    ensures paths { IfOk result (λ pieces. HasPaths forest.now points.now) }
+    ensures items { IfOk result (λ pieces. AreItems forest.now.names pieces.items
         (items_of (pieces_apart forest.now.trees (range_at_points forest.now.names points.now)))) }
 {
     forest.law_nodes_stand_once();

@@ -2,14 +2,13 @@
 ghost use Rattle.std.specs.Prelude.{◌≡◌, ◌<◌, ◌-◌, ◌++◌, ◌∷◌, [], length, map, true, false, slice_get, string_bytes, unwrap_or, IfOk, IfErr, OnOk};
 ghost use Rattle.std.specs.List.{AllByRecursion};
 ghost use Rattle.std.specs.Option.{ForSome};
-ghost use Rattle.dom_worlds.specs.Bounds.{HasBounds};
 ghost use Rattle.dom_model.specs.Extract.{making_below};
 ghost use Rattle.dom_model.specs.Part.{next_name};
 ghost use Rattle.dom_model.specs.Tree.{kind_of, has_data, is_shadow, node_in};
 ghost use Rattle.dom_model.specs.World.{part_of};
 ghost use Rattle.dom_mutation.specs.Doc.{made, name_in, owner_in, trees_in, IsOwnNode};
 ghost use Rattle.dom_range_ops.specs.Pieces.{cut_item, clone_item, item_in, made_by};
-ghost use Rattle.dom_range_ops.specs.Takings.{top_of, taking_item, taking_items, clones_after, new_names, names_in, MayTake, IsPieceOf};
+ghost use Rattle.dom_range_ops.specs.Takings.{TakesNew, IsCopyOf, top_of, taking_item, taking_items, clones_after, new_names, names_in, MayTake, IsPieceOf};
 ghost use Rattle.dom_tree.specs.Forest.{node_from};
 ghost use Rattle.dom_parts.specs.Doc.{HoldsNode};
 
@@ -74,7 +73,7 @@ fn take_piece(
     doc.laws();
     let top = top_of(clones.as_slice(), into);
     match piece {
-        Piece::Whole(node) => doc.insert_before(top, node, None)?,
+        Piece::Whole(node) => doc.insert_unchecked(top, node, None)?,
         Piece::Cut(node, from, to) => take_units(alloc, doc, top, node, from, to)?,
         Piece::Clone(node) => {
             let clone = take_clone(alloc, doc, top, node)?;
@@ -106,13 +105,10 @@ fn take_units(
     from: usize,
     to: usize,
 ) -> Result<(), Fault>
-    requires top_is_node { HoldsNode doc.old top }
+    requires top { TakesNew doc.old top }
     requires node_is_node { HoldsNode doc.old node }
     requires node_owner { owner_in doc.old node ≡ owner_in doc.old top }
     requires units { has_data (kind_of (trees_in doc.old top) (name_in doc.old node)) ≡ true }
-    requires bounds { HasBounds (part_of doc.old.world (owner_in doc.old top)) }
-    requires no_data { has_data (kind_of (trees_in doc.old top) (name_in doc.old top)) ≡ false }
-    requires limited { (part_of doc.old.world (owner_in doc.old top)).node_count < 1000000 }
     ensures names { OnOk result (doc.new.names ≡ doc.old.names ++ next_name (part_of doc.old.world (owner_in doc.old top)) ∷ []) }
     ensures world { OnOk result (doc.new.world ≡ made (owner_in doc.old top)
         (taking_item (name_in doc.old top) (cut_item (name_in doc.old node) from to)) doc.old.world) }
@@ -128,13 +124,10 @@ fn take_units(
 
 /// A clone of a node without its children goes below another node, and is the answer.
 fn take_clone(alloc: Global, doc: &mut Doc, top: Key, node: Key) -> Result<Key, Fault>
-    requires top_is_node { HoldsNode doc.old top }
+    requires top { TakesNew doc.old top }
     requires node_is_node { HoldsNode doc.old node }
     requires node_owner { owner_in doc.old node ≡ owner_in doc.old top }
     requires no_shadow { is_shadow (kind_of (trees_in doc.old top) (name_in doc.old node)) ≡ false }
-    requires bounds { HasBounds (part_of doc.old.world (owner_in doc.old top)) }
-    requires no_data { has_data (kind_of (trees_in doc.old top) (name_in doc.old top)) ≡ false }
-    requires limited { (part_of doc.old.world (owner_in doc.old top)).node_count < 1000000 }
     ensures key { IfOk result (λ key. key ≡ length doc.old.names) }
     ensures names { OnOk result (doc.new.names ≡ doc.old.names ++ next_name (part_of doc.old.world (owner_in doc.old top)) ∷ []) }
     ensures world { OnOk result (doc.new.world ≡ made (owner_in doc.old top)
@@ -148,16 +141,10 @@ fn take_clone(alloc: Global, doc: &mut Doc, top: Key, node: Key) -> Result<Key, 
 
 /// A clone of a node becomes the last child of another one of its owner, and is the answer.
 fn add_below(doc: &mut Doc, top: Key, of: Key, node: NodeData) -> Result<Key, Fault>
-    requires top_is_node { HoldsNode doc.old top }
+    requires top { TakesNew doc.old top }
     requires of_is_node { HoldsNode doc.old of }
     requires owner { owner_in doc.old of ≡ owner_in doc.old top }
-    requires kind { node.kind ≡ kind_of (trees_in doc.old of) (name_in doc.old of) }
-    requires element { string_bytes node.element ≡ (node_in (trees_in doc.old of) (name_in doc.old of)).element }
-    requires no_shadow { is_shadow node.kind ≡ false }
-    requires document_is_node { ForSome node.document (HoldsNode doc.old) }
-    requires bounds { HasBounds (part_of doc.old.world (owner_in doc.old top)) }
-    requires no_data { has_data (kind_of (trees_in doc.old top) (name_in doc.old top)) ≡ false }
-    requires limited { (part_of doc.old.world (owner_in doc.old top)).node_count < 1000000 }
+    requires copy { IsCopyOf doc.old of node }
     ensures key { IfOk result (λ key. key ≡ length doc.old.names) }
     ensures names { OnOk result (doc.new.names ≡ doc.old.names ++ next_name (part_of doc.old.world (owner_in doc.old top)) ∷ []) }
     ensures world { OnOk result (doc.new.world ≡ made (owner_in doc.old top)
@@ -168,6 +155,6 @@ fn add_below(doc: &mut Doc, top: Key, of: Key, node: NodeData) -> Result<Key, Fa
     doc.laws();
     let new = doc.add_clone(of, node)?;
     doc.laws();
-    doc.insert_before(top, new, None)?;
+    doc.insert_unchecked(top, new, None)?;
     Ok(new)
 }

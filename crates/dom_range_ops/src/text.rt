@@ -1,8 +1,6 @@
 //! The text of a live range (DOM Standard, 5.5: stringification behavior).
 ghost use Rattle.std.specs.Prelude.{◌≡◌, ◌++◌, true, false, is_some, slice_range, IfOk, OnOk};
 ghost use Rattle.std.specs.Option.{ForSome};
-ghost use Rattle.dom_worlds.specs.Bounds.{HasBounds};
-ghost use Rattle.dom_worlds.specs.Tables.{HasEnds};
 ghost use Rattle.dom_model.specs.Part.{range_at};
 ghost use Rattle.dom_model.specs.Place.{is_before};
 ghost use Rattle.dom_model.specs.RangeOps.{range_text_of, text_part as spec_text_part};
@@ -11,6 +9,7 @@ ghost use Rattle.dom_model.specs.World.{part_of};
 ghost use Rattle.dom_range_ops.specs.Texts.{range_at_points, AreEnds, AreBounded, contained_text, text_among, nodes_around};
 ghost use Rattle.dom_tree.specs.Forest.{IsNode, name_of};
 
+use crate::ends::live_points;
 use crate::points::{is_node, node_after};
 use dom_base::{DomStr, Kind, Owner};
 use dom_mutation::Doc;
@@ -24,12 +23,10 @@ use std::alloc::{AllocError, Global};
 /// the start to the end are walked once, by their links. It is refused where memory for the answer is refused.
 pub fn range_text(alloc: Global, doc: &Doc, owner: Owner, number: u32) -> Result<DomStr, AllocError>
     requires there { is_some (range_at (part_of doc.now.world owner) number) ≡ true }
-    requires ends { ForSome (range_at (part_of doc.now.world owner) number) (HasEnds (part_of doc.now.world owner).trees) }
-    requires bounds { HasBounds (part_of doc.now.world owner) }
     ensures { IfOk result (λ text. ForSome (range_at (part_of doc.now.world owner) number)
         (λ r. text.items ≡ range_text_of (part_of doc.now.world owner).trees r)) }
 {
-    let points = doc.range_points(owner, number);
+    let points = live_points(doc, owner, number);
     let forest = doc.forest();
     forest.law_nodes_stand_once();
     text_between(alloc, forest, &points)

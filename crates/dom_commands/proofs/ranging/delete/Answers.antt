@@ -1,31 +1,17 @@
-use Rattle.std.proofs.Common.{[], ◌∷◌, refl, sym, ◌∙◌}
-use Rattle.std.proofs.lemmas.Result.{err_from_is_err_and}
+use Rattle.std.proofs.Common.{◌∷◌, [], refl}
 use Rattle.dom_model.specs.Command.{Command}
-use Rattle.dom_model.specs.Effects.{plan_of_range}
-use Rattle.dom_model.specs.Output.{nothing}
-use Rattle.dom_model.specs.RangeOps.{deleting}
 use Rattle.dom_admission.specs.declared.admission.Operand.TheVariants.{Range}
-use Rattle.dom_admission.proofs.Handling.{refused, plans}
+use Rattle.dom_admission.proofs.Handling.{may_act, plans, refused}
 use Rattle.dom_admission.proofs.Refusing.{namings}
 use Rattle.dom_commands.proofs.ranging.delete.Goals as goal
 
 pub returns-in_err-admit-clause-handled : goal.returns-in_err-admit-clause-handled
 returns-in_err-admit-clause-handled c =
-    let p = err_from_is_err_and c.from_residual.result c.from_residual.ensures.1 in
-    rw (p.1, p.2) (refused c.args.state.now.world c.args.owner (Command.delete c.args.number) (Range c.args.number ∷ []) c.args.out.now.items
-    c.in_err-admit.field-0.0 (search namings) (sym c.admit.ensures ∙ c.in_err-admit.was))
+    refused _ c.args.owner (Command.delete c.args.number) (Range c.args.number ∷ []) _ _ (search namings) c.admit.ensures c.in_err-admit.was
+    c.from_residual.ensures.1
 
 pub returns-clause-handled : goal.returns-clause-handled
 returns-clause-handled c =
-    plans c.state.inside.turn c.state.inside.doc c.args.state.now c.state.view_is c.args.owner (Command.delete c.args.number) (Range c.args.number ∷ [])
-    (search namings) (sym c.admit.ensures ∙ c.in_ok-admit.was) c.delete.new.doc.world (record {
-      plan = λ p. plan_of_range p c.args.number (deleting c.args.number);
-      value = λ p. nothing;
-      reply = nothing;
-      runs = refl;
-      unrefused = refl;
-      follows = c.in_ok-delete.ensures.world;
-      replies = refl;
-    })
-    (record { world = c.accept.new.self.world; before = c.args.out.now.items; after = c.accept.new.out.items; result = c.accept.result })
+    plans _ c.state.inside.doc _ c.state.view_is
+    (may_act _ _ _ (Range c.args.number ∷ []) (search namings) c.admit.ensures c.in_ok-admit.was) _ _ _ _ refl refl refl c.in_ok-delete.ensures.world
     c.accept.ensures.done

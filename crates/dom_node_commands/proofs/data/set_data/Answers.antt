@@ -1,52 +1,29 @@
-use Rattle.std.proofs.Common.{[], ◌∷◌, refl, sym, ◌∙◌}
-use Rattle.std.proofs.lemmas.Result.{err_from_is_err_and}
+use Rattle.std.proofs.Common.{◌∷◌, ◌∙◌, [], refl}
 use Rattle.dom_model.specs.TextChanges.{replacing_all_data}
-use Rattle.dom_model.specs.Tree.{has_data}
-use Rattle.dom_model.specs.Command.{Command}
-use Rattle.dom_model.specs.CommandNames.{named}
-use Rattle.dom_model.specs.Output.{nothing}
-use Rattle.dom_mutation.specs.Doc.{owner_in}
-use Rattle.dom_reader.specs.Views.{word_view}
+use Rattle.dom_model.specs.Tree.{has_data, kind_of}
+use Rattle.dom_model.specs.World.{part_of}
 use Rattle.dom_admission.specs.declared.admission.Operand.TheVariants.{Data}
-use Rattle.dom_admission.proofs.Turned.{bounded-inside}
-use Rattle.dom_admission.proofs.Handling.{refused, plans, fitting}
-use Rattle.dom_admission.proofs.Finding.{IsKey}
+use Rattle.dom_mutation.specs.Doc.{made, owner_in}
+use Rattle.dom_admission.proofs.Finding.{key_of}
+use Rattle.dom_admission.proofs.Handling.{fits, may_act, plans, refused}
 use Rattle.dom_admission.proofs.Refusing.{namings}
-use Rattle.dom_node_commands.proofs.CommandPlans.{node-made, kind-key}
 use Rattle.dom_node_commands.proofs.data.set_data.Goals as goal
 
 pub returns-in_err-admit-clause-handled : goal.returns-in_err-admit-clause-handled
 returns-in_err-admit-clause-handled c =
-    let p = err_from_is_err_and c.from_residual.result c.from_residual.ensures.1 in
-    rw (p.1, p.2) (refused c.args.state.now.world c.args.owner (Command.set_data (word_view c.args.node) c.args.text.items)
-    (Data c.args.node ∷ []) c.args.out.now.items c.in_err-admit.field-0.0 (search namings)
-    (sym c.admit.ensures ∙ c.in_err-admit.was))
+    refused _ _ _ (Data c.args.node ∷ []) _ _ (search namings) c.admit.ensures c.in_err-admit.was c.from_residual.ensures.1
 
 pub returns-clause-handled : goal.returns-clause-handled
 returns-clause-handled c =
     let d = c.state.inside.doc in
-    let node_is : IsKey d.names d.world c.args.owner c.key-node.result (word_view c.args.node) = rw (← c.state.view_is) at c.key-node.ensures.name in
-    plans c.state.inside.turn d c.args.state.now c.state.view_is c.args.owner (Command.set_data (word_view c.args.node) c.args.text.items)
-    (Data c.args.node ∷ []) (search namings) (sym c.admit.ensures ∙ c.in_ok-admit.was) c.set_data.new.self.world (record {
-      plan = λ p. replacing_all_data (named p (word_view c.args.node)) c.args.text.items p;
-      value = λ p. nothing;
-      reply = nothing;
-      runs = refl;
-      unrefused = refl;
-      follows = node-made d.names d.world c.args.owner (λ x. replacing_all_data x c.args.text.items) (word_view c.args.node) c.key-node.result node_is
-          c.set_data.new.self.world c.in_ok-set_data.ensures.world;
-      replies = refl;
-    })
-    (record { world = c.accept.new.self.world; before = c.args.out.now.items; after = c.accept.new.out.items; result = c.accept.result })
-    c.accept.ensures.done
+    let node = key_of _ d _ c.state.view_is _ _ _ c.key-node.ensures.name in
+    let e = c.in_ok-set_data.ensures in
+    plans _ d _ c.state.view_is (may_act _ _ _ (Data c.args.node ∷ []) (search namings) c.admit.ensures c.in_ok-admit.was) _ _ _ _
+    refl refl refl (e.world ∙ (λ j. made (node.mine j) (replacing_all_data (node.name j) c.args.text.items) d.world)) c.accept.ensures.done
 
 pub set_data-requires-clause-has_data : goal.set_data-requires-clause-has_data
 set_data-requires-clause-has_data c =
     let d = c.state.inside.doc in
-    let node_is : IsKey d.names d.world c.args.owner c.key-node.result (word_view c.args.node) = rw (← c.state.view_is) at c.key-node.ensures.name in
-    kind-key d.names d.world c.args.owner has_data (word_view c.args.node) c.key-node.result node_is
-    ∙ (rw (← c.state.view_is) at (fitting c.args.state.now.world c.args.owner (Data c.args.node) (sym c.admit.ensures ∙ c.in_ok-admit.was)))
-
-pub set_data-requires-clause-bounds : goal.set_data-requires-clause-bounds
-set_data-requires-clause-bounds c = bounded-inside c.state.inside.turn c.state.inside.doc c.args.state.now c.state.view_is c.requires.bounds
-    (owner_in c.state.inside.doc c.key-node.result)
+    let node = key_of _ d _ c.state.view_is _ _ _ c.key-node.ensures.name in
+    (λ j. has_data (kind_of (part_of d.world (node.mine j)).trees (node.name j))) ∙ fits _ d _ c.state.view_is _ (Data c.args.node) [] c.admit.ensures
+    c.in_ok-admit.was

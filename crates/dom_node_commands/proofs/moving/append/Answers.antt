@@ -1,68 +1,35 @@
-use Rattle.std.proofs.Common.{Err, [], ◌∷◌, None, refl, sym, ap, ◌∙◌}
-use Rattle.std.proofs.lemmas.Result.{err_from_is_err_and}
+use Rattle.std.proofs.Common.{◌∷◌, ◌∙◌, [], Err, None, ap, refl}
 use Rattle.dom_model.specs.Changes.{pre_inserting}
-use Rattle.dom_model.specs.Command.{Command}
-use Rattle.dom_model.specs.CommandNames.{named}
-use Rattle.dom_model.specs.Output.{nothing}
 use Rattle.dom_model.specs.Validity.{insertion_refusal}
 use Rattle.dom_model.specs.World.{part_of}
-use Rattle.dom_mutation.specs.Doc.{owner_in}
-use Rattle.dom_tree.specs.Forest.{name_at}
-use Rattle.dom_reader.specs.Views.{word_view}
 use Rattle.dom_admission.specs.declared.admission.Operand.TheVariants.{Any}
-use Rattle.dom_admission.proofs.Turned.{bounded-inside}
-use Rattle.dom_admission.proofs.Handling.{refused, plans, faults, accepted_none}
+use Rattle.dom_mutation.specs.Doc.{made, owner_in}
+use Rattle.dom_admission.proofs.Finding.{key_of}
+use Rattle.dom_admission.proofs.Handling.{faults, may_act, plans, refused}
+use Rattle.dom_admission.proofs.OwnRefusals.{none_refused, refuses}
 use Rattle.dom_admission.proofs.Refusing.{namings}
-use Rattle.dom_node_commands.proofs.CommandPlans.{KeyedNode, append-refused, append-made}
 use Rattle.dom_node_commands.proofs.moving.append.Goals as goal
 
 pub returns-in_err-admit-clause-handled : goal.returns-in_err-admit-clause-handled
 returns-in_err-admit-clause-handled c =
-    let p = err_from_is_err_and c.from_residual.result c.from_residual.ensures.1 in
-    rw (p.1, p.2) (refused c.args.state.now.world c.args.owner (Command.append (word_view c.args.parent) (word_view c.args.node))
-    (Any c.args.parent ∷ Any c.args.node ∷ []) c.args.out.now.items c.in_err-admit.field-0.0 (search namings)
-    (sym c.admit.ensures ∙ c.in_err-admit.was))
+    refused _ _ _ (Any c.args.parent ∷ Any c.args.node ∷ []) _ _ (search namings) c.admit.ensures c.in_err-admit.was c.from_residual.ensures.1
 
 pub returns-in_err-insert-clause-handled : goal.returns-in_err-insert-clause-handled
 returns-in_err-insert-clause-handled c =
-    let p = err_from_is_err_and c.from_residual-in_err-insert.result c.from_residual-in_err-insert.ensures.1 in
     let d = c.state.inside.doc in
-    let parent : KeyedNode d.names d.world c.args.owner =
-    record { word = word_view c.args.parent; key = c.key-parent.result; is = rw (← c.state.view_is) at c.key-parent.ensures.name } in
-    let node : KeyedNode d.names d.world c.args.owner =
-    record { word = word_view c.args.node; key = c.key-node.result; is = rw (← c.state.view_is) at c.key-node.ensures.name } in
-    rw (p.1, p.2) (faults c.state.inside.turn d c.args.state.now c.state.view_is c.args.owner
-    (Command.append (word_view c.args.parent) (word_view c.args.node)) (Any c.args.parent ∷ Any c.args.node ∷ [])
-    (search namings) (sym c.admit.ensures ∙ c.in_ok-admit.was) c.insert.new.self.world c.args.out.now.items
-    c.in_err-insert.field-0.0
-    (λ r e. (
-      sym (append-refused d.names d.world c.args.owner parent node) ∙ (c.in_err-insert.ensures.refused r).0 (ap Err e),
-      ap (λ s. s.world)
-          (c.in_err-insert.ensures.unchanged r (ap Err e)),
-    )))
+    let parent = key_of _ d _ c.state.view_is _ _ _ c.key-parent.ensures.name in
+    let node = key_of _ d _ c.state.view_is _ _ _ c.key-node.ensures.name in
+    let e = c.in_err-insert.ensures in
+    faults _ d _ c.state.view_is (may_act _ _ _ (Any c.args.parent ∷ Any c.args.node ∷ []) (search namings) c.admit.ensures c.in_ok-admit.was) _ _ _
+    c.from_residual-in_err-insert.ensures.1 (refuses (λ j. insertion_refusal (part_of d.world (parent.mine j)).trees (parent.name j) (node.name j) None)
+    (λ r. (e.refused r).0)) (λ r h. e.unchanged r (ap Err h))
 
 pub returns-clause-handled : goal.returns-clause-handled
 returns-clause-handled c =
     let d = c.state.inside.doc in
-    let parent : KeyedNode d.names d.world c.args.owner =
-    record { word = word_view c.args.parent; key = c.key-parent.result; is = rw (← c.state.view_is) at c.key-parent.ensures.name } in
-    let node : KeyedNode d.names d.world c.args.owner =
-    record { word = word_view c.args.node; key = c.key-node.result; is = rw (← c.state.view_is) at c.key-node.ensures.name } in
-    plans c.state.inside.turn d c.args.state.now c.state.view_is c.args.owner (Command.append (word_view c.args.parent) (word_view c.args.node))
-    (Any c.args.parent ∷ Any c.args.node ∷ []) (search namings) (sym c.admit.ensures ∙ c.in_ok-admit.was) c.insert.new.self.world (record {
-      plan = λ p. pre_inserting (named p (word_view c.args.node)) (named p (word_view c.args.parent)) None p;
-      value = λ p. nothing;
-      reply = nothing;
-      runs = refl;
-      unrefused = sym (append-refused d.names d.world c.args.owner parent node) ∙ accepted_none tt
-          (insertion_refusal (part_of d.world (name_at d.names c.key-parent.result).owner).trees (name_at d.names c.key-parent.result)
-          (name_at d.names c.key-node.result) None) (λ r. (c.in_ok-insert.ensures.refused r).1);
-      follows = append-made d.names d.world c.args.owner parent node c.insert.new.self.world c.in_ok-insert.ensures.world;
-      replies = refl;
-    })
-    (record { world = c.accept.new.self.world; before = c.args.out.now.items; after = c.accept.new.out.items; result = c.accept.result })
-    c.accept.ensures.done
-
-pub insert-requires-clause-bounds : goal.insert-requires-clause-bounds
-insert-requires-clause-bounds c = bounded-inside c.state.inside.turn c.state.inside.doc c.args.state.now c.state.view_is c.requires.bounds
-    (owner_in c.state.inside.doc c.key-parent.result)
+    let parent = key_of _ d _ c.state.view_is _ _ _ c.key-parent.ensures.name in
+    let node = key_of _ d _ c.state.view_is _ _ _ c.key-node.ensures.name in
+    let e = c.in_ok-insert.ensures in
+    plans _ d _ c.state.view_is (may_act _ _ _ (Any c.args.parent ∷ Any c.args.node ∷ []) (search namings) c.admit.ensures c.in_ok-admit.was) _ _ _ _
+    (none_refused (λ j. insertion_refusal (part_of d.world (parent.mine j)).trees (parent.name j) (node.name j) None) tt e.refused) refl refl
+    (e.world ∙ (λ j. made (parent.mine j) (pre_inserting (node.name j) (parent.name j) None) d.world)) c.accept.ensures.done

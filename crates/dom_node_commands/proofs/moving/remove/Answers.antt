@@ -1,37 +1,20 @@
-use Rattle.std.proofs.Common.{[], ◌∷◌, refl, sym, ◌∙◌}
-use Rattle.std.proofs.lemmas.Result.{err_from_is_err_and}
-use Rattle.dom_model.specs.Changes.{removing, observed}
-use Rattle.dom_model.specs.Command.{Command}
-use Rattle.dom_model.specs.CommandNames.{named}
-use Rattle.dom_model.specs.Output.{nothing}
-use Rattle.dom_reader.specs.Views.{word_view}
+use Rattle.std.proofs.Common.{◌∷◌, ◌∙◌, [], refl}
+use Rattle.dom_model.specs.Changes.{observed, removing}
 use Rattle.dom_admission.specs.declared.admission.Operand.TheVariants.{Child}
-use Rattle.dom_admission.proofs.Handling.{refused, plans}
-use Rattle.dom_admission.proofs.Finding.{IsKey}
+use Rattle.dom_mutation.specs.Doc.{made}
+use Rattle.dom_admission.proofs.Finding.{key_of}
+use Rattle.dom_admission.proofs.Handling.{may_act, plans, refused}
 use Rattle.dom_admission.proofs.Refusing.{namings}
-use Rattle.dom_node_commands.proofs.CommandPlans.{node-made}
 use Rattle.dom_node_commands.proofs.moving.remove.Goals as goal
 
 pub returns-in_err-admit-clause-handled : goal.returns-in_err-admit-clause-handled
 returns-in_err-admit-clause-handled c =
-    let p = err_from_is_err_and c.from_residual.result c.from_residual.ensures.1 in
-    rw (p.1, p.2) (refused c.args.state.now.world c.args.owner (Command.remove (word_view c.args.node)) (Child c.args.node ∷ [])
-    c.args.out.now.items c.in_err-admit.field-0.0 (search namings) (sym c.admit.ensures ∙ c.in_err-admit.was))
+    refused _ _ _ (Child c.args.node ∷ []) _ _ (search namings) c.admit.ensures c.in_err-admit.was c.from_residual.ensures.1
 
 pub returns-clause-handled : goal.returns-clause-handled
 returns-clause-handled c =
     let d = c.state.inside.doc in
-    let node_is : IsKey d.names d.world c.args.owner c.key-node.result (word_view c.args.node) = rw (← c.state.view_is) at c.key-node.ensures.name in
-    plans c.state.inside.turn d c.args.state.now c.state.view_is c.args.owner (Command.remove (word_view c.args.node)) (Child c.args.node ∷ [])
-    (search namings) (sym c.admit.ensures ∙ c.in_ok-admit.was) c.remove.new.self.world (record {
-      plan = λ p. removing observed (named p (word_view c.args.node)) p;
-      value = λ p. nothing;
-      reply = nothing;
-      runs = refl;
-      unrefused = refl;
-      follows = node-made d.names d.world c.args.owner (removing observed) (word_view c.args.node) c.key-node.result node_is c.remove.new.self.world
-          c.in_ok-remove.ensures.world;
-      replies = refl;
-    })
-    (record { world = c.accept.new.self.world; before = c.args.out.now.items; after = c.accept.new.out.items; result = c.accept.result })
-    c.accept.ensures.done
+    let node = key_of _ d _ c.state.view_is _ _ _ c.key-node.ensures.name in
+    let e = c.in_ok-remove.ensures in
+    plans _ d _ c.state.view_is (may_act _ _ _ (Child c.args.node ∷ []) (search namings) c.admit.ensures c.in_ok-admit.was) _ _ _ _
+    refl refl refl (e.world ∙ (λ j. made (node.mine j) (removing observed (node.name j)) d.world)) c.accept.ensures.done

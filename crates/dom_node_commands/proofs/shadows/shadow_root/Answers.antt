@@ -1,22 +1,13 @@
-use Rattle.std.proofs.Common.{[], ◌∷◌, refl, sym, ◌∙◌}
-use Rattle.std.proofs.lemmas.Result.{err_from_is_err_and}
-use Rattle.dom_model.specs.Command.{Command}
-use Rattle.dom_model.specs.Output.{null}
-use Rattle.dom_reader.specs.Views.{word_view}
+use Rattle.std.proofs.Common.{◌∷◌, [], refl}
 use Rattle.dom_admission.specs.declared.admission.Operand.TheVariants.{Element}
-use Rattle.dom_admission.proofs.Handling.{refused, reads}
+use Rattle.dom_admission.proofs.Handling.{may_act, reads, refused}
 use Rattle.dom_admission.proofs.Refusing.{namings}
 use Rattle.dom_node_commands.proofs.shadows.shadow_root.Goals as goal
 
 pub returns-in_err-admit-clause-handled : goal.returns-in_err-admit-clause-handled
 returns-in_err-admit-clause-handled c =
-    let p = err_from_is_err_and c.from_residual.result c.from_residual.ensures.1 in
-    rw (p.1, p.2) (refused c.args.state.now.world c.args.owner (Command.shadow_root (word_view c.args.element)) (Element c.args.element ∷ [])
-    c.args.out.now.items c.in_err-admit.field-0.0 (search namings) (sym c.admit.ensures ∙ c.in_err-admit.was))
+    refused _ _ _ (Element c.args.element ∷ []) _ _ (search namings) c.admit.ensures c.in_err-admit.was c.from_residual.ensures.1
 
 pub returns-clause-handled : goal.returns-clause-handled
 returns-clause-handled c =
-    reads c.args.state.now.world c.args.owner (Command.shadow_root (word_view c.args.element)) (Element c.args.element ∷ [])
-    (sym c.admit.ensures ∙ c.in_ok-admit.was) refl (λ p. null)
-    (record { world = c.accept.new.self.world; before = c.args.out.now.items; after = c.accept.new.out.items; result = c.accept.result })
-    (search namings) refl refl c.accept.ensures.done
+    reads (may_act _ _ _ (Element c.args.element ∷ []) (search namings) c.admit.ensures c.in_ok-admit.was) _ _ _ _ refl refl refl c.accept.ensures.done

@@ -1,60 +1,34 @@
-use Rattle.std.proofs.Common.{Err, Some, [], ◌∷◌, refl, sym, ap, ◌∙◌}
-use Rattle.std.proofs.lemmas.Result.{err_from_is_err_and}
-use Rattle.dom_base.specs.declared.Fault.TheVariants.{Refused}
-use Rattle.dom_base.specs.declared.Refusal.TheVariants.{Limit}
-use Rattle.dom_model.specs.Command.{Command}
+use Rattle.std.proofs.Common.{◌∷◌, ◌∙◌, ◌++◌, [], length, refl, sym}
+use Rattle.dom_model.specs.Effects.{answers, new_walker}
 use Rattle.dom_model.specs.Output.{a_walker}
-use Rattle.dom_reader.specs.Views.{word_view, filter_view}
-use Rattle.dom_traversal.specs.Filters.{filter_of}
+use Rattle.dom_model.specs.World.{part_of}
 use Rattle.dom_admission.specs.declared.admission.Operand.TheVariants.{Any}
-use Rattle.dom_base.specs.declared.NodeName.{NodeName}
-use Rattle.dom_admission.proofs.Finding.{owner-named}
-use Rattle.dom_admission.proofs.Handling.{refused, tabled, faults}
-use Rattle.dom_admission.proofs.Finding.{IsKey}
-use Rattle.dom_admission.proofs.OwnRefusals.{lone_holds, lone_fails, only_refusal, given_not}
+use Rattle.dom_admission.proofs.Finding.{key_of}
+use Rattle.dom_admission.proofs.Handling.{faults, keeps, may_act, refused}
+use Rattle.dom_admission.proofs.OwnRefusals.{lone_passes, lone_refuses}
 use Rattle.dom_admission.proofs.Refusing.{namings}
-use Rattle.dom_query_commands.proofs.CursorLaws.{new_walker-made}
 use Rattle.dom_query_commands.proofs.cursors.new_walker.Goals as goal
 
 pub returns-in_err-admit-clause-handled : goal.returns-in_err-admit-clause-handled
-returns-in_err-admit-clause-handled c =
-    let p = err_from_is_err_and c.from_residual.result c.from_residual.ensures.1 in
-    rw (p.1, p.2) (refused c.args.state.now.world c.args.owner (Command.walker_new (word_view c.args.root) (filter_view c.args.filter))
-    (Any c.args.root ∷ []) c.args.out.now.items c.in_err-admit.field-0.0 (search namings)
-    (sym c.admit.ensures ∙ c.in_err-admit.was))
+returns-in_err-admit-clause-handled c = refused _ _ _ (Any c.args.root ∷ []) _ _ (search namings) c.admit.ensures c.in_err-admit.was c.from_residual.ensures.1
 
 pub returns-in_err-number-clause-handled : goal.returns-in_err-number-clause-handled
 returns-in_err-number-clause-handled c =
-    let p = err_from_is_err_and c.from_residual-in_err-number.result c.from_residual-in_err-number.ensures.1 in
-    let d = c.state.inside.doc in
     let e = c.in_err-number.ensures in
-    rw (p.1, p.2) (faults c.state.inside.turn d c.args.state.now c.state.view_is c.args.owner
-    (Command.walker_new (word_view c.args.root) (filter_view c.args.filter)) (Any c.args.root ∷ [])
-    (search namings) (sym c.admit.ensures ∙ c.in_ok-admit.was) c.walk_make.new.self.world
-    c.args.out.now.items c.in_err-number.field-0.0
-    (λ r is.
-    let same = only_refusal c.in_err-number.field-0.0 Limit r e.other is in
-    (lone_holds _ Limit (e.limit.0 (ap Err (is ∙ ap Refused same))) ∙ ap Some (sym same), ap (λ s. s.world) e.err)))
+    faults _ c.state.inside.doc _ c.state.view_is (may_act _ _ _ (Any c.args.root ∷ []) (search namings) c.admit.ensures c.in_ok-admit.was) _ _ _
+    c.from_residual-in_err-number.ensures.1 (lone_refuses refl e.limit e.other) (λ r h. e.err)
 
 pub returns-clause-handled : goal.returns-clause-handled
 returns-clause-handled c =
-    let d = c.state.inside.doc in
-    let root_is : IsKey d.names d.world c.args.owner c.key-root.result (word_view c.args.root) = rw (← c.state.view_is) at c.key-root.ensures.name in
-    tabled c.state.inside.turn d c.args.state.now c.state.view_is c.args.owner (Command.walker_new (word_view c.args.root) (filter_view c.args.filter))
-    (Any c.args.root ∷ []) (search namings) (sym c.admit.ensures ∙ c.in_ok-admit.was) c.walk_make.new.self.world (record {
-      value = a_walker c.in_ok-number.number;
-      reply = a_walker c.in_ok-number.number;
-      runs = refl;
-      unrefused = lone_fails _ Limit (λ h. given_not c.in_ok-number.number Limit (c.in_ok-number.ensures.limit.1 h));
-      follows = new_walker-made d.names d.world c.walk_make.new.self.world c.args.owner (word_view c.args.root) c.key-root.result root_is
-          (filter_of c.node_filter.result) (filter_view c.args.filter) (a_walker c.in_ok-number.number) c.node_filter.ensures c.in_ok-number.ensures.world;
-      replies = refl;
-    })
-    (record { world = c.accept.new.self.world; before = c.args.out.now.items; after = c.accept.new.out.items; result = c.accept.result })
-    c.accept.ensures.done
+    let root = key_of _ c.state.inside.doc _ c.state.view_is _ _ _ c.key-root.ensures.name in
+    let e = c.in_ok-number.ensures in
+    let p = part_of c.state.inside.doc.world c.args.owner in
+    keeps _ c.state.inside.doc _ c.state.view_is (may_act _ _ _ (Any c.args.root ∷ []) (search namings) c.admit.ensures c.in_ok-admit.was) _ _ _ _
+    (lone_passes _ refl e.limit) refl (
+      sym (λ j. answers (record p { walkers = p.walkers ++ new_walker (root.number j) (c.node_filter.ensures j) ∷ [] })
+          (a_walker (length p.walkers))) ∙ e.world.0,
+      e.world.1,
+    ) refl c.accept.ensures.done
 
 pub walk_make-requires-clause-own : goal.walk_make-requires-clause-own
-walk_make-requires-clause-own c =
-    let d = c.state.inside.doc in
-    let root_is : IsKey d.names d.world c.args.owner c.key-root.result (word_view c.args.root) = rw (← c.state.view_is) at c.key-root.ensures.name in
-    ap (λ (x : NodeName). x.owner) root_is ∙ owner-named d.world c.args.owner (word_view c.args.root)
+walk_make-requires-clause-own c = (key_of _ c.state.inside.doc _ c.state.view_is _ _ _ c.key-root.ensures.name).mine

@@ -1,31 +1,18 @@
-use Rattle.std.proofs.Common.{[], ◌∷◌, refl, sym, ap, ◌∙◌, List}
-use Rattle.std.proofs.lemmas.Result.{err_from_is_err_and}
-use Rattle.dom_base.specs.declared.NodeName.{NodeName}
+use Rattle.std.proofs.Common.{◌∷◌, [], ap, refl, sym}
 use Rattle.dom_model.specs.Command.{Command}
 use Rattle.dom_model.specs.Output.{a_node}
-use Rattle.dom_tree.specs.Forest.{name_at}
 use Rattle.dom_admission.specs.declared.admission.Operand.TheVariants.{Walker}
-use Rattle.dom_admission.proofs.Handling.{refused, told}
+use Rattle.dom_admission.proofs.Handling.{may_act, refused, tells}
 use Rattle.dom_admission.proofs.Refusing.{namings}
 use Rattle.dom_query_commands.proofs.cursors.place_of_walker.Goals as goal
 
 pub returns-in_err-admit-clause-handled : goal.returns-in_err-admit-clause-handled
 returns-in_err-admit-clause-handled c =
-    let p = err_from_is_err_and c.from_residual.result c.from_residual.ensures.1 in
-    rw (p.1, p.2) (refused c.args.state.now.world c.args.owner (Command.walker_at c.args.number) (Walker c.args.number ∷ []) c.args.out.now.items
-    c.in_err-admit.field-0.0 (search namings) (sym c.admit.ensures ∙ c.in_err-admit.was))
+    refused _ c.args.owner (Command.walker_at c.args.number) (Walker c.args.number ∷ []) _ _ (search namings) c.admit.ensures c.in_err-admit.was
+    c.from_residual.ensures.1
 
 pub returns-clause-handled : goal.returns-clause-handled
 returns-clause-handled c =
-    let d = c.state.inside.doc in
-    told c.state.inside.turn d c.args.state.now c.state.view_is c.args.owner (Command.walker_at c.args.number) (Walker c.args.number ∷ []) (search namings)
-    (sym c.admit.ensures ∙ c.in_ok-admit.was) (record {
-      value = a_node (name_at d.names c.walk_at-current.result);
-      reply = a_node c.name-node.result;
-      runs = refl;
-      unrefused = refl;
-      follows = c.walk_at-current.ensures.value;
-      replies = ap a_node (sym c.name-node.ensures.at ∙ ap (λ (names : List NodeName). name_at names c.walk_at-current.result) c.forest.ensures.names);
-    })
-    (record { world = c.accept.new.self.world; before = c.args.out.now.items; after = c.accept.new.out.items; result = c.accept.result })
-    c.accept.ensures.done
+    tells _ c.state.inside.doc _ c.state.view_is
+    (may_act _ _ _ (Walker c.args.number ∷ []) (search namings) c.admit.ensures c.in_ok-admit.was) _ _ _ _ refl refl
+    c.walk_at-current.ensures.value (ap a_node (sym (rw c.forest.ensures.names at c.name-node.ensures.at))) c.accept.ensures.done

@@ -1,45 +1,25 @@
-use Rattle.std.proofs.Common.{Err, Some, [], refl, sym, ap, ◌∙◌}
-use Rattle.std.proofs.lemmas.Result.{err_from_is_err_and}
-use Rattle.dom_base.specs.declared.Fault.TheVariants.{Refused}
-use Rattle.dom_base.specs.declared.Refusal.TheVariants.{Limit}
+use Rattle.std.proofs.Common.{[], refl}
 use Rattle.dom_model.specs.Command.{Command}
-use Rattle.dom_model.specs.Output.{an_observer}
-use Rattle.dom_admission.proofs.Handling.{refused, tabled, faults, admitted}
-use Rattle.dom_admission.proofs.OwnRefusals.{lone_holds, lone_fails, only_refusal, given_not}
+use Rattle.dom_admission.proofs.Handling.{faults, keeps, may_act, passes, refused}
+use Rattle.dom_admission.proofs.OwnRefusals.{lone_passes, lone_refuses}
 use Rattle.dom_admission.proofs.Refusing.{namings}
 use Rattle.dom_query_commands.proofs.observing.new_observer.Goals as goal
 
 pub returns-in_err-admit-clause-handled : goal.returns-in_err-admit-clause-handled
 returns-in_err-admit-clause-handled c =
-    let p = err_from_is_err_and c.from_residual.result c.from_residual.ensures.1 in
-    rw (p.1, p.2) (refused c.args.state.now.world c.args.owner Command.observer [] c.args.out.now.items c.in_err-admit.field-0.0 (search namings)
-    (sym c.admit.ensures ∙ c.in_err-admit.was))
+    refused _ c.args.owner Command.observer ([]) _ _ (search namings) c.admit.ensures c.in_err-admit.was c.from_residual.ensures.1
 
 pub returns-in_err-number-clause-handled : goal.returns-in_err-number-clause-handled
 returns-in_err-number-clause-handled c =
-    let p = err_from_is_err_and c.from_residual-in_err-number.result c.from_residual-in_err-number.ensures.1 in
-    let d = c.state.inside.doc in
     let e = c.in_err-number.ensures in
-    rw (p.1, p.2) (faults c.state.inside.turn d c.args.state.now c.state.view_is c.args.owner Command.observer [] (search namings)
-    (sym c.admit.ensures ∙ c.in_ok-admit.was) c.observer_make.new.self.world c.args.out.now.items c.in_err-number.field-0.0
-    (λ r is.
-    let same = only_refusal c.in_err-number.field-0.0 Limit r e.other is in
-    (lone_holds _ Limit (e.limit.0 (ap Err (is ∙ ap Refused same))) ∙ ap Some (sym same), ap (λ s. s.world) e.err)))
+    faults _ c.state.inside.doc _ c.state.view_is (may_act _ _ _ ([]) (search namings) c.admit.ensures c.in_ok-admit.was) _ _ _
+    c.from_residual-in_err-number.ensures.1 (lone_refuses refl e.limit e.other) (λ r h. e.err)
 
 pub returns-clause-handled : goal.returns-clause-handled
 returns-clause-handled c =
-    let d = c.state.inside.doc in
-    tabled c.state.inside.turn d c.args.state.now c.state.view_is c.args.owner Command.observer [] (search namings) (sym c.admit.ensures ∙ c.in_ok-admit.was)
-    c.observer_make.new.self.world (record {
-      value = an_observer c.in_ok-number.number;
-      reply = an_observer c.in_ok-number.number;
-      runs = refl;
-      unrefused = lone_fails _ Limit (λ h. given_not c.in_ok-number.number Limit (c.in_ok-number.ensures.limit.1 h));
-      follows = c.in_ok-number.ensures.world;
-      replies = refl;
-    })
-    (record { world = c.accept.new.self.world; before = c.args.out.now.items; after = c.accept.new.out.items; result = c.accept.result })
-    c.accept.ensures.done
+    let e = c.in_ok-number.ensures in
+    keeps _ c.state.inside.doc _ c.state.view_is (may_act _ _ _ ([]) (search namings) c.admit.ensures c.in_ok-admit.was) _ _ _ _
+    (lone_passes _ refl e.limit) refl e.world refl c.accept.ensures.done
 
 pub observer_make-requires : goal.observer_make-requires
-observer_make-requires c = rw (← c.state.view_is) at (admitted c.args.state.now.world c.args.owner [] (sym c.admit.ensures ∙ c.in_ok-admit.was))
+observer_make-requires c = rw (← c.state.view_is) at (passes c.args.state.now.world c.args.owner [] c.admit.ensures c.in_ok-admit.was).owner

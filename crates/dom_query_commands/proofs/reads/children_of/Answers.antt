@@ -1,24 +1,19 @@
-use Rattle.std.proofs.Common.{◌≡◌, ap, ◌∙◌, List}
+use Rattle.std.proofs.Common.{◌∙◌, ◌≡◌}
 use Rattle.std.proofs.lemmas.Result.{IfOk-weaker}
-use Rattle.dom_base.specs.declared.NodeName.{NodeName}
-use Rattle.dom_model.specs.Tree.{children_of}
 use Rattle.dom_model.specs.CommandNames.{named}
+use Rattle.dom_model.specs.Tree.{children_of}
 use Rattle.dom_model.specs.World.{part_of}
 use Rattle.dom_reader.specs.Views.{word_view}
 use Rattle.dom_tree.specs.Forest.{name_at}
-use Rattle.dom_tree.proofs.Owned.{read_own}
-use Rattle.dom_admission.proofs.Finding.{owner-named, read_at}
+use Rattle.dom_admission.proofs.Finding.{read_at, read_by_key}
 use Rattle.dom_query_commands.proofs.reads.children_of.Goals as goal
 
 pub returns : goal.returns
 returns c =
-    let w = c.state.inside.doc.world in
-    let s = word_view c.args.node in
-    let f = c.forest.result.now in
-    let x = named (part_of w c.args.owner) s in
-    let is : name_at c.state.inside.doc.names c.key-key.result ≡ x = rw (← c.state.view_is) at c.key-key.ensures.name in
-    let here = ap (λ (names : List NodeName). name_at names c.key-key.result) c.forest.ensures.names ∙ is in
-    let own = read_own f.trees c.forest.ensures.owned c.args.owner x (owner-named w c.args.owner s) in
-    let same = read_at children_of f.trees here (c.forest.ensures.trees c.args.owner) own.children in
-    rw (← c.state.view_is) (IfOk-weaker c.child_names.result (λ names. names.items ≡ children_of f.trees (name_at f.names c.key-key.result))
-    (λ names. names.items ≡ children_of (part_of w c.args.owner).trees x) (λ names e. e ∙ same) c.child_names.ensures)
+    let shown = c.forest.ensures in
+    let at = read_by_key _ c.state.inside.doc _ c.state.view_is _ _ _ c.key-key.ensures.name _ shown.names shown.owned shown.trees in
+    rw (← c.state.view_is) (IfOk-weaker c.child_names.result
+    (λ names. names.items ≡ children_of c.forest.result.now.trees (name_at c.forest.result.now.names c.key-key.result))
+    (λ names. names.items ≡ children_of (part_of c.state.inside.doc.world c.args.owner).trees
+    (named (part_of c.state.inside.doc.world c.args.owner) (word_view c.args.node)))
+    (λ names e. e ∙ read_at children_of _ at.here at.trees at.reads.children) c.child_names.ensures)

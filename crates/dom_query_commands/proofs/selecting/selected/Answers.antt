@@ -1,29 +1,25 @@
-use Rattle.std.proofs.Common.{◌≡◌, ap, ◌∙◌, List}
-use Rattle.std.specs.Prelude.{map}
+use Rattle.std.proofs.Common.{◌∙◌, ◌≡◌, ap, map}
 use Rattle.std.proofs.lemmas.Result.{IfOk-weaker}
-use Rattle.dom_base.specs.declared.NodeName.{NodeName}
 use Rattle.dom_model.specs.CommandNames.{named}
 use Rattle.dom_model.specs.Selectors.{query_all}
 use Rattle.dom_model.specs.World.{part_of}
 use Rattle.dom_reader.specs.Views.{word_view}
 use Rattle.dom_selectors.specs.Views.{selector_view}
 use Rattle.dom_tree.specs.Forest.{name_at}
-use Rattle.dom_admission.proofs.Finding.{owner-named, read_at}
+use Rattle.dom_admission.proofs.Finding.{read_at, read_by_key}
 use Rattle.dom_query_commands.proofs.SelectorLaws.{query_own}
 use Rattle.dom_query_commands.proofs.selecting.selected.Goals as goal
 
 pub returns : goal.returns
 returns c =
-    let w = c.state.inside.doc.world in
-    let s = word_view c.args.node in
     let f = c.forest-forest.result.now in
-    let x = named (part_of w c.args.owner) s in
-    let sel = selector_view c.args.selector.now in
-    let is : name_at c.state.inside.doc.names c.key-key.result ≡ x = rw (← c.state.view_is) at c.key-key.ensures.name in
-    let here = ap (λ (names : List NodeName). name_at names c.key-key.result) c.forest-forest.ensures.names ∙ is in
-    let own = query_own f.trees c.forest-forest.ensures.owned c.args.owner sel x (owner-named w c.args.owner s) in
-    let same = read_at (λ ts y. query_all ts sel y) f.trees here (c.forest-forest.ensures.trees c.args.owner) own in
+    let p = part_of c.state.inside.doc.world c.args.owner in
+    let s = selector_view c.args.selector.now in
+    let x = named p (word_view c.args.node) in
+    let shown = c.forest-forest.ensures in
+    let at = read_by_key _ c.state.inside.doc _ c.state.view_is _ _ _ c.key-key.ensures.name _ shown.names shown.owned shown.trees in
+    let own = query_own f.trees shown.owned c.args.owner s x at.mine in
     rw (← c.state.view_is)
-    (IfOk-weaker c.names_of.result (λ names. names.items ≡ map (name_at f.names) c.deref.result.now)
-    (λ names. names.items ≡ query_all (part_of w c.args.owner).trees sel x)
-    (λ names e. e ∙ ap (map (name_at f.names)) c.deref.ensures.value ∙ c.in_ok-keys.ensures.found ∙ same) c.names_of.ensures)
+    (IfOk-weaker c.names_of.result (λ names. names.items ≡ map (name_at f.names) c.deref.result.now) (λ names. names.items ≡ query_all p.trees s x)
+    (λ names e. e ∙ ap (map (name_at f.names)) c.deref.ensures.value ∙ c.in_ok-keys.ensures.found
+    ∙ read_at (λ ts y. query_all ts s y) f.trees at.here at.trees own) c.names_of.ensures)

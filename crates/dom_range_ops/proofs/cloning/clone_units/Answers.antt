@@ -2,7 +2,7 @@ use Rattle.std.proofs.Common.{List, ℕ, ap, ◌∙◌}
 use Rattle.std.specs.Prelude.{slice_range}
 use Rattle.dom_model.specs.Tree.{node_in}
 use Rattle.dom_tree.specs.Forest.{name_at}
-use Rattle.dom_range_ops.proofs.DocTexts.{if-ok}
+use Rattle.dom_range_ops.proofs.DocRanges.{if-ok}
 use Rattle.dom_range_ops.proofs.cloning.clone_units.Goals as goal
 
 pub returns-clause-value : goal.returns-clause-value

@@ -1,42 +1,60 @@
-use Rattle.std.proofs.Common.{refl, sym, ap, map, ◌∙◌}
+use Rattle.std.proofs.Common.{◌≡◌, ℕ, map, refl, sym, ap, subst, ◌∙◌}
+use Rattle.std.specs.List.{AllByRecursion}
 use Rattle.std.proofs.lemmas.Result.{on_ok_weaker}
-use Rattle.dom_model.specs.Changes.{in_turn, removing, observed}
-use Rattle.dom_mutation.specs.Doc.{name_in, owner_in, trees_in, planned}
-use Rattle.dom_range_ops.specs.Texts.{range_at_points}
-use Rattle.dom_range_ops.proofs.DeletionPlans.{contents-made}
+use Rattle.dom_mutation.specs.Doc.{DocState, HoldsNode, name_in, owner_in}
+use Rattle.dom_range_ops.proofs.DeletionPlans.{with_cut, without_nodes, contents-cut, contents-made}
+use Rattle.dom_range_ops.proofs.DocRanges.{RangeRead, range-read, bounded-in, spanned-in, one-in, cut-in, found-in, found-own}
 use Rattle.dom_range_ops.proofs.deleting.delete_contents.Goals as goal
+use Rattle.dom_range_ops.proofs.deleting.delete_contents.Goals.{After-law_nodes_stand_once}
+
+abbrev read : After-law_nodes_stand_once → RangeRead
+read c =
+    let g = c.forest-forest.ensures in
+    let e = c.law_nodes_stand_once.ensures in
+    range-read c.forest-forest.result.now c.args.doc.now c.args.points.now e.once e.only g.owned g.names g.trees c.requires
+
+pub part_in-at_start-requires-clause-ends : goal.part_in-at_start-requires-clause-ends
+part_in-at_start-requires-clause-ends c = (bounded-in (read c)).ends
+
+pub is_in_one_data-requires : goal.is_in_one_data-requires
+is_in_one_data-requires c = (bounded-in (read (goal.at.is_in_one_data-requires c).After-law_nodes_stand_once)).ends
+
+pub part_in-at_end-requires-clause-ends : goal.part_in-at_end-requires-clause-ends
+part_in-at_end-requires-clause-ends c = (bounded-in (read (goal.at.part_in-at_end-requires-clause-ends c).After-law_nodes_stand_once)).ends
+
+pub outermost_contained-requires : goal.outermost_contained-requires
+outermost_contained-requires c = spanned-in (read (goal.at.outermost_contained-requires c).After-law_nodes_stand_once)
+
+pub remove_each-requires-clause-nodes : goal.remove_each-requires-clause-nodes
+remove_each-requires-clause-nodes c =
+    let first = c.args.points.now.start.0 in
+    let own = λ (d : DocState) (k : ℕ). (HoldsNode d k) × (owner_in d k ≡ owner_in d first) in
+    subst (λ (d : DocState). AllByRecursion (own d) c.as_slice.result.now) (sym c.in_ok-cut.ensures)
+    (subst (AllByRecursion (own c.args.doc.now)) (sym c.as_slice.ensures.value)
+    (found-own (read (goal.at.remove_each-requires-clause-nodes c).After-law_nodes_stand_once) c.in_ok-found.found.items
+    c.in_ok-found.ensures.nodes c.in_ok-found.ensures.value))
+
+pub returns-then-is_in_one_data : goal.returns-then-is_in_one_data
+returns-then-is_in_one_data c =
+    let m = read (goal.at.returns-then-is_in_one_data c).After-law_nodes_stand_once in
+    let first = c.args.points.now.start.0 in
+    on_ok_weaker c.cut.result
+    (λ h. h ∙ contents-cut c.args.doc.now c.args.points.now c.requires (c.laws.ensures.alone first c.requires.start) _
+    (sym (one-in m) ∙ sym c.is_in_one_data.ensures ∙ c.if-is_in_one_data.true)
+    (cut-in m first _ refl c.part_in-at_start.ensures))
+    c.cut.ensures
 
 pub returns : goal.returns
 returns c =
+    let m = read (goal.at.returns c).After-law_nodes_stand_once in
     let d = c.args.doc.now in
-    let d1 = c.cut-2.new.doc in
-    let d2 = c.remove_each.new.doc in
     let points = c.args.points.now in
-    let first = points.start.0 in
+    let ks = c.as_slice.result.now in
     on_ok_weaker c.cut-3.result
-    (λ end_cut_is. contents-made (record {
-      before = d;
-      start_cut = d1;
-      removed = d2;
-      end_cut = c.cut-3.new.doc;
-      first_node = first;
-      last_node = points.end.0;
-      trees = trees_in d first;
-      range = range_at_points d.names points;
-      first_part = c.part_at-at_start.result;
-      last_part = c.part_at-at_end.result;
-      keys = c.in_ok-found.found.items;
-      start_is = refl;
-      end_is = refl;
-      alone = c.laws.ensures.alone first c.requires.start;
-      apart_ends = sym c.is_within_one.ensures ∙ c.if-is_within_one.false;
-      one_owner = c.requires.owner;
-      first_part_is = c.part_at-at_start.ensures;
-      last_part_is = c.part_at-at_end.ensures;
-      keys_are = c.in_ok-found.ensures.value;
-      start_cut_is = c.in_ok-cut.ensures;
-      removed_is = c.in_ok-remove_each.ensures ∙ ap (λ ks. planned (owner_in d1 first) (in_turn (removing observed) (map (name_in d1) ks)) d1)
-          c.as_slice.ensures.value;
-      end_cut_is = end_cut_is;
-    }))
+    (λ h. h ∙ ap (with_cut points.end.0 c.part_in-at_end.result)
+    (c.in_ok-remove_each.ensures ∙ ap (without_nodes points.start.0 ks) c.in_ok-cut.ensures)
+    ∙ contents-made d points c.requires (c.laws.ensures.alone points.start.0 c.requires.start) _ _ ks
+    (sym (one-in m) ∙ sym c.is_in_one_data.ensures ∙ c.if-is_in_one_data.false)
+    (cut-in m points.start.0 _ refl c.part_in-at_start.ensures, cut-in m points.end.0 _ c.requires.owner c.part_in-at_end.ensures)
+    (ap (map (name_in d)) c.as_slice.ensures.value ∙ found-in m c.in_ok-found.found.items c.in_ok-found.ensures.value))
     c.cut-3.ensures

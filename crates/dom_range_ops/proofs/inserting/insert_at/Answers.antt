@@ -1,77 +1,92 @@
-use Rattle.std.proofs.Common.{List, sym, ap, subst, ◌∙◌}
+use Rattle.std.proofs.Common.{◌≡◌, List, refl, sym, ap, subst, ◌∙◌}
 use Rattle.std.proofs.lemmas.Result.{on_ok_weaker}
 use Rattle.dom_base.specs.declared.NodeName.{NodeName}
 use Rattle.dom_worlds.proofs.PlanLemmas.{leads-removing}
 use Rattle.dom_model.specs.Changes.{observed, removing}
-use Rattle.dom_model.specs.Tree.{has_node, has_data, kind_of}
+use Rattle.dom_model.specs.Tree.{has_node, has_data, is_shadow, kind_of}
 use Rattle.dom_model.specs.World.{part_of}
-use Rattle.dom_mutation.specs.Doc.{made, name_in, owner_in}
+use Rattle.dom_mutation.specs.Doc.{DocState, name_in, owner_in, planned}
 use Rattle.dom_mutation.specs.Hosting.{IsAlone}
-use Rattle.dom_mutation.proofs.BoundedDocs.{bounds_removed}
+use Rattle.dom_mutation.specs.Ready.{AreReady}
+use Rattle.dom_mutation.proofs.Turns.{Stays, may_now, child_now}
 use Rattle.dom_parts.proofs.OwnPlans.{plans_removing}
-use Rattle.dom_mutation.proofs.Turns.{may_now, child_now}
 use Rattle.dom_tree.specs.Forest.{name_at}
-use Rattle.dom_range_ops.proofs.InsertedParts.{open-kept}
+use Rattle.dom_range_ops.proofs.InsertedParts.{kind-kept}
 use Rattle.dom_range_ops.proofs.InsertedPlans.{state-is, stays-left, inserted-at}
 use Rattle.dom_range_ops.proofs.inserting.insert_at.Goals as goal
+use Rattle.dom_range_ops.proofs.inserting.insert_at.Goals.{After-laws, In_ok-remove}
+
+-- the owner is alone in its part
+alone : (c : After-laws) → IsAlone c.args.doc.now.world c.args.owner
+alone c = subst (IsAlone c.args.doc.now.world) c.requires.parent_own (c.laws.ensures.alone c.args.parent c.requires.parent_is_node)
+
+-- the node left its parent
+removed : (c : In_ok-remove) →
+    c.remove.new.self ≡ planned (owner_in c.args.doc.now c.args.node) (removing observed (name_in c.args.doc.now c.args.node)) c.args.doc.now
+removed c = state-is c.args.doc.now c.remove.new.self (owner_in c.args.doc.now c.args.node) (removing observed (name_in c.args.doc.now c.args.node))
+    c.in_ok-remove.ensures.names c.in_ok-remove.ensures.world
+
+-- and the parent and the reference stay what they are
+stays : (c : In_ok-remove) → Stays c.args.parent c.reference_child-reference.result c.args.doc.now c.remove.new.self
+stays c =
+    stays-left c.args.doc.now c.remove.new.self c.laws.ensures.once c.args.parent c.args.node c.reference_child-reference.result
+    (c.laws.ensures.alone c.args.node c.requires.node_is_node) (c.requires.node_own ∙ sym c.requires.parent_own) c.requires.not_above
+    c.reference_child-reference.ensures.child c.reference_child-reference.ensures.apart (removed c)
 
 pub insert_before-requires-clause-open : goal.insert_before-requires-clause-open
 insert_before-requires-clause-open c =
     let d = c.args.doc.now in
     let o = c.args.owner in
     let x = name_in d c.args.node in
+    let k = goal.at.insert_before-requires-clause-open c in
     let own = c.requires.parent_own in
-    open-kept d c.remove.new.self o (removing observed x)
-    (subst (IsAlone d.world) own (c.laws.ensures.alone c.args.parent c.requires.parent_is_node)) (plans_removing o observed x)
-    (c.in_ok-remove.ensures.world ∙ ap (λ w. made w (removing observed x) d.world) c.requires.node_own)
+    kind-kept d c.remove.new.self o (removing observed x) (alone k.After-laws) (plans_removing o observed x)
+    (ap (λ s. s.world) (removed k.In_ok-remove ∙ ap (λ w. planned w (removing observed x) d) c.requires.node_own)) has_data
     (leads-removing observed x (part_of d.world o) (c.laws.ensures.parts o)).changed c.args.parent
-    (ap (λ (ns : List NodeName). name_at ns c.args.parent) c.in_ok-remove.ensures.names) own
+    (ap (λ (ns : List NodeName). name_at ns c.args.parent) c.in_ok-remove.ensures.names, own)
     (ap (λ w. has_node (part_of d.world w).trees (name_in d c.args.parent)) (sym own) ∙ c.laws.ensures.stand c.args.parent c.requires.parent_is_node)
     (ap (λ w. has_data (kind_of (part_of d.world w).trees (name_in d c.args.parent))) (sym own) ∙ c.requires.open)
 
-pub insert_before-requires-clause-may_move : goal.insert_before-requires-clause-may_move
-insert_before-requires-clause-may_move c =
-    let d = c.args.doc.now in
-    let e = c.remove.new.self in
-    let x = name_in d c.args.node in
-    let owner = c.requires.node_own ∙ sym c.requires.parent_own in
-    may_now c.args.parent c.reference_for-reference.result d e
-    (stays-left d e c.laws.ensures.once c.args.parent c.args.node c.reference_for-reference.result
-    (c.laws.ensures.alone c.args.node c.requires.node_is_node) owner c.requires.not_above c.reference_for-reference.ensures.child
-    c.reference_for-reference.ensures.apart
-    (state-is d e (owner_in d c.args.node) (removing observed x) c.in_ok-remove.ensures.names c.in_ok-remove.ensures.world))
-    c.args.node (record { node = c.requires.node_is_node; owner = owner; not_above = c.requires.not_above; apart = c.reference_for-reference.ensures.apart })
-
-pub insert_before-requires-clause-child_is_child : goal.insert_before-requires-clause-child_is_child
-insert_before-requires-clause-child_is_child c =
-    let d = c.args.doc.now in
-    let e = c.remove.new.self in
-    let x = name_in d c.args.node in
-    child_now c.args.parent c.reference_for-reference.result d e
-    (stays-left d e c.laws.ensures.once c.args.parent c.args.node c.reference_for-reference.result
-    (c.laws.ensures.alone c.args.node c.requires.node_is_node) (c.requires.node_own ∙ sym c.requires.parent_own) c.requires.not_above
-    c.reference_for-reference.ensures.child c.reference_for-reference.ensures.apart
-    (state-is d e (owner_in d c.args.node) (removing observed x) c.in_ok-remove.ensures.names c.in_ok-remove.ensures.world))
-    c.reference_for-reference.ensures.child
-
-pub insert_before-requires-clause-bounds : goal.insert_before-requires-clause-bounds
-insert_before-requires-clause-bounds c =
+pub insert_before-requires-clause-no_shadow : goal.insert_before-requires-clause-no_shadow
+insert_before-requires-clause-no_shadow c =
     let d = c.args.doc.now in
     let o = c.args.owner in
     let x = name_in d c.args.node in
-    bounds_removed o d (subst (IsAlone d.world) c.requires.parent_own (c.laws.ensures.alone c.args.parent c.requires.parent_is_node))
-    (c.laws.ensures.parts o) c.requires.bounds observed x c.remove.new.self
-    (state-is d c.remove.new.self o (removing observed x) c.in_ok-remove.ensures.names
-    (c.in_ok-remove.ensures.world ∙ ap (λ w. made w (removing observed x) d.world) c.requires.node_own))
+    let k = goal.at.insert_before-requires-clause-no_shadow c in
+    let own = c.requires.node_own in
+    kind-kept d c.remove.new.self o (removing observed x) (alone k.After-laws) (plans_removing o observed x)
+    (ap (λ s. s.world) (removed k.In_ok-remove ∙ ap (λ w. planned w (removing observed x) d) own)) is_shadow
+    (leads-removing observed x (part_of d.world o) (c.laws.ensures.parts o)).changed c.args.node
+    (ap (λ (ns : List NodeName). name_at ns c.args.node) c.in_ok-remove.ensures.names, own)
+    (ap (λ w. has_node (part_of d.world w).trees x) (sym own) ∙ c.laws.ensures.stand c.args.node c.requires.node_is_node)
+    (ap (λ w. is_shadow (kind_of (part_of d.world w).trees x)) (sym own) ∙ c.requires.no_shadow)
+
+pub insert_before-requires-clause-may_move : goal.insert_before-requires-clause-may_move
+insert_before-requires-clause-may_move c =
+    may_now c.args.parent c.reference_child-reference.result c.args.doc.now c.remove.new.self
+    (stays (goal.at.insert_before-requires-clause-may_move c).In_ok-remove) c.args.node (record {
+      node = c.requires.node_is_node;
+      owner = c.requires.node_own ∙ sym c.requires.parent_own;
+      not_above = c.requires.not_above;
+      apart = c.reference_child-reference.ensures.apart;
+    })
+
+pub insert_before-requires-clause-child_is_child : goal.insert_before-requires-clause-child_is_child
+insert_before-requires-clause-child_is_child c =
+    child_now c.args.parent c.reference_child-reference.result c.args.doc.now c.remove.new.self
+    (stays (goal.at.insert_before-requires-clause-child_is_child c).In_ok-remove) c.reference_child-reference.ensures.child
+
+pub insert_before-requires-clause-ready : goal.insert_before-requires-clause-ready
+insert_before-requires-clause-ready c =
+    let k = goal.at.insert_before-requires-clause-ready c in
+    subst (λ (s : DocState). AreReady s.world) (sym (inserted-at c.args.doc.now c.args.owner c.args.number c.args.parent c.args.node
+    (alone k.After-laws) c.requires.parent_own c.requires.node_own c.args.child c.reference_child-reference.result
+    c.reference_child-reference.ensures.value (removed k.In_ok-remove) refl)) c.requires.ready
 
 pub returns : goal.returns
 returns c =
-    let d = c.args.doc.now in
-    let e = c.remove.new.self in
-    let x = name_in d c.args.node in
+    let k = goal.at.returns c in
     on_ok_weaker c.insert_before.result
-    (inserted-at d c.args.owner c.args.number c.args.parent c.args.node
-    (subst (IsAlone d.world) c.requires.parent_own (c.laws.ensures.alone c.args.parent c.requires.parent_is_node)) c.requires.parent_own
-    c.requires.node_own c.args.child c.reference_for-reference.result c.reference_for-reference.ensures.value
-    (state-is d e (owner_in d c.args.node) (removing observed x) c.in_ok-remove.ensures.names c.in_ok-remove.ensures.world))
+    (inserted-at c.args.doc.now c.args.owner c.args.number c.args.parent c.args.node (alone k.After-laws) c.requires.parent_own
+    c.requires.node_own c.args.child c.reference_child-reference.result c.reference_child-reference.ensures.value (removed k.In_ok-remove))
     c.insert_before.ensures

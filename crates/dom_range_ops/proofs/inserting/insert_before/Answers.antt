@@ -1,7 +1,8 @@
-use Rattle.std.proofs.Common.{option_map, ap, subst, ◌∙◌}
+use Rattle.std.proofs.Common.{option_map, refl, sym, ap, subst, ◌∙◌}
 use Rattle.dom_model.specs.Changes.{observed, inserting}
 use Rattle.dom_mutation.specs.Doc.{DocState, made, name_in}
 use Rattle.dom_mutation.specs.Hosting.{IsAlone}
+use Rattle.dom_mutation.specs.Ready.{AreReady}
 use Rattle.dom_parts.proofs.OwnPlans.{plans_inserting}
 use Rattle.dom_range_ops.proofs.InsertedPlans.{inserted-before}
 use Rattle.dom_range_ops.proofs.InsertedRanges.{range-kept}
@@ -15,7 +16,15 @@ end_at-requires-clause-there c =
     (subst (IsAlone d.world) c.requires.parent_own (c.laws.ensures.alone c.args.parent c.requires.parent_is_node))
     (plans_inserting c.args.owner observed (name_in d c.args.node) (name_in d c.args.parent) (option_map (name_in d) c.args.reference)
     (c.requires.may_move.owner ∙ c.requires.parent_own))
-    (ap (λ (s : DocState). s.world) c.in_ok-insert_before.ensures.state ∙ ap (λ o. made o put d.world) c.requires.parent_own) c.args.number c.requires.there
+    (ap (λ (s : DocState). s.world) c.in_ok-insert_unchecked.ensures.state ∙ ap (λ o. made o put d.world) c.requires.parent_own) c.args.number c.requires.there
+
+pub end_at-requires-clause-ready : goal.end_at-requires-clause-ready
+end_at-requires-clause-ready c =
+    let d = c.args.doc.now in
+    subst (λ (s : DocState). AreReady s.world) (sym (inserted-before d c.args.owner c.args.number c.args.parent c.args.node
+    (subst (IsAlone d.world) c.requires.parent_own (c.laws.ensures.alone c.args.parent c.requires.parent_is_node)) c.requires.parent_own
+    (c.requires.may_move.owner ∙ c.requires.parent_own) c.args.reference
+    c.requires.may_move.apart c.offset_behind-offset.ensures c.in_ok-insert_unchecked.ensures.state refl)) c.requires.ready
 
 pub returns : goal.returns
 returns c =
@@ -23,4 +32,4 @@ returns c =
     inserted-before d c.args.owner c.args.number c.args.parent c.args.node
     (subst (IsAlone d.world) c.requires.parent_own (c.laws.ensures.alone c.args.parent c.requires.parent_is_node)) c.requires.parent_own
     (c.requires.may_move.owner ∙ c.requires.parent_own) c.args.reference
-    c.requires.may_move.apart c.offset_behind-offset.ensures c.in_ok-insert_before.ensures.state c.end_at.ensures
+    c.requires.may_move.apart c.offset_behind-offset.ensures c.in_ok-insert_unchecked.ensures.state c.end_at.ensures

@@ -1,13 +1,16 @@
-use Rattle.std.proofs.Common.{ℕ, ◌<◌, List, [], length, map, sym, ap, subst, ◌∙◌, refl}
+use Rattle.std.proofs.Common.{ℕ, ◌<◌, List, [], length, map, take, sym, ap, subst, ◌∙◌, refl}
 use Rattle.std.specs.List.{AllByRecursion}
 use Rattle.dom_tree.specs.Forest.{name_at}
-use Rattle.dom_range_ops.specs.Pieces.{AreItems}
+use Rattle.dom_range_ops.specs.Pieces.{AreItems, ArePaths}
 use Rattle.dom_range_ops.specs.declared.pieces.Piece.{Piece}
 use Rattle.dom_range_ops.proofs.PiecePaths.{paths-part, alike}
 use Rattle.dom_range_ops.proofs.pieces.pieces_apart.Goals as goal
+use Rattle.dom_range_ops.proofs.pieces.pieces_apart.Goals.{After-deref-4}
 
-pub push_pieces-requires-clause-paths : goal.push_pieces-requires-clause-paths
-push_pieces-requires-clause-paths c =
+-- the paths up to where they part
+paths : (c : After-deref-4) → ArePaths c.args.forest.now c.args.points.now (take c.parting-first.result.0 c.deref-3.result.now)
+    (take c.parting-first.result.1 c.deref-4.result.now)
+paths c =
     let f = c.args.forest.now in
     let e = c.law_nodes_stand_once.ensures in
     let points = c.args.points.now in
@@ -19,11 +22,20 @@ push_pieces-requires-clause-paths c =
     paths-part f e.once e.only e.distinct points c.requires.ends c.deref-3.result.now c.deref-4.result.now
     (ap (map (name_at f.names)) start ∙ c.in_ok-start_path.ensures.names) (ap (map (name_at f.names)) end ∙ c.in_ok-end_path.ensures.names)
     (subst node (sym start) c.in_ok-start_path.ensures.nodes) (subst node (sym end) c.in_ok-end_path.ensures.nodes)
-    (alike
-    first second c.parting-first.ensures)
+    (alike first second c.parting-first.ensures)
 
-pub returns : goal.returns
-returns c =
+pub push_pieces-requires-clause-paths : goal.push_pieces-requires-clause-paths
+push_pieces-requires-clause-paths c = paths (goal.at.push_pieces-requires-clause-paths c).After-deref-4
+
+pub returns-clause-paths : goal.returns-clause-paths
+returns-clause-paths c = (
+  take c.parting-first.result.0 c.deref-3.result.now,
+  take c.parting-first.result.1 c.deref-4.result.now,
+  paths (goal.at.returns-clause-paths c).After-deref-4,
+)
+
+pub returns-clause-items : goal.returns-clause-items
+returns-clause-items c =
     let none : AreItems c.args.forest.now.names c.new-pieces.result.items [] =
     subst (λ (ps : List Piece). AreItems c.args.forest.now.names ps []) (sym c.new-pieces.ensures.items)
     (record { value = refl; nodes = tt }) in

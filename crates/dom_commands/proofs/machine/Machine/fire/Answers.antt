@@ -1,4 +1,4 @@
-use Rattle.std.proofs.Common.{List, ◌++◌, All, map, sym, ap, subst, ◌∙◌}
+use Rattle.std.proofs.Common.{List, ◌++◌, All, map, rules, sym, ap, subst, ◌∙◌}
 use Rattle.std.specs.List.{AllByRecursion}
 use Rattle.dom_text.specs.Text.{output_text}
 use Rattle.dom_dispatch.specs.declared.event.LogLine.{LogLine}
@@ -21,41 +21,8 @@ put_lines-requires-clause-nodes c =
     (subst (AllByRecursion (NamesNodes names)) (sym keys.lines)
     (dispatch-lines names (event_words c.args.event) c.self.inside.listeners keys.shown keys.nodes))))
 
-pub returns-clause-world : goal.returns-clause-world
-returns-clause-world c =
-    let all = fired c.self.inside.state c.args.self.now c.in_ok-outcome.ensures.keys c.in_ok-outcome.ensures.names (record {
-      seen = c.self.view_is;
-      sound = c.requires.sound;
-      names = c.forest_and_slots.ensures.names;
-      there = c.law_names_tell_nodes.ensures.there;
-      shown = c.forest_and_slots.ensures.shown;
-    }) in
-    all.1
-
-pub returns-clause-answer : goal.returns-clause-answer
-returns-clause-answer c =
-    let all = fired c.self.inside.state c.args.self.now c.in_ok-outcome.ensures.keys c.in_ok-outcome.ensures.names (record {
-      seen = c.self.view_is;
-      sound = c.requires.sound;
-      names = c.forest_and_slots.ensures.names;
-      there = c.law_names_tell_nodes.ensures.there;
-      shown = c.forest_and_slots.ensures.shown;
-    }) in
-    all.3
-
-pub returns-clause-listeners : goal.returns-clause-listeners
-returns-clause-listeners c =
-    let all = fired c.self.inside.state c.args.self.now c.in_ok-outcome.ensures.keys c.in_ok-outcome.ensures.names (record {
-      seen = c.self.view_is;
-      sound = c.requires.sound;
-      names = c.forest_and_slots.ensures.names;
-      there = c.law_names_tell_nodes.ensures.there;
-      shown = c.forest_and_slots.ensures.shown;
-    }) in
-    all.0
-
-pub returns-clause-text : goal.returns-clause-text
-returns-clause-text c =
+pub returns : goal.returns
+returns c =
     let all = fired c.self.inside.state c.args.self.now c.in_ok-outcome.ensures.keys c.in_ok-outcome.ensures.names (record {
       seen = c.self.view_is;
       sound = c.requires.sound;
@@ -64,6 +31,12 @@ returns-clause-text c =
       shown = c.forest_and_slots.ensures.shown;
     }) in
     let names = c.forest_and_slots.result.0.now.names in
-    c.in_ok-put_lines.ensures
-    ∙ ap (λ (ls : List LogLine). c.args.out.now.items ++ output_text (map (line_shown names) ls)) c.as_slice.ensures.value
-    ∙ ap (λ os. c.args.out.now.items ++ output_text os) all.2
+    record {
+      world = all.1;
+      text = c.in_ok-put_lines.ensures
+          ∙ ap (λ (ls : List LogLine). c.args.out.now.items ++ output_text (map (line_shown names) ls)) c.as_slice.ensures.value
+          ∙ ap (λ os. c.args.out.now.items ++ output_text os) all.2;
+      answer = all.3;
+      names = search rules;
+      listeners = all.0;
+    }

@@ -18,8 +18,8 @@ signal_slots-requires-clause-sound c =
     c.requires.sound c.law_names_tell_nodes.ensures.there c.args.owner c.requires.there
     c.in_ok-slots.ensures.names c.in_ok-slots.ensures.world c.in_ok-tell_observers.ensures.names c.in_ok-tell_observers.ensures.world
 
-pub returns-clause-text : goal.returns-clause-text
-returns-clause-text c =
+pub returns : goal.returns
+returns c =
     let s = c.self.inside.state in
     let t = c.take_signals.new.state in
     let u = c.tell_observers.new.state in
@@ -34,26 +34,13 @@ returns-clause-text c =
     c.in_ok-tell_observers.ensures.world in
     let are = told_slots s t u ls m c.self.view_is c.requires.sound there o c.requires.there names world c.in_ok-tell_observers.ensures.names
     c.in_ok-tell_observers.ensures.world c.in_ok-slots.slots.items c.in_ok-slots.ensures.keys in
-    notify_text m.world (machine_now u ls).world o told (map (name_at u.names) c.as_slice.result.now)
-    (ap (map (name_at u.names)) c.as_slice.ensures.value ∙ are) text c.tell_observers.new.out.items c.signal_slots.new.out.items
-    (c.in_ok-tell_observers.ensures.text ∙ ap (λ (os : List Output). text ++ output_text os)
-    (told_lines s t u ls m c.self.view_is c.requires.sound there o c.requires.there names world)) c.signal_slots.result
-    c.signal_slots.ensures.text
-
-pub returns-clause-world : goal.returns-clause-world
-returns-clause-world c =
-    let s = c.self.inside.state in
-    let t = c.take_signals.new.state in
-    let u = c.tell_observers.new.state in
-    let ls = c.self.inside.listeners in
-    let m = c.args.self.now in
-    let o = c.args.owner in
-    let names = c.in_ok-slots.ensures.names in
-    let world = c.in_ok-slots.ensures.world in
-    let there = c.law_names_tell_nodes.ensures.there in
-    let told = told_world s t u ls m c.self.view_is c.requires.sound there o c.requires.there names world c.in_ok-tell_observers.ensures.names
-    c.in_ok-tell_observers.ensures.world in
-    let are = told_slots s t u ls m c.self.view_is c.requires.sound there o c.requires.there names world c.in_ok-tell_observers.ensures.names
-    c.in_ok-tell_observers.ensures.world c.in_ok-slots.slots.items c.in_ok-slots.ensures.keys in
-    notify_world m.world (machine_now u ls).world o told (map (name_at u.names) c.as_slice.result.now)
-    (ap (map (name_at u.names)) c.as_slice.ensures.value ∙ are) c.signal_slots.new.self.world c.signal_slots.result c.signal_slots.ensures.world
+    record {
+      text = notify_text m.world (machine_now u ls).world o told (map (name_at u.names) c.as_slice.result.now)
+          (ap (map (name_at u.names)) c.as_slice.ensures.value ∙ are) text c.tell_observers.new.out.items c.signal_slots.new.out.items
+          (c.in_ok-tell_observers.ensures.text ∙ ap (λ (os : List Output). text ++ output_text os)
+          (told_lines s t u ls m c.self.view_is c.requires.sound there o c.requires.there names world)) c.signal_slots.result
+          c.signal_slots.ensures.text;
+      world = notify_world m.world (machine_now u ls).world o told (map (name_at u.names) c.as_slice.result.now)
+          (ap (map (name_at u.names)) c.as_slice.ensures.value ∙ are) c.signal_slots.new.self.world c.signal_slots.result c.signal_slots.ensures.world;
+      sound = c.signal_slots.ensures.sound;
+    }

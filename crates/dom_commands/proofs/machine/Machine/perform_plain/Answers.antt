@@ -2,24 +2,11 @@ use Rattle.std.proofs.Common.{subst}
 use Rattle.dom_reader.specs.Views.{command_view}
 use Rattle.dom_admission.specs.Handled.{IsHandled}
 use Rattle.dom_commands.specs.Machine.{MachineNow, machine_now}
-use Rattle.dom_commands.proofs.Machines.{IsCarriedOut, plain_handled, kept_at, seen_at, seen_reached, seen_bounds, seen_first_nodes, seen_range_ends}
-use Rattle.dom_commands.proofs.Machines.{seen_shadow_roots}
+use Rattle.dom_commands.proofs.Machines.{IsCarriedOut, plain_handled, kept_at, seen_at, seen_reached, seen_first_nodes}
 use Rattle.dom_commands.proofs.machine.Machine.perform_plain.Goals as goal
-
-pub perform-requires-clause-bounds : goal.perform-requires-clause-bounds
-perform-requires-clause-bounds c = seen_bounds c.self.inside.state c.self.inside.listeners c.args.self.now c.self.view_is c.requires.sound
-    c.law_names_tell_nodes.ensures.there
 
 pub perform-requires-clause-first : goal.perform-requires-clause-first
 perform-requires-clause-first c = seen_first_nodes c.self.inside.state c.self.inside.listeners c.args.self.now c.self.view_is c.requires.sound
-    c.law_names_tell_nodes.ensures.there
-
-pub perform-requires-clause-ends : goal.perform-requires-clause-ends
-perform-requires-clause-ends c = seen_range_ends c.self.inside.state c.self.inside.listeners c.args.self.now c.self.view_is c.requires.sound
-    c.law_names_tell_nodes.ensures.there
-
-pub perform-requires-clause-roots : goal.perform-requires-clause-roots
-perform-requires-clause-roots c = seen_shadow_roots c.self.inside.state c.self.inside.listeners c.args.self.now c.self.view_is c.requires.sound
     c.law_names_tell_nodes.ensures.there
 
 pub returns-clause-handled : goal.returns-clause-handled

@@ -1,70 +1,32 @@
-use Rattle.std.proofs.Common.{ℕ, Err, List, [], ◌∷◌, sym, subst, ◌∙◌}
-use Rattle.std.specs.Prelude.{nat_eq}
-use Rattle.std.specs.List.{AllByRecursion}
-use Rattle.std.proofs.lemmas.Result.{err_from_is_err_and}
-use Rattle.dom_base.specs.declared.NodeName.{NodeName}
+use Rattle.std.proofs.Common.{◌∷◌, []}
 use Rattle.dom_model.specs.Command.{Command}
-use Rattle.dom_model.specs.Listeners.{Listener, unlistened}
-use Rattle.dom_reader.specs.Views.{word_view}
-use Rattle.dom_dispatch.specs.ListenersByName.{IsListenerAt}
 use Rattle.dom_admission.specs.declared.admission.Operand.TheVariants.{Any}
-use Rattle.dom_admission.specs.Handled.{IsHandled}
-use Rattle.dom_commands.specs.WithListeners.{heard, own_listeners}
-use Rattle.dom_commands.specs.Machine.{MachineNow, machine_now, IsAtRest}
-use Rattle.dom_commands.proofs.EventCommands.{stopped-heard, listens, unlistening}
-use Rattle.dom_admission.proofs.Handling.{refused}
+use Rattle.dom_reader.specs.Views.{word_view}
+use Rattle.dom_admission.proofs.Handling.{may_act, refused}
 use Rattle.dom_admission.proofs.Refusing.{namings}
-use Rattle.dom_commands.proofs.Listening.{fits-own, at-unlistened}
-use Rattle.dom_commands.proofs.Machines.{seen_at, always_at}
+use Rattle.dom_commands.proofs.EventCommands.{listens_at, listens_in, stopped, unlistening}
+use Rattle.dom_commands.proofs.Machines.{seen_at, seen_reached}
 use Rattle.dom_commands.proofs.machine.Machine.unlisten.Goals as goal
 
 pub returns-in_err-admit-clause-handled : goal.returns-in_err-admit-clause-handled
 returns-in_err-admit-clause-handled c =
-    let p = err_from_is_err_and c.from_residual.result c.from_residual.ensures.1 in
-    let s = c.self.inside.state in
-    let ls = c.self.inside.listeners in
-    let o = c.args.owner in
-    let text = c.args.out.now.items in
-    let f = c.in_err-admit.field-0.0 in
-    let said = Command.unlisten (word_view c.args.node) c.args.event.now c.args.label.now c.args.capture in
-    let at = seen_at s ls c.args.self.now c.self.view_is c.requires in
-    rw (p.1, p.2)
-    (subst (λ (m : MachineNow). IsHandled o said m.world m.world text text (Err f)) c.self.view_is
-    (stopped-heard (own_listeners s.names ls) s.world (fits-own s.names s.world c.law_names_tell_nodes.ensures.there ls at) o said text f
-    (refused s.world o said (Any c.args.node ∷ []) text f (search namings)
-    (sym c.admit.ensures ∙ c.in_err-admit.was))))
+    stopped c.self.inside.state c.self.inside.listeners _ c.self.view_is c.requires c.law_names_tell_nodes.ensures.there _ _ _ _ _ c.from_residual.ensures.1
+    (refused _ c.args.owner (Command.unlisten (word_view c.args.node) c.args.event.now c.args.label.now c.args.capture) (Any c.args.node ∷ []) _ _
+    (search namings) c.admit.ensures c.in_err-admit.was c.from_residual.ensures.1)
 
-pub returns-clause-handled : goal.returns-clause-handled
-returns-clause-handled c =
-    let s = c.self.inside.state in
-    let ls = c.self.inside.listeners in
-    let o = c.args.owner in
-    let k = c.key-node.result in
-    let before = c.args.out.now.items in
-    let after = c.accept.new.out.items in
-    let r = c.accept.result in
-    let end = c.accept.new.self.world in
-    let said = Command.unlisten (word_view c.args.node) c.args.event.now c.args.label.now c.args.capture in
-    let now = unlistened nat_eq k c.args.event.now c.args.label.now c.args.capture ls in
-    let at = seen_at s ls c.args.self.now c.self.view_is c.requires in
-    let sound = subst IsAtRest (sym c.self.view_is) c.requires in
-    let Done : MachineNow → List NodeName → List (Listener ℕ) → Type 0 =
-    λ m names ms. IsHandled o said m.world (heard (own_listeners names ms) end) before after r in
-    let changing = unlistening s.names ls s.world c.law_names_tell_nodes.ensures.distinct c.law_names_tell_nodes.ensures.there at sound.reached o
-    (word_view c.args.node) k c.key-node.ensures.node c.key-node.ensures.name
-    (Any c.args.node ∷ []) (sym c.admit.ensures ∙ c.in_ok-admit.was) c.args.event.now c.args.label.now c.args.capture (search namings) in
-    let done : Done (machine_now s ls) s.names now = listens changing end before after r c.accept.ensures.done in
-    subst (λ (m : MachineNow). Done m c.accept.new.self.names c.unlisten.new.self) c.self.view_is
-    (subst (λ (names : List NodeName). Done (machine_now s ls) names c.unlisten.new.self) (sym c.accept.ensures.names)
-    (subst (λ (ms : List (Listener ℕ)). Done (machine_now s ls) s.names ms) (sym (c.unlisten.ensures)) done))
-
-pub returns-clause-listeners : goal.returns-clause-listeners
-returns-clause-listeners c =
+pub returns : goal.returns
+returns c =
     let s = c.self.inside.state in
     let ls = c.self.inside.listeners in
     let k = c.key-node.result in
+    let law = c.law_names_tell_nodes.ensures in
     let at = seen_at s ls c.args.self.now c.self.view_is c.requires in
-    always_at (machine_now c.accept.new.self c.unlisten.new.self) c.accept.result
-    (subst (λ (names : List NodeName). AllByRecursion (IsListenerAt names) c.unlisten.new.self) (sym c.accept.ensures.names)
-    (subst (λ (ms : List (Listener ℕ)). AllByRecursion (IsListenerAt s.names) ms) (sym (c.unlisten.ensures))
-    (at-unlistened s.names c.law_names_tell_nodes.ensures.distinct ls at k c.key-node.ensures.node c.args.event.now c.args.label.now c.args.capture)))
+    let changing = unlistening s.names ls s.world law.distinct law.there at (seen_reached s ls c.args.self.now c.self.view_is c.requires) c.args.owner
+    (word_view c.args.node) k c.key-node.ensures.node c.key-node.ensures.name c.args.event.now c.args.label.now c.args.capture
+    (may_act _ _ _ (Any c.args.node ∷ []) (search namings) c.admit.ensures c.in_ok-admit.was) in
+    let now = c.unlisten.ensures in
+    record {
+      handled = listens_in s c.accept.new.self ls c.unlisten.new.self changing c.accept.ensures.names now c.args.self.now c.self.view_is _ _ _
+          c.accept.ensures.done;
+      listeners = listens_at s c.accept.new.self ls c.unlisten.new.self changing c.accept.ensures.names now c.accept.result;
+    }

@@ -1,0 +1,275 @@
+-- The outermost contained nodes of a node's tree, and what an extraction takes of it as it is.
+use Rattle.std.proofs.Common.{◌≡◌, ◌⊎◌, inl, inr, ℕ, zero, suc, ◌+◌, ◌<◌, Bool, true, false, ◌&&◌, List, [], ◌∷◌, ◌++◌, length, map, Some, refl, sym, ap, subst}
+use Rattle.std.proofs.Common.{◌∙◌, append_assoc, arith, true≢false}
+use Rattle.std.specs.Prelude.{filter, if◌then◌else◌}
+use Rattle.std.specs.List.{flat_map}
+use Rattle.std.proofs.lemmas.Bool.{cases_Bool, cases_lt, le-ltb, lt-ltb, le-leb, lt-leb}
+use Rattle.std.proofs.lemmas.List.{append-nil}
+use Rattle.std.proofs.lemmas.Option.{same_Some}
+use Rattle.std.proofs.lemmas.List.Concat.{flat_map-cons}
+use Rattle.std.proofs.lemmas.List.Elements.{filter-append}
+use Rattle.dom_base.specs.declared.NodeName.{NodeName}
+use Rattle.dom_model.specs.Place.{Boundary, place_of, is_before}
+use Rattle.dom_model.specs.Ranges.{Range, at, is_contained}
+use Rattle.dom_model.specs.Tree.{Trees, kind_of, has_data, children_of, parent_of, root_of, inclusive_ancestors, inclusive_descendants, is_inclusive_ancestor}
+use Rattle.dom_model.specs.Tree.{length_of, subtree}
+use Rattle.dom_ranges.proofs.Before.{before-up, before-down, before-beside}
+use Rattle.dom_laws.proofs.Children.{In-names, Has-names, parent-of_child}
+use Rattle.dom_laws.proofs.Lists.{In, In-from, In-left, In-right, In-parts, filter-none, filter-yes, filter-no}
+use Rattle.dom_laws.proofs.Order.{stands_in, joined, below, here, splits, inside-test}
+use Rattle.dom_laws.proofs.Chains.{above-along}
+use Rattle.dom_laws.proofs.Shapes.{Has, above-parent, above-present, above-from_below, below-from_above}
+use Rattle.dom_laws.specs.Within.{ahead_of, beyond}
+use Rattle.dom_range_ops.specs.Pieces.{Item, whole_item, cut_item, clone_item, end_item, wholes, wholes_if}
+use Rattle.dom_range_ops.specs.Texts.{nodes_around}
+use Rattle.dom_range_ops.proofs.Between.{IsBounded, member-within, start-out}
+use Rattle.dom_range_ops.proofs.DeletionHeights.{above-less}
+use Rattle.dom_range_ops.proofs.DeletionOrder.{HasLeaves, IsClear, is_outermost, start-in, end-in, start-above-out, end-above-out, outermost-not}
+use Rattle.dom_range_ops.proofs.DeletionOrder.{outermost-yes, none-below}
+use Rattle.dom_range_ops.proofs.Parting.{behind-apart, ahead-apart}
+use Rattle.dom_range_ops.proofs.PieceItems.{items-beside, items-on}
+use Rattle.dom_range_ops.proofs.PieceLevels.{IsBehind, IsAhead, descend, self-in}
+use Rattle.dom_range_ops.proofs.PieceMiddle.{not-end}
+use Rattle.dom_range_ops.proofs.PieceSides.{taken, from, to, side_of}
+
+-- ---- lists
+
+pub wholes-append : (xs ys : List Item) → wholes (xs ++ ys) ≡ wholes xs ++ wholes ys
+wholes-append [] ys = refl
+wholes-append (whole_item x ∷ xs) ys = ap (λ zs. x ∷ zs) (wholes-append xs ys)
+wholes-append (cut_item x m n ∷ xs) ys = wholes-append xs ys
+wholes-append (clone_item x ∷ xs) ys = wholes-append xs ys
+wholes-append (end_item ∷ xs) ys = wholes-append xs ys
+
+pub wholes-map : (xs : List NodeName) → wholes (map whole_item xs) ≡ xs
+wholes-map [] = refl
+wholes-map (x ∷ xs) = ap (λ zs. x ∷ zs) (wholes-map xs)
+
+wholes-flat : (f : NodeName → List Item) (g : NodeName → List NodeName) (xs : List NodeName) → ((z : NodeName) → In z xs → wholes (f z) ≡ g z) →
+    wholes (flat_map f xs) ≡ flat_map g xs
+wholes-flat f g [] h = refl
+wholes-flat f g (x ∷ xs) h = ap wholes (flat_map-cons f x xs) ∙ wholes-append (f x) (flat_map f xs) ∙ ap (λ ys. ys ++ wholes (flat_map f xs)) (h x (inl refl)) ∙
+    ap (λ ys. g x ++ ys) (wholes-flat f g xs (λ z i. h z (inr i))) ∙ sym (flat_map-cons g x xs)
+
+pub flat-none : (f : NodeName → List NodeName) (xs : List NodeName) → ((z : NodeName) → In z xs → f z ≡ []) → flat_map f xs ≡ []
+flat-none f [] h = refl
+flat-none f (x ∷ xs) h = flat_map-cons f x xs ∙ ap (λ ys. ys ++ flat_map f xs) (h x (inl refl)) ∙ flat-none f xs (λ z i. h z (inr i))
+
+pub flat-each : (f : NodeName → List NodeName) (xs : List NodeName) → ((z : NodeName) → In z xs → f z ≡ z ∷ []) → flat_map f xs ≡ xs
+flat-each f [] h = refl
+flat-each f (x ∷ xs) h = flat_map-cons f x xs ∙ ap (λ ys. ys ++ flat_map f xs) (h x (inl refl)) ∙ ap (λ ys. x ∷ ys) (flat-each f xs (λ z i. h z (inr i)))
+
+-- both, where the second is
+and-yes : (b : Bool) → b && true ≡ b
+and-yes true = refl
+and-yes false = refl
+
+module _ (ts : Trees) (r : Range NodeName) (bounded : IsBounded ts r) (leaves : HasLeaves ts r) where
+  abbrev top : NodeName
+  top = root_of ts r.start.node
+
+  -- ---- the outermost contained nodes of a node's tree
+
+  abbrev pub outer_in : NodeName → List NodeName
+  outer_in y = filter (is_outermost ts r) (inclusive_descendants ts y)
+
+  outer-joined : (xs : List NodeName) → filter (is_outermost ts r) (joined ts xs) ≡ flat_map outer_in xs
+  outer-joined [] = refl
+  outer-joined (x ∷ xs) =
+      ap (filter (is_outermost ts r)) (flat_map-cons (inclusive_descendants ts) x xs)
+      ∙ filter-append (is_outermost ts r) (inclusive_descendants ts x) (joined ts xs)
+      ∙ ap (λ ys. outer_in x ++ ys) (outer-joined xs) ∙ sym (flat_map-cons outer_in x xs)
+
+  -- none where none is contained
+  pub outer-none : (y : NodeName) → ((z : NodeName) → In z (inclusive_descendants ts y) → is_contained ts r z ≡ false) → outer_in y ≡ []
+  outer-none y off = filter-none (is_outermost ts r) (inclusive_descendants ts y) (λ z i. outermost-not ts r bounded leaves z (off z i))
+
+  -- the node alone where it is contained and its parent is not
+  pub outer-one : (y : NodeName) → In y (nodes_around ts r) → is_contained ts r y ≡ true → IsClear ts r y → outer_in y ≡ y ∷ []
+  outer-one y i e clear =
+      ap (filter (is_outermost ts r)) (here ts top y (member-within ts r bounded y i))
+      ∙ filter-yes (is_outermost ts r) y (below ts y) (outermost-yes ts r bounded leaves y e clear)
+      ∙ ap (λ xs. y ∷ xs) (none-below ts r bounded leaves y i e)
+
+  -- those of its children where it is not contained
+  pub outer-below : (y : NodeName) → In y (nodes_around ts r) → is_contained ts r y ≡ false → outer_in y ≡ flat_map outer_in (children_of ts y)
+  outer-below y i e =
+      ap (filter (is_outermost ts r)) (here ts top y (member-within ts r bounded y i))
+      ∙ filter-no (is_outermost ts r) y (below ts y) (outermost-not ts r bounded leaves y e) ∙ outer-joined (children_of ts y)
+
+  -- ---- nodes of the range's tree
+
+  -- a node of the tree of one of its nodes is one
+  pub below-in : (y z : NodeName) → In y (nodes_around ts r) → In z (inclusive_descendants ts y) → In z (nodes_around ts r)
+  below-in y z i j = subst (In z) (sym (splits ts top y (member-within ts r bounded y i)))
+      (In-right z (ahead_of ts top y) (inclusive_descendants ts y ++ beyond ts top y) (In-left z (inclusive_descendants ts y) (beyond ts top y) j))
+
+  stands : (y : NodeName) → In y (nodes_around ts r) → Has ts y
+  stands y i = stands_in ts top y (member-within ts r bounded y i)
+
+  -- a child is in the tree of its parent, one deeper
+  pub kid-in : (y z : NodeName) → Has ts y → In z (children_of ts y) → In z (inclusive_descendants ts y) × (parent_of ts z ≡ Some y) ×
+      (length (inclusive_ancestors ts z) ≡ suc (length (inclusive_ancestors ts y)))
+  kid-in y z h i =
+      let up = parent-of_child ts y z bounded.ends.once h i in
+      let path = above-parent ts z y bounded.ends.once up.1 up.0 in
+      let own = subst (In y) (sym (above-present ts y h).1) (inl refl) in (
+        In-names (subtree ts y) z (below-from_above ts y z bounded.ends.once up.1 (subst (In y) (sym path.0) (inr own))),
+        up.0,
+        ap (length {A = NodeName}) path.0,
+      )
+
+  -- and what is in its tree is
+  deeper-in : (y x z : NodeName) → In y (nodes_around ts r) → In x (inclusive_descendants ts y) → In z (inclusive_descendants ts x) →
+      In z (inclusive_descendants ts y)
+  deeper-in y x z i j k =
+      let once = bounded.ends.once in
+      let around = below-in y x i j in
+      let h = stands z (below-in x z around k) in
+      In-names (subtree ts y) z (below-from_above ts y z once h
+      (above-along ts y x z once h (above-from_below ts y x once (stands y i) (Has-names (subtree ts y) x j))
+      (above-from_below ts x z once (stands x around) (Has-names (subtree ts x) z k))))
+
+  -- the place of a node begins with that of one in whose tree it is
+  pub place-below : (y z : NodeName) → In y (nodes_around ts r) → In z (inclusive_descendants ts y) → (rest : List ℕ) × (place_of ts z ≡ place_of ts y ++ rest)
+  place-below y z i j = elim (descend ts bounded.ends.once y z (stands y i) j) [
+    | inl same ↦ ([], ap (place_of ts) same ∙ sym (append-nil (place_of ts y)))
+    | inr u ↦ (u.child ∷ u.rest, u.place)
+  ]
+
+  -- a tree that does not hold a point is behind it, or in front of it
+  beside : (b : Boundary NodeName) → In b.node (nodes_around ts r) → (y : NodeName) → In y (nodes_around ts r) → is_inclusive_ancestor ts y b.node ≡ false
+      → ((z : NodeName) → In z (inclusive_descendants ts y) → IsBehind ts bounded.ends.once b z)
+      ⊎ ((z : NodeName) → In z (inclusive_descendants ts y) → IsAhead ts bounded.ends.once b z)
+  beside b at_b y i off =
+      let once = bounded.ends.once in
+      let w = member-within ts r bounded y i in
+      let longer : (z : NodeName) (common : List ℕ) (first : ℕ) (rest : List ℕ) → place_of ts y ≡ common ++ first ∷ rest → In z (inclusive_descendants ts y) →
+      (tail : List ℕ) × (place_of ts z ≡ common ++ first ∷ tail) = λ z common first rest place j. (
+        rest ++ (place-below y z i j).0,
+        (place-below y z i j).1 ∙ ap (λ path. path ++ (place-below y z i j).0) place ∙ append_assoc common (first ∷ rest) (place-below y z i j).0,
+      ) in
+      elim (In-parts b.node (ahead_of ts top y) (inclusive_descendants ts y ++ beyond ts top y) (subst (In b.node) (splits ts top y w) at_b)) [
+        | inl j ↦ elim (ahead-apart ts once top y b.node w j) [
+          | inl k ↦ inl (λ z m. record {
+            after = λ n. before-beside ts b.node z b.offset n k.common k.first k.second (k.first_rest, k.first_place)
+                (longer z k.common k.second k.second_rest k.second_place m) (λ e. let l = k.less in omega (arith, l, e)) ∙ lt-ltb k.first k.second k.less;
+            apart = λ n. before-beside ts z b.node n b.offset k.common k.second k.first (longer z k.common k.second k.second_rest k.second_place m)
+                (k.first_rest, k.first_place) (λ e. let l = k.less in omega (arith, l, e)) ∙ le-ltb k.second k.first (let l = k.less in omega (arith, l));
+          })
+          | inr u ↦ elim (cases_lt u.child b.offset) [
+            | inl l ↦ inr (λ z m. let q = longer z (place_of ts b.node) u.child u.rest u.place m in record {
+              before = λ n. before-up ts z b.node n b.offset u.child q.0 q.1 ∙ lt-ltb u.child b.offset l;
+              apart = λ n. before-down ts b.node z b.offset n u.child q.0 q.1 ∙ lt-leb b.offset u.child l;
+            })
+            | inr l ↦ inl (λ z m. let q = longer z (place_of ts b.node) u.child u.rest u.place m in record {
+              after = λ n. before-down ts b.node z b.offset n u.child q.0 q.1 ∙ le-leb b.offset u.child l;
+              apart = λ n. before-up ts z b.node n b.offset u.child q.0 q.1 ∙ le-ltb u.child b.offset l;
+            })
+          ]
+        ]
+        | inr g ↦ elim (In-parts b.node (inclusive_descendants ts y) (beyond ts top y) g) [
+          | inl j ↦ absurd (true≢false (sym (inside-test ts y b.node once (stands y i) j) ∙ off))
+          | inr j ↦
+              let k = behind-apart ts once top y b.node w j in
+              inr (λ z m. record {
+                before = λ n. before-beside ts z b.node n b.offset k.common k.first k.second (longer z k.common k.first k.first_rest k.first_place m)
+                    (k.second_rest, k.second_place) (λ e. let l = k.less in omega (arith, l, e)) ∙ lt-ltb k.first k.second k.less;
+                apart = λ n. before-beside ts b.node z b.offset n k.common k.second k.first (k.second_rest, k.second_place)
+                    (longer z k.common k.first k.first_rest k.first_place m) (λ e. let l = k.less in omega (arith, l, e)) ∙
+                    le-ltb k.second k.first (let l = k.less in omega (arith, l));
+              })
+        ]
+      ]
+
+  -- ---- the tree of a child of the common ancestor that holds one end
+
+  -- its nodes: those above the end are not contained, a tree beside it is contained with its top or has nothing that is
+  pub record Side (b : Boundary NodeName) (behind : Bool) (y : NodeName) : Type 0 where
+    pub there : In y (nodes_around ts r)
+    pub point : Has ts b.node
+    pub above : (z : NodeName) → In z (inclusive_descendants ts y) → is_inclusive_ancestor ts z b.node ≡ true → is_contained ts r z ≡ false
+    pub passes : (z : NodeName) → In z (inclusive_descendants ts y) → taken ts bounded.ends.once b behind z ≡ is_contained ts r z
+    pub none : (x z : NodeName) → In x (inclusive_descendants ts y) → is_inclusive_ancestor ts x b.node ≡ false → is_contained ts r x ≡ false →
+        In z (inclusive_descendants ts x) → is_contained ts r z ≡ false
+
+  module _ (b : Boundary NodeName) (behind : Bool) (y : NodeName) (s : Side b behind y) where
+    abbrev side : NodeName → List Item
+    side x = side_of ts bounded.ends.once b behind x
+
+    -- a tree beside the end
+    side-off : (x : NodeName) → In x (inclusive_descendants ts y) → IsClear ts r x → is_inclusive_ancestor ts x b.node ≡ false → wholes (side x) ≡ outer_in x
+    side-off x i clear off =
+        let around = below-in y x s.there i in
+        ap wholes (items-beside ts b.node (taken ts bounded.ends.once b behind) (from ts bounded.ends.once b behind) (to ts bounded.ends.once b behind)
+        bounded.ends.once x (stands x around) off)
+        ∙ ap (λ t. wholes (wholes_if t (x ∷ []))) (s.passes x i)
+        ∙ elim (cases_Bool (is_contained ts r x)) [
+          | inl e ↦ ap (λ t. wholes (wholes_if t (x ∷ []))) e ∙ sym (outer-one x around e clear)
+          | inr e ↦ ap (λ t. wholes (wholes_if t (x ∷ []))) e ∙ sym (outer-none x (λ z j. s.none x z i off e j))
+        ]
+
+    -- a node above it, by its children
+    side-on : (x : NodeName) → In x (inclusive_descendants ts y) → is_inclusive_ancestor ts x b.node ≡ true →
+        wholes (flat_map side (children_of ts x)) ≡ flat_map outer_in (children_of ts x) → wholes (side x) ≡ outer_in x
+    side-on x i up each =
+        let around = below-in y x s.there i in
+        let off = s.above x i up in
+        let inside = flat_map side (children_of ts x) in
+        let all = λ (t : Bool). wholes (if t then cut_item x (from ts bounded.ends.once b behind) (to ts bounded.ends.once b behind) ∷ [] else
+        clone_item x ∷ (inside ++ end_item ∷ [])) in
+        ap wholes (items-on ts b.node (taken ts bounded.ends.once b behind) (from ts bounded.ends.once b behind) (to ts bounded.ends.once b behind)
+        bounded.ends.once x (stands x around) up)
+        ∙ elim (cases_Bool (has_data (kind_of ts x))) [
+          | inl e ↦ ap all e ∙ sym (outer-below x around off ∙ ap (flat_map outer_in) (leaves x around e))
+          | inr e ↦ ap all e ∙ wholes-append inside (end_item ∷ []) ∙ append-nil (wholes inside) ∙ each ∙ sym (outer-below x around off)
+        ]
+
+    -- so what is taken as it is of the tree of a node are its outermost contained nodes
+    pub side-wholes : (n : ℕ) (x : NodeName) → In x (inclusive_descendants ts y) →
+        length (inclusive_ancestors ts b.node) < length (inclusive_ancestors ts x) + n → IsClear ts r x → wholes (side x) ≡ outer_in x
+    side-wholes zero x i deep clear = elim (cases_Bool (is_inclusive_ancestor ts x b.node)) [
+      | inr off ↦ side-off x i clear off
+      | inl up ↦
+          let less = above-less ts bounded.ends.once x b.node s.point (In-from x (inclusive_ancestors ts b.node) up) in
+          absurd (omega (arith, less, deep))
+    ]
+    side-wholes (suc n) x i deep clear = elim (cases_Bool (is_inclusive_ancestor ts x b.node)) [
+      | inr off ↦ side-off x i clear off
+      | inl up ↦
+          side-on x i up (wholes-flat side outer_in (children_of ts x) (λ z j.
+          let k = kid-in x z (stands x (below-in y x s.there i)) j in
+          let long = k.2 in
+          side-wholes n z (deeper-in y x z s.there i k.0) (omega (arith, deep, long))
+          (λ p e. subst (λ q. is_contained ts r q ≡ false) (same_Some x p (sym k.1 ∙ e)) (s.above x i up))))
+    ]
+
+  -- that of the start, in front of the end
+  pub start-side : (y : NodeName) → In y (nodes_around ts r) → ((z : NodeName) → In z (inclusive_descendants ts y) → IsAhead ts bounded.ends.once r.end z) →
+      Side r.start true y
+  start-side y i ahead = record {
+    there = i;
+    point = bounded.ends.start;
+    above = λ z j e. start-above-out ts r bounded z (In-from z (inclusive_ancestors ts r.start.node) e);
+    passes = λ z j. sym (ap (λ t. is_before ts r.start (at z 0) && t) ((ahead z j).before (length_of ts z)) ∙ and-yes (is_before ts r.start (at z 0)));
+    none = λ x z j off e k. elim (beside r.start (start-in ts r bounded) x (below-in y x i j) off) [
+      | inl w ↦ absurd (true≢false (sym (ap (λ t. t && is_before ts (at x (length_of ts x)) r.end)
+          ((w x (self-in ts bounded.ends.once x (stands x (below-in y x i j)))).after 0) ∙ (ahead x j).before (length_of ts x)) ∙ e))
+      | inr w ↦ start-out ts r bounded z ((w z k).apart 0)
+    ];
+  }
+
+  -- and that of the end, behind the start
+  pub end-side : (y : NodeName) → In y (nodes_around ts r) → ((z : NodeName) → In z (inclusive_descendants ts y) → IsBehind ts bounded.ends.once r.start z) →
+      Side r.end false y
+  end-side y i behind = record {
+    there = i;
+    point = bounded.ends.end;
+    above = λ z j e. end-above-out ts r bounded leaves z (below-in y z i j) e;
+    passes = λ z j. sym (ap (λ t. t && is_before ts (at z (length_of ts z)) r.end) ((behind z j).after 0));
+    none = λ x z j off e k. elim (beside r.end (end-in ts r bounded) x (below-in y x i j) off) [
+      | inl w ↦ not-end ts r z ((w z k).apart (length_of ts z))
+      | inr w ↦ absurd (true≢false (sym (ap (λ t. t && is_before ts (at x (length_of ts x)) r.end) ((behind x j).after 0) ∙
+          (w x (self-in ts bounded.ends.once x (stands x (below-in y x i j)))).before (length_of ts x)) ∙ e))
+    ];
+  }
