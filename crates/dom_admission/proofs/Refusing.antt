@@ -6,7 +6,6 @@ use Rattle.dom_base.specs.declared.Owner.TheVariants.{Page, Component}
 use Rattle.dom_base.specs.declared.Refusal.{Refusal}
 use Rattle.dom_base.specs.declared.Refusal.TheVariants.{Syntax, Busy, Foreign, Unknown, WrongKind}
 use Rattle.dom_model.specs.Command.{Command, names_foreign, nodes_exist, nodes_fit, thing_exists, is_command_of, own_refusal}
-use Rattle.dom_model.specs.Names.{ComponentName}
 use Rattle.dom_model.specs.Part.{Part}
 use Rattle.dom_model.specs.Validity.{first_refusal}
 use Rattle.dom_model.specs.World.{World, part_of, is_there}

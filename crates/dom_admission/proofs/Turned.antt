@@ -1,5 +1,5 @@
 -- Steps do in a world with an open turn what they do in the world alone.
-use Rattle.std.proofs.Common.{◌≡◌, ℕ, zero, suc, Bool, true, false, List, [], ◌∷◌, Option, Some, None, fold, flat_map, filter_map, refl, ap, ◌∙◌, sym, subst}
+use Rattle.std.proofs.Common.{◌≡◌, ℕ, zero, suc, Bool, true, false, List, [], ◌∷◌, Option, Some, None, fold, flat_map, filter_map, refl, ap, ◌∙◌}
 use Rattle.dom_base.specs.declared.Owner.{Owner}
 use Rattle.dom_base.specs.declared.NodeName.{NodeName}
 use Rattle.dom_model.specs.Names.{max_depth}
@@ -9,8 +9,7 @@ use Rattle.dom_model.specs.Steps.{queue_record, is_taken}
 use Rattle.dom_model.specs.Slots.{signals, with_signal}
 use Rattle.dom_model.specs.World.{World, part_of, component_at, components_below, shadow_root_of, trees_with}
 use Rattle.dom_model.specs.WorldSteps.{world_step, world_after, stepped, with_removal_signals, with_notify_if, with_shadow_document}
-use Rattle.dom_admission.specs.Turned.{with_turn, turned}
-use Rattle.dom_mutation.specs.Doc.{DocState}
+use Rattle.dom_admission.specs.Turned.{with_turn}
 
 module _ (t : Option Owner) where
   signals_turned : (w : World) (ss : List NodeName) → fold with_signal (with_turn t w) ss ≡ with_turn t (fold with_signal w ss)

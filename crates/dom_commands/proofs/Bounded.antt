@@ -17,7 +17,7 @@ use Rattle.dom_worlds.specs.Bounds.{HasBounds, IsBounded}
 use Rattle.dom_worlds.specs.Tables.{IsNodeIn}
 use Rattle.dom_worlds.proofs.WorldLemmas.{each-part}
 use Rattle.dom_worlds.proofs.ListLemmas.{either_way}
-use Rattle.dom_commands.specs.WithListeners.{hearing, heard}
+use Rattle.dom_commands.specs.WithListeners.{heard}
 use Rattle.dom_commands.specs.RangeWorlds.{HasFirstNodes}
 use Rattle.dom_commands.proofs.ListenerWorlds.{FitsIn, there-heard, part-heard}
 

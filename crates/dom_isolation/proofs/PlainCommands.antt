@@ -1,6 +1,6 @@
 -- Words without line feeds in worlds and in what is said: steps, visits, notifications and commands keep them and say no others, and so does every script.
-use Rattle.std.proofs.Common.{ℕ, true, false, List, [], ◌∷◌, ◌++◌, not, Option, Some, None, Bool, filter, map, fold}
-use Rattle.std.specs.Prelude.{⊤, slice_get, slice_set}
+use Rattle.std.proofs.Common.{ℕ, List, [], ◌∷◌, ◌++◌, not, Option, Some, None, Bool, filter, map, fold}
+use Rattle.std.specs.Prelude.{⊤, slice_set}
 use Rattle.std.specs.List.{AllByRecursion, list_any}
 use Rattle.std.specs.Option.{option_map_or}
 use Rattle.dom_base.specs.declared.Owner.{Owner}
@@ -10,15 +10,13 @@ use Rattle.dom_model.specs.Names.{name_eq}
 use Rattle.dom_model.specs.Command.{Command, ListenerWords, EventWords, effect}
 use Rattle.dom_model.specs.CommandNames.{named}
 use Rattle.dom_model.specs.DocumentMachine.{first_world}
-use Rattle.dom_model.specs.Effects.{Effect, tables, changes, answers, moves_iterator, sets_walker, node_or_null, string_or_null}
+use Rattle.dom_model.specs.Effects.{Effect, tables, changes, sets_walker, node_or_null, string_or_null}
 use Rattle.dom_model.specs.Listeners.{Listener, is_listener, listened, Visit, Dispatching, visited, called, hears, unlistened, kept_after, after_action}
 use Rattle.dom_model.specs.Listeners.{may_cancel, line_of}
-use Rattle.dom_model.specs.Output.{Value, a_tree, nothing, a_node, a_string, boundaries, reference, says, recorded, Output, bad_owner, Said, replied, refused}
+use Rattle.dom_model.specs.Output.{Value, a_tree, says, recorded, Output, bad_owner, Said, replied, refused}
 use Rattle.dom_model.specs.Output.{event_seen, micro_ran, Change, EventLine}
-use Rattle.dom_model.specs.Part.{Part, range_at, queue_of}
-use Rattle.dom_model.specs.RangeOps.{range_text_of}
-use Rattle.dom_model.specs.Ranges.{Range}
-use Rattle.dom_model.specs.Traversal.{Iterator, Walker, iterator_next_node, iterator_previous_node, walker_move}
+use Rattle.dom_model.specs.Part.{Part, queue_of}
+use Rattle.dom_model.specs.Traversal.{Walker}
 use Rattle.dom_model.specs.World.{part_of, Task, micro_task, notify_task}
 use Rattle.dom_isolation.specs.Words.{HasNoFeed, HasPlainWords, IsPlainLine}
 use Rattle.dom_worlds.proofs.ListLemmas.{all-append, all-filter, all-map, all-flat_map, all-from, either_way}

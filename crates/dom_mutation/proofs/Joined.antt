@@ -16,17 +16,14 @@ use Rattle.dom_model.specs.Tree.{times_in, is_inclusive_ancestor, subtree, inclu
 use Rattle.dom_model.specs.Steps.{Step}
 use Rattle.dom_model.specs.World.{part_of}
 use Rattle.dom_model.specs.WorldSteps.{world_after}
-use Rattle.dom_model.specs.Changes.{◌and_then◌, in_turn, steps_of, observed, removing}
-use Rattle.dom_model.specs.TextChanges.{replacing_data, joins, texts_after, joining, normalizing_text}
+use Rattle.dom_model.specs.Changes.{◌and_then◌, observed, removing}
+use Rattle.dom_model.specs.TextChanges.{texts_after, joining, normalizing_text}
 use Rattle.dom_model.proofs.OwnerLaws.{name_eq-same}
 use Rattle.dom_tree.specs.Forest.{name_at}
 use Rattle.dom_parts.specs.Doc.{DocState, planned, name_in, owner_in, trees_in, IsOwnNode}
-use Rattle.dom_parts.specs.Hosting.{IsAlone}
 use Rattle.dom_laws.proofs.Paths.{Lacks, swapped, path_none, path_gone, path_head}
 use Rattle.dom_laws.proofs.Counts.{Once, none_or_some, once_subtree}
 use Rattle.dom_laws.proofs.Relatives.{NoTwice, children_once, next_child, names_once}
-use Rattle.dom_parts.proofs.Made.{planned_then}
-use Rattle.dom_parts.proofs.OwnPlans.{plans_then, plans_data, plans_joins}
 use Rattle.dom_mutation.proofs.Placed.{Counted, once_in}
 use Rattle.dom_laws.proofs.Walks.{walked, StandsIn, left, Walks, walks, first_inside}
 use Rattle.dom_mutation.proofs.Listing.{all_push}

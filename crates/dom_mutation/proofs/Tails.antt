@@ -1,19 +1,14 @@
 -- The tail of a split Text is placed behind it.
-use Rattle.std.proofs.Common.{◌≡◌, ℕ, ◌<◌, false, length, Option, Some, None, option_map, sym, ap, subst, ◌∙◌}
+use Rattle.std.proofs.Common.{◌≡◌, ℕ, ◌<◌, false, length, Option, Some, None, sym, ap, subst, ◌∙◌}
 use Rattle.std.specs.Option.{ForSome}
 use Rattle.std.proofs.lemmas.Bool.{false_from_ne_true}
-use Rattle.dom_model.specs.Tree.{parent_of, next_sibling, index_of, inclusive_ancestors, is_inclusive_ancestor}
-use Rattle.dom_model.specs.Steps.{split_at}
+use Rattle.dom_model.specs.Tree.{parent_of, inclusive_ancestors, is_inclusive_ancestor}
 use Rattle.dom_model.specs.World.{part_of}
-use Rattle.dom_model.specs.Changes.{Plan, ◌and_then◌, doing, observed, inserting}
-use Rattle.dom_model.specs.TextChanges.{placing_tail}
+use Rattle.dom_model.specs.Changes.{◌and_then◌}
 use Rattle.dom_model.proofs.OwnerLaws.{name_eq-true}
-use Rattle.dom_parts.specs.Doc.{DocState, planned, stepped, name_in, owner_in, trees_in, MayMove, IsChild}
-use Rattle.dom_parts.specs.Hosting.{IsAlone}
+use Rattle.dom_parts.specs.Doc.{DocState, name_in, owner_in, trees_in, MayMove, IsChild}
 use Rattle.dom_laws.proofs.Paths.{Lacks, lacks_from, lacks_to}
 use Rattle.dom_laws.proofs.Relatives.{parent_path}
-use Rattle.dom_parts.proofs.Made.{planned_then}
-use Rattle.dom_parts.proofs.OwnPlans.{plans_inserting}
 use Rattle.dom_mutation.proofs.Placed.{Counted, once_in}
 
 -- A child of a parent, a new node, and what comes behind the child.

@@ -18,7 +18,7 @@ use Rattle.dom_model.specs.Part.{Part}
 use Rattle.dom_model.specs.Slots.{with_signal}
 use Rattle.dom_model.specs.Steps.{Step, make, make_room, place, take_out, set_document, set_attribute, replace_data, split_at, join_at, set_range}
 use Rattle.dom_model.specs.Steps.{queue_record, part_step, leave, is_taken}
-use Rattle.dom_model.specs.World.{World, Task, MayAttach, part_of, is_there, component_made, queued_notify}
+use Rattle.dom_model.specs.World.{World, MayAttach, is_there, component_made, queued_notify}
 use Rattle.dom_model.specs.WorldSteps.{world_step, stepped, with_signals, with_removal_signals, with_notify_if}
 use Rattle.dom_model.proofs.OwnerLaws.{owner_eq-true, owner_eq-false}
 use Rattle.dom_slots.specs.Hosts.{ShadowHost, HostsAreNodes}

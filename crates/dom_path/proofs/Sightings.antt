@@ -11,7 +11,7 @@ use Rattle.dom_model.specs.Names.{name_eq, is_in, owner_depth, max_depth}
 use Rattle.dom_model.specs.Paths.{is_node, is_hidden_from, retarget, retarget_related, event_parent}
 use Rattle.dom_model.specs.Slots.{slot_of, is_assigned_to}
 use Rattle.dom_model.specs.Tree.{Trees, Node, is_shadow, has_node, node_in, parent_of, root_of}
-use Rattle.dom_model.specs.World.{World, part_of, component_at, shadow_root_of, some_if, host_above, host_chain, hosts_from, kind_at, node_at}
+use Rattle.dom_model.specs.World.{World, component_at, shadow_root_of, some_if, host_above, host_chain, kind_at, node_at}
 use Rattle.dom_model.specs.World.{parent_at, root_at}
 use Rattle.dom_model.proofs.OwnerLaws.{depth-maker, name_eq-true}
 use Rattle.dom_worlds.specs.Tables.{IsNodeAt}

@@ -27,7 +27,7 @@ use std::alloc::{AllocError, Global};
 /// Deletes what is in an owner's live range: the parts of a Text or Comment at its ends, and each contained node whose parent
 /// is not contained, in tree order; the range then stands at its start, or just behind what is left of it (DOM Standard,
 /// deleteContents()). A collapsed range stays as it is. It is refused where memory is refused, and only
-/// then; the document is then only to be dropped.
+/// then; the document is then given up, and its keys name no nodes any more.
 pub fn delete(alloc: Global, doc: &mut Doc, owner: Owner, number: u32) -> Result<(), Fault>
     requires there { is_some (range_at (part_of doc.old.world owner) number) ≡ true }
     ensures names { OnOk result (doc.new.names ≡ doc.old.names) }

@@ -38,7 +38,7 @@ use std::alloc::{AllocError, Global};
 /// holds one end alone is cloned with what is taken from inside it, and of a Text or Comment at an end a clone gets the code units
 /// that it loses. The range is then collapsed (DOM Standard, concept: extract a live range). It is refused with `Limit` where the
 /// owner would have too many nodes, and then nothing is changed. Where memory is refused, which may also be in place of `Limit`, the
-/// document is only to be dropped.
+/// document is given up: its keys name no nodes any more.
 pub fn extract(alloc: Global, doc: &mut Doc, owner: Owner, number: u32) -> Result<Key, Fault>
     requires there { is_some (range_at (part_of doc.old.world owner) number) ≡ true }
     ensures key { IfOk result (λ key. key ≡ length doc.old.names) }

@@ -27,7 +27,8 @@ use std::alloc::AllocError;
 /// Inserts a node into a live range of its owner, at the range's start, where a Text is split; of a fragment its children. A
 /// collapsed range ends behind what was inserted (DOM Standard, concept: insert a node into a live range). Refused with
 /// `Hierarchy` as the Standard's tests say, and then with `Limit` where a Text is to be split and the owner has as many nodes as it may,
-/// with nothing changed. Where memory is refused, which may also be in place of `Limit`, the document is only to be dropped.
+/// with nothing changed. Where memory is refused, which may also be in place of `Limit`, the document is given
+/// up: its keys name no nodes any more.
 pub fn insert_node(doc: &mut Doc, owner: Owner, number: u32, node: Key) -> Result<(), Fault>
     requires there { is_some (range_at (part_of doc.old.world owner) number) ≡ true }
     requires node_is_node { HoldsNode doc.old node }

@@ -1,27 +1,24 @@
 -- Commands and lines keep the ends of ranges within their nodes.
 use Rattle.std.proofs.Common.{◌≡◌, ℕ, ◌+◌, Bool, true, false, not, ◌&&◌, List, [], ◌∷◌, filter, drop, Option, Some, None, option_map, refl, sym, arith, subst}
-use Rattle.std.specs.Prelude.{⊤, slice_get}
+use Rattle.std.specs.Prelude.{⊤}
 use Rattle.std.specs.List.{AllByRecursion}
 use Rattle.std.specs.Option.{option_map_or}
 use Rattle.std.proofs.lemmas.Bool.{and_parts, not-false, ltb-false}
-use Rattle.dom_base.specs.declared.Kind.TheVariants.{Document, Fragment, Element, Text, Comment}
 use Rattle.dom_base.specs.declared.NodeName.{NodeName}
 use Rattle.dom_base.specs.declared.Refusal.TheVariants.{Hierarchy, IndexSize}
 use Rattle.dom_model.specs.Changes.{observed}
 use Rattle.dom_model.specs.Command.{Command, part_refusal, effect}
 use Rattle.dom_model.specs.CommandNames.{named}
 use Rattle.dom_model.specs.CommandRefusals.{past_end}
-use Rattle.dom_model.specs.Effects.{Effect, tables, changes, answers, moves_iterator, sets_walker, node_or_null, with_range, collapsed_to, new_node}
-use Rattle.dom_model.specs.Effects.{new_document_of}
+use Rattle.dom_model.specs.Effects.{Effect, tables, changes, answers, sets_walker, with_range, collapsed_to}
 use Rattle.dom_model.specs.Extract.{both_at}
 use Rattle.dom_model.specs.Names.{name_eq}
-use Rattle.dom_model.specs.Output.{Value, nothing, a_node, a_string, boundaries, reference}
+use Rattle.dom_model.specs.Output.{Value, nothing}
 use Rattle.dom_model.specs.Part.{Part, first_node, range_at}
 use Rattle.dom_model.specs.Place.{Boundary, same_root, is_before}
-use Rattle.dom_model.specs.RangeOps.{range_text_of}
 use Rattle.dom_model.specs.Ranges.{Range, at, from_to, with_start, with_end}
 use Rattle.dom_model.specs.Steps.{after}
-use Rattle.dom_model.specs.Traversal.{Iterator, Walker, iterator_next_node, iterator_previous_node, walker_move}
+use Rattle.dom_model.specs.Traversal.{Walker}
 use Rattle.dom_model.specs.Tree.{Trees, Node, kind_of, has_data, is_text, child_nodes, length_of}
 use Rattle.dom_model.specs.Validity.{first_refusal, has_parent, may_be_parent, placing_tests, insertion_refusal, replacement_refusal}
 use Rattle.dom_model.proofs.KindLaws.{parent-open}

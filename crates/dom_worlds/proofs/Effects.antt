@@ -1,7 +1,7 @@
 -- An accepted command: what its tests say, and what its effect keeps of its owner's part.
 use Rattle.std.proofs.lemmas.Bool.{not-false, or_parts}
 use Rattle.std.proofs.Common.{◌≡◌, ◌+◌, Bool, true, false, not, ◌&&◌, ◌||◌, List, [], ◌∷◌, length, Option, Some, None, refl, sym, ap, ◌∙◌, ℕ, ◌++◌, subst}
-use Rattle.std.specs.Prelude.{nat_lt, ⊤, slice_get, if◌then◌else◌}
+use Rattle.std.specs.Prelude.{nat_lt, ⊤, if◌then◌else◌}
 use Rattle.std.specs.Option.{option_or, option_map_or}
 use Rattle.dom_base.specs.declared.Owner.{Owner}
 use Rattle.dom_base.specs.declared.TheConstants.{MAX_COMPONENTS}
@@ -26,13 +26,12 @@ use Rattle.std.specs.List.{AllByRecursion, list_any}
 use Rattle.dom_worlds.specs.Worlds.{OnlyLogs}
 use Rattle.dom_worlds.proofs.Turns.{IsAlike}
 use Rattle.dom_worlds.proofs.Lists.{all-append, all-filter, by_some_is, by_some}
-use Rattle.dom_model.specs.Output.{Value, nothing, a_string, boundaries, reference, a_node, attributes}
+use Rattle.dom_model.specs.Output.{Value, nothing, attributes}
 use Rattle.dom_model.specs.Ranges.{Range}
-use Rattle.dom_model.specs.RangeOps.{range_text_of, inserting_into_range, deleting}
-use Rattle.dom_model.specs.Traversal.{Iterator, Walker, iterator_next_node, iterator_previous_node, walker_move}
-use Rattle.dom_model.specs.Effects.{Effect, tables, changes, answers, moves_iterator, sets_walker, node_or_null, new_node, new_document_of}
+use Rattle.dom_model.specs.RangeOps.{inserting_into_range, deleting}
+use Rattle.dom_model.specs.Traversal.{Walker}
+use Rattle.dom_model.specs.Effects.{Effect, tables, changes, answers, sets_walker, new_node, new_document_of}
 use Rattle.dom_base.specs.declared.Kind.TheVariants.{Document, Fragment, Element, Text, Comment}
-use Rattle.dom_model.specs.Changes.{observed}
 use Rattle.dom_model.specs.Extract.{extracting}
 use Rattle.dom_model.specs.Steps.{Step, make, set_attribute, queue_record}
 use Rattle.dom_worlds.proofs.Plans.{IsKept, keeps-removing, keeps-adopting, keeps-pre_inserting, keeps-replacing, keeps-setting_attribute}

@@ -2,19 +2,18 @@
 use Rattle.std.proofs.Common.{◌≡◌, ℕ, true, false, ◌&&◌, List, [], ◌∷◌, Option, Some, None, refl, sym, subst, Bool, not, ◌++◌, map, filter, fold, length, ◌∙◌}
 use Rattle.std.specs.Option.{option_map_or}
 use Rattle.std.proofs.Common.{arith, true≢false}
-use Rattle.std.specs.Prelude.{slice_get, nat_eq}
+use Rattle.std.specs.Prelude.{nat_eq}
 use Rattle.std.specs.List.{AllByRecursion}
 use Rattle.dom_base.specs.declared.NodeName.{NodeName}
 use Rattle.dom_model.specs.Changes.{observed, reference_for}
 use Rattle.dom_model.specs.Command.{Command, Line, EventWords, part_refusal, effect}
 use Rattle.dom_model.specs.CommandNames.{named}
-use Rattle.dom_model.specs.Effects.{Effect, tables, changes, answers, moves_iterator, sets_walker, node_or_null}
+use Rattle.dom_model.specs.Effects.{Effect, tables, changes, answers, sets_walker}
 use Rattle.dom_model.specs.Extract.{extracting}
-use Rattle.dom_model.specs.Output.{Value, nothing, a_node, a_string, boundaries, reference}
-use Rattle.dom_model.specs.Part.{Part, range_at, first_node}
-use Rattle.dom_model.specs.RangeOps.{deleting, inserting_into_range, range_text_of}
-use Rattle.dom_model.specs.Ranges.{Range}
-use Rattle.dom_model.specs.Traversal.{Iterator, Walker, iterator_next_node, iterator_previous_node, walker_move}
+use Rattle.dom_model.specs.Output.{Value, nothing}
+use Rattle.dom_model.specs.Part.{Part, first_node}
+use Rattle.dom_model.specs.RangeOps.{deleting, inserting_into_range}
+use Rattle.dom_model.specs.Traversal.{Walker}
 use Rattle.dom_model.specs.Tree.{has_node, length_of, node_in}
 use Rattle.dom_worlds.specs.Worlds.{IsPart, IsThere}
 use Rattle.dom_worlds.specs.Tables.{IsRecordIn, HasTables, HasRecords, IsNodeIn, IsRegistrationIn, IsListenerIn, IsNodeAt, IsWhole}

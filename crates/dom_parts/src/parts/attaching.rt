@@ -26,7 +26,7 @@ impl Parts {
     /// Attaches a shadow root to an element: node 0 of a new component of its owner, with the element's node document; the
     /// answer is its key. Refused with `NotSupported` to a host and to an element whose name may be no host's, and then with
     /// `Limit` where the owner has made as many components as it may or its word has as many numbers as it may, with nothing
-    /// changed (DOM Standard, attach a shadow root; the limit is an own rule). Where memory is refused, the document is only to be dropped.
+    /// changed (DOM Standard, attach a shadow root; the limit is an own rule). Where memory is refused, all is given up.
     pub fn attach(&mut self, host: Key) -> Result<Key, Fault>
         requires { HoldsNode self.old host }
         ensures key { IfOk result (λ key. key ≡ length self.old.names) }

@@ -1,7 +1,7 @@
 use Rattle.std.proofs.Common.{◌∷◌, ◌∙◌, [], refl}
 use Rattle.dom_model.specs.TextChanges.{normalizing}
 use Rattle.dom_admission.specs.declared.admission.Operand.TheVariants.{Any}
-use Rattle.dom_mutation.specs.Doc.{made, owner_in}
+use Rattle.dom_mutation.specs.Doc.{made}
 use Rattle.dom_admission.proofs.Finding.{key_of}
 use Rattle.dom_admission.proofs.Handling.{may_act, plans, refused}
 use Rattle.dom_admission.proofs.Refusing.{namings}

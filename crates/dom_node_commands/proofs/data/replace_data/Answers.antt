@@ -4,7 +4,7 @@ use Rattle.dom_model.specs.TextChanges.{replacing_data}
 use Rattle.dom_model.specs.Tree.{has_data, kind_of}
 use Rattle.dom_model.specs.World.{part_of}
 use Rattle.dom_admission.specs.declared.admission.Operand.TheVariants.{Data}
-use Rattle.dom_mutation.specs.Doc.{made, owner_in}
+use Rattle.dom_mutation.specs.Doc.{made}
 use Rattle.dom_admission.proofs.Finding.{key_of}
 use Rattle.dom_admission.proofs.Handling.{faults, fits, may_act, plans, refused}
 use Rattle.dom_admission.proofs.OwnRefusals.{held, lone_passes, lone_refuses}

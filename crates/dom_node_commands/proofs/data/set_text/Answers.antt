@@ -3,7 +3,7 @@ use Rattle.dom_model.specs.CommandRefusals.{made_by_text, past_limit}
 use Rattle.dom_model.specs.TextChanges.{setting_text}
 use Rattle.dom_model.specs.World.{part_of}
 use Rattle.dom_admission.specs.declared.admission.Operand.TheVariants.{Any}
-use Rattle.dom_mutation.specs.Doc.{made, owner_in}
+use Rattle.dom_mutation.specs.Doc.{made}
 use Rattle.dom_admission.proofs.Finding.{key_of}
 use Rattle.dom_admission.proofs.Handling.{faults, may_act, plans, refused}
 use Rattle.dom_admission.proofs.OwnRefusals.{held, lone_passes, lone_refuses}

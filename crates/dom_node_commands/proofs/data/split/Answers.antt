@@ -7,7 +7,7 @@ use Rattle.dom_model.specs.TextChanges.{splitting}
 use Rattle.dom_model.specs.Tree.{is_text, kind_of}
 use Rattle.dom_model.specs.World.{part_of}
 use Rattle.dom_admission.specs.declared.admission.Operand.TheVariants.{Text}
-use Rattle.dom_mutation.specs.Doc.{made, owner_in, splitting_refusal}
+use Rattle.dom_mutation.specs.Doc.{made, splitting_refusal}
 use Rattle.dom_reader.specs.Views.{word_view}
 use Rattle.dom_admission.proofs.Finding.{key_of}
 use Rattle.dom_admission.proofs.Handling.{faults, fits, may_act, plans, refused}
