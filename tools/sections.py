@@ -52,7 +52,7 @@ SECTIONS = [
     }),
     ("2.9", "Dispatching events", {
         "dispatch": ("Listeners::dispatch", "calls/dispatch-captures-then-bubbles"),
-        "append to an event path": None,
+        "append to an event path": ("Path::build", "calls/paths-of-a-slotted-node"),
         "invoke": ("Listeners::dispatch", "calls/dispatch-stopped-while-bubbling"),
         "inner invoke": ("Listeners::dispatch", "calls/dispatch-stopped-now"),
     }),
@@ -82,6 +82,7 @@ SECTIONS = [
     ("4.2.2.4", "Assigning slottables and slots", {
         "assign slottables": ("Doc::insert", "calls/slots-one-removal-signals-five"),
         "assign slottables for a tree": ("Doc::insert", "calls/slots-in-slots-renamed-and-removed"),
+        "assign a slot": ("Doc::insert", "calls/slots-one-removal-signals-five"),
     }),
     ("4.2.2.5", "Signaling slot change", {
         "signal a slot change": ("Doc::insert", "calls/slots-that-are-bare-are-signalled"),
@@ -118,6 +119,7 @@ SECTIONS = [
     }),
     ("4.3.2", "Queuing a mutation record", {
         "queue a mutation record": ("Observers::queue_record", "calls/observers-old-values-go-to-those-who-asked"),
+        "queue a tree mutation record": ("Doc::remove", "calls/observers-records-of-children-come-whole"),
     }),
     ("4.3.3", "Interface MutationRecord", {
         "MutationRecord": None,
@@ -145,6 +147,7 @@ SECTIONS = [
         "shadow-including root": ("Doc::is_connected", "commands/selecting-nodes-are-connected-below-a-document"),
         "shadow-including inclusive ancestor": ("Doc::is_connected", "calls/paths-out-of-a-host-in-another-host"),
         "shadow-including inclusive descendant": ("Doc::adopt", "commands/moving-a-node-is-adopted"),
+        "shadow-including tree order": ("Doc::adopt", "commands/moving-a-node-is-adopted"),
         "closed-shadow-hidden": ("Path::composed_path", "calls/paths-of-a-slotted-node"),
         "retarget": ("Path::build", "calls/dispatch-with-a-related-node-within"),
     }),
@@ -201,6 +204,7 @@ SECTIONS = [
     }),
     ("6.1", "Interface NodeIterator", {
         "NodeIterator pre-remove steps": ("Iter::on_remove", "rows/iterator-under-removal"),
+        "traverse": ("Iter::next", "rows/iterator-under-removal"),
         "nextNode()": ("Iter::next", "rows/iterator-under-removal"),
         "previousNode()": ("Iter::previous", "calls/cursors-iterate-until-the-reference-is-removed"),
         "referenceNode": None,

@@ -34,14 +34,20 @@ pub struct NodeName {
 /// A string of 16-bit code units.
 pub type DomStr = Vec<u16>;
 
-/// The kind of a node.
+/// The kind of a node, which is the interface that it has in the DOM Standard.
 #[derive(Clone, Copy, PartialEq, Eq, PartialOrd, Ord, Hash, Debug)]
 pub enum Kind {
+    /// A Document.
     Document,
+    /// A DocumentFragment that is no ShadowRoot.
     Fragment,
+    /// A ShadowRoot.
     Shadow,
+    /// An Element.
     Element,
+    /// A Text.
     Text,
+    /// A Comment.
     Comment,
 }
 

@@ -6,7 +6,7 @@ use Rattle.dom_base.specs.declared.NodeName.{NodeName}
 use Rattle.dom_base.specs.declared.Owner.{Owner}
 use Rattle.dom_model.specs.Command.{EventWords}
 use Rattle.dom_model.specs.Dispatch.{dispatch_in, world_visit, visits_of}
-use Rattle.dom_model.specs.Listeners.{Listener, Visit, Dispatching, begun, visited}
+use Rattle.dom_model.specs.Listeners.{Listener, Visit, Dispatching, begun, after_invoke}
 use Rattle.dom_model.specs.Names.{name_eq}
 use Rattle.dom_model.specs.Part.{Part, first_node}
 use Rattle.dom_model.specs.Paths.{views}
@@ -32,7 +32,7 @@ bounded-visits e [] w d b = b
 bounded-visits e (v ∷ vs) w d b =
     let o = v.current.owner in
     let p = part_of w o in
-    let done = visited name_eq e (record d { listeners = p.listeners }) v in
+    let done = after_invoke name_eq e (record d { listeners = p.listeners }) v in
     let q : Part = record p { listeners = done.listeners } in
     bounded-visits e vs (with_part w q) done (bounded-with_part w q o (owner-part_of w o) (record { ranges = (b o).ranges; leaves = (b o).leaves }) b)
 

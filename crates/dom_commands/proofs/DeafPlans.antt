@@ -5,9 +5,9 @@ use Rattle.std.specs.Prelude.{◌==◌, if◌then◌else◌}
 use Rattle.std.specs.Option.{option_map_or}
 use Rattle.dom_base.specs.declared.Owner.{Owner}
 use Rattle.dom_base.specs.declared.NodeName.{NodeName}
-use Rattle.dom_model.specs.Changes.{Plan, Observing, observed, suppressed, ◌and_then◌, in_turn, doing, steps_of, only_if, telling, removing}
-use Rattle.dom_model.specs.Changes.{document_below, changing_document, adopting, placed_nodes, emptying, making_room, placing, sibling_before}
-use Rattle.dom_model.specs.Changes.{inserting_nodes, inserting, reference_for, pre_inserting, replacing}
+use Rattle.dom_model.specs.Changes.{Plan, Observing, observed, suppressed, ◌and_then◌, in_turn, doing, steps_of, only_if, telling, remove_plan}
+use Rattle.dom_model.specs.Changes.{document_below, changing_document, adopt_plan, placed_nodes, emptying, making_room, placing, sibling_before}
+use Rattle.dom_model.specs.Changes.{inserting_nodes, insert_plan, reference_child, pre_insert_plan, replace_plan}
 use Rattle.dom_model.specs.Extract.{Pieces, nothing, whole, cut, clone, clone_part, making_below, taking, pieces_of, cut_start, cut_end, new_place}
 use Rattle.dom_model.specs.Extract.{both_at, own_document, new_fragment_node, extracting, is_in_one_data}
 use Rattle.dom_model.specs.Listeners.{Listener}
@@ -18,7 +18,7 @@ use Rattle.dom_model.specs.RangeOps.{cutting_data, outermost_contained, deleting
 use Rattle.dom_model.specs.RangeOps.{inserting_before, inserting_at, inserting_into_range}
 use Rattle.dom_model.specs.Ranges.{Range, at, is_collapsed}
 use Rattle.dom_model.specs.Steps.{Step, make, place, split_at, set_range, queue_record, part_step, after}
-use Rattle.dom_model.specs.TextChanges.{replacing_data, replacing_all_data, new_text_node, placing_tail, splitting, texts_after, joins, joining}
+use Rattle.dom_model.specs.TextChanges.{replacing_data, replacing_all_data, new_text_node, placing_tail, splitting, contiguous_texts_after, joins, joining}
 use Rattle.dom_model.specs.TextChanges.{normalizing_text, normalizing, replacing_children, setting_text}
 use Rattle.dom_model.specs.Tree.{Trees, node_in, kind_of, is_fragment, is_text, is_document, has_data, children_of, parent_of, next_sibling}
 use Rattle.dom_model.specs.Tree.{previous_sibling, index_of, length_of, descendants}
@@ -56,17 +56,17 @@ module _ (of : Owner → List (Listener NodeName)) where
 
   -- ---- the plans of changes
 
-  pub deaf-adopting : (d x : NodeName) → IsDeaf (adopting d x)
-  deaf-adopting d x = deaf-then (removing observed x) (changing_document d x) (λ p. refl) (λ p. refl)
+  pub deaf-adopting : (d x : NodeName) → IsDeaf (adopt_plan d x)
+  deaf-adopting d x = deaf-then (remove_plan observed x) (changing_document d x) (λ p. refl) (λ p. refl)
 
   deaf-placing : (parent : NodeName) (before : Option NodeName) (x : NodeName) → IsDeaf (placing parent before x)
-  deaf-placing parent before x p = deaf-then (adopting (document_below p.trees parent) x) (doing (place x parent before))
+  deaf-placing parent before x p = deaf-then (adopt_plan (document_below p.trees parent) x) (doing (place x parent before))
       (deaf-adopting (document_below p.trees parent) x) (λ q. refl) p
 
   deaf-emptying : (node : NodeName) (children : List NodeName) → IsDeaf (emptying node children)
   deaf-emptying node children =
-      deaf-then (in_turn (removing suppressed) children) (doing (queue_record (child_list node [] children None None)))
-      (deaf-turn (removing suppressed) (λ x p. refl) children) (λ p. refl)
+      deaf-then (in_turn (remove_plan suppressed) children) (doing (queue_record (child_list node [] children None None)))
+      (deaf-turn (remove_plan suppressed) (λ x p. refl) children) (λ p. refl)
 
   deaf-inserting_nodes : (how : Observing) (node : NodeName) (moved : List NodeName) (parent : NodeName) (before : Option NodeName) →
       IsDeaf (inserting_nodes how node moved parent before)
@@ -81,20 +81,20 @@ module _ (of : Owner → List (Listener NodeName)) where
       (λ q. refl)) (λ q. refl))
       (deaf-turn (placing parent before) (deaf-placing parent before) moved)) (λ q. refl) p
 
-  deaf-inserting : (how : Observing) (node parent : NodeName) (before : Option NodeName) → IsDeaf (inserting how node parent before)
+  deaf-inserting : (how : Observing) (node parent : NodeName) (before : Option NodeName) → IsDeaf (insert_plan how node parent before)
   deaf-inserting how node parent before p =
       let moved = placed_nodes p.trees node in
       ap (λ (steps : List Step). if is_empty moved then [] else steps) (deaf-inserting_nodes how node moved parent before p)
 
-  pub deaf-pre_inserting : (node parent : NodeName) (child : Option NodeName) → IsDeaf (pre_inserting node parent child)
-  deaf-pre_inserting node parent child p = deaf-inserting observed node parent (reference_for p.trees node child) p
+  pub deaf-pre_inserting : (node parent : NodeName) (child : Option NodeName) → IsDeaf (pre_insert_plan node parent child)
+  deaf-pre_inserting node parent child p = deaf-inserting observed node parent (reference_child p.trees node child) p
 
-  pub deaf-replacing : (parent node child : NodeName) → IsDeaf (replacing parent node child)
+  pub deaf-replacing : (parent node child : NodeName) → IsDeaf (replace_plan parent node child)
   deaf-replacing parent node child p =
-      let reference = reference_for p.trees node (next_sibling p.trees child) in
+      let reference = reference_child p.trees node (next_sibling p.trees child) in
       let told = child_list parent (placed_nodes p.trees node) (child ∷ []) (previous_sibling p.trees child) reference in
-      deaf-then (removing suppressed child and_then inserting suppressed node parent reference) (doing (queue_record told))
-      (deaf-then (removing suppressed child) (inserting suppressed node parent reference) (λ q. refl)
+      deaf-then (remove_plan suppressed child and_then insert_plan suppressed node parent reference) (doing (queue_record told))
+      (deaf-then (remove_plan suppressed child) (insert_plan suppressed node parent reference) (λ q. refl)
       (deaf-inserting suppressed node parent reference)) (λ q. refl) p
 
   -- ---- of data and of text
@@ -102,7 +102,7 @@ module _ (of : Owner → List (Listener NodeName)) where
   deaf-tail : (x : NodeName) (offset : ℕ) (new : NodeName) (parent : Option NodeName) → IsDeaf (placing_tail x offset new parent)
   deaf-tail x offset new None p = refl
   deaf-tail x offset new (Some parent) p =
-      deaf-then (inserting observed new parent (next_sibling p.trees x)) (doing (split_at x offset new parent (index_of p.trees x)))
+      deaf-then (insert_plan observed new parent (next_sibling p.trees x)) (doing (split_at x offset new parent (index_of p.trees x)))
       (deaf-inserting observed new parent (next_sibling p.trees x)) (λ q. refl) p
 
   pub deaf-splitting : (x : NodeName) (offset : ℕ) → IsDeaf (splitting x offset)
@@ -119,14 +119,14 @@ module _ (of : Owner → List (Listener NodeName)) where
       let size = length_of p.trees x in
       let all = flat_map (λ y. (node_in p.trees y).text) nexts in
       let carried = steps_of (joins p.trees x parent size nexts) in
-      deaf-then (replacing_data x size 0 all and_then carried) (in_turn (removing observed) nexts)
+      deaf-then (replacing_data x size 0 all and_then carried) (in_turn (remove_plan observed) nexts)
       (deaf-then (replacing_data x size 0 all) carried (λ q. refl) (λ q. refl))
-      (deaf-turn (removing observed) (λ y q. refl) nexts) p
+      (deaf-turn (remove_plan observed) (λ y q. refl) nexts) p
 
   deaf-normalizing_text : (x : NodeName) → IsDeaf (normalizing_text x)
   deaf-normalizing_text x p =
-      let nexts = texts_after p.trees x in
-      ap (λ (join : NodeName → List Step). if length_of p.trees x == 0 then removing observed x p else option_map_or join (parent_of p.trees x) [])
+      let nexts = contiguous_texts_after p.trees x in
+      ap (λ (join : NodeName → List Step). if length_of p.trees x == 0 then remove_plan observed x p else option_map_or join (parent_of p.trees x) [])
       (λ j parent. if is_empty nexts then [] else deaf-joining x parent nexts p j)
 
   pub deaf-normalizing : (x : NodeName) → IsDeaf (normalizing x)
@@ -138,11 +138,11 @@ module _ (of : Owner → List (Listener NodeName)) where
       let added = if is_empty new then [] else next_name p ∷ [] in
       let made = map (λ y. make (new_text_node y (Some (document_below p.trees x)) new)) added in
       let told = only_if (not (is_empty old && is_empty new)) (queue_record (child_list x added old None None)) in
-      let gone = in_turn (removing suppressed) old in
-      let come = in_turn (λ y. inserting suppressed y x None) added in
+      let gone = in_turn (remove_plan suppressed) old in
+      let come = in_turn (λ y. insert_plan suppressed y x None) added in
       deaf-then (steps_of made and_then gone and_then come) (steps_of told)
-      (deaf-then (steps_of made and_then gone) come (deaf-then (steps_of made) gone (λ q. refl) (deaf-turn (removing suppressed) (λ y q. refl) old))
-      (deaf-turn (λ y. inserting suppressed y x None) (λ y. deaf-inserting suppressed y x None) added)) (λ q. refl) p
+      (deaf-then (steps_of made and_then gone) come (deaf-then (steps_of made) gone (λ q. refl) (deaf-turn (remove_plan suppressed) (λ y q. refl) old))
+      (deaf-turn (λ y. insert_plan suppressed y x None) (λ y. deaf-inserting suppressed y x None) added)) (λ q. refl) p
 
   pub deaf-setting_text : (x : NodeName) (new : DomString) → IsDeaf (setting_text x new)
   deaf-setting_text x new p =
@@ -157,12 +157,12 @@ module _ (of : Owner → List (Listener NodeName)) where
 
   deaf-contents : (ts : Trees) (r : Range NodeName) → IsDeaf (deleting_contents ts r)
   deaf-contents ts r =
-      let all = in_turn (removing observed) (outermost_contained ts r) in
+      let all = in_turn (remove_plan observed) (outermost_contained ts r) in
       deaf-if (is_in_one_data ts r) (cutting_data ts r r.start.node)
       (cutting_data ts r r.start.node and_then all and_then cutting_data ts r r.end.node) (deaf-cutting ts r r.start.node)
       (deaf-then (cutting_data ts r r.start.node and_then all) (cutting_data ts r r.end.node)
       (deaf-then (cutting_data ts r r.start.node) all (deaf-cutting ts r r.start.node)
-      (deaf-turn (removing observed) (λ x q. refl) (outermost_contained ts r))) (deaf-cutting ts r r.end.node))
+      (deaf-turn (remove_plan observed) (λ x q. refl) (outermost_contained ts r))) (deaf-cutting ts r r.end.node))
 
   pub deaf-deleting : (k : ℕ) (r : Range NodeName) → IsDeaf (deleting k r)
   deaf-deleting k r p =
@@ -175,12 +175,12 @@ module _ (of : Owner → List (Listener NodeName)) where
       let ts = p.trees in
       let place = option_map_or (index_of ts) reference (length_of ts parent) in
       let size = if is_fragment (kind_of ts node) then length_of ts node else 1 in
-      deaf-then (pre_inserting node parent reference) (ending_at k (at parent (place + size))) (deaf-pre_inserting node parent reference) (λ q. refl) p
+      deaf-then (pre_insert_plan node parent reference) (ending_at k (at parent (place + size))) (deaf-pre_inserting node parent reference) (λ q. refl) p
 
   deaf-inserting_at : (k : ℕ) (node parent : NodeName) (child : Option NodeName) → IsDeaf (inserting_at k node parent child)
   deaf-inserting_at k node parent child p =
-      let reference = reference_for p.trees node child in
-      deaf-then (removing observed node) (inserting_before k node parent reference) (λ q. refl) (deaf-inserting_before k node parent reference) p
+      let reference = reference_child p.trees node child in
+      deaf-then (remove_plan observed node) (inserting_before k node parent reference) (λ q. refl) (deaf-inserting_before k node parent reference) p
 
   pub deaf-into_range : (k : ℕ) (r : Range NodeName) (node : NodeName) → IsDeaf (inserting_into_range k r node)
   deaf-into_range k r node p =
@@ -192,11 +192,11 @@ module _ (of : Owner → List (Listener NodeName)) where
       else deaf-inserting_at k node parent (start_reference p.trees r) p j
 
   deaf-below : (into : NodeName) (n : Rattle.dom_model.specs.Tree.Node) → IsDeaf (making_below into n)
-  deaf-below into n = deaf-then (doing (make n)) (inserting observed n.name into None) (λ q. refl) (deaf-inserting observed n.name into None)
+  deaf-below into n = deaf-then (doing (make n)) (insert_plan observed n.name into None) (λ q. refl) (deaf-inserting observed n.name into None)
 
   deaf-taking : (pieces : Pieces) (into : NodeName) → IsDeaf (taking into pieces)
   deaf-taking nothing into p = refl
-  deaf-taking (whole x rest) into p = deaf-then (inserting observed x into None) (taking into rest) (deaf-inserting observed x into None)
+  deaf-taking (whole x rest) into p = deaf-then (insert_plan observed x into None) (taking into rest) (deaf-inserting observed x into None)
       (deaf-taking rest into) p
   deaf-taking (cut x from to rest) into p =
       let n = clone_part (next_name p) from to (node_in p.trees x) in

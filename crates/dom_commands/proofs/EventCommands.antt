@@ -11,7 +11,7 @@ use Rattle.dom_model.specs.Command.{Command, NodeWord, own, foreign, ListenerWor
 use Rattle.dom_model.specs.CommandNames.{named}
 use Rattle.dom_model.specs.DocumentMachine.{refusal, accepted, effect_in}
 use Rattle.dom_model.specs.Effects.{keeps}
-use Rattle.dom_model.specs.Listeners.{Listener, listened, unlistened}
+use Rattle.dom_model.specs.Listeners.{Listener, with_listener_added, with_listener_removed}
 use Rattle.dom_model.specs.Names.{Word, name_eq, node_of}
 use Rattle.dom_model.specs.Output.{says, replied, nothing}
 use Rattle.dom_model.specs.Part.{Part}
@@ -181,7 +181,7 @@ module _ (names : List NodeName) (ls : List (Listener ℕ)) (w : World) (apart :
 
   -- `listen`
   pub listening : (words : ListenerWords) → MayAct w o (Command.listen x words) →
-      ChangesListeners names ls (listened nat_eq k words ls) w o (Command.listen x words)
+      ChangesListeners names ls (with_listener_added nat_eq k words ls) w o (Command.listen x words)
   listening words may =
       let y = name_at names k in
       record {
@@ -191,20 +191,21 @@ module _ (names : List NodeName) (ls : List (Listener ℕ)) (w : World) (apart :
         reached = reached;
         may = may;
         none = refl;
-        change = listened name_eq y words;
+        change = with_listener_added name_eq y words;
         runs = λ v. refl;
-        does = λ p e. ap (λ (z : NodeName). keeps (record p { listeners = listened name_eq z words p.listeners }) nothing) (its_name p e);
-        mine = subst (λ (a : Owner). own_listeners names (listened nat_eq k words ls) a ≡ listened name_eq y words (own_listeners names ls a)) its_owner
+        does = λ p e. ap (λ (z : NodeName). keeps (record p { listeners = with_listener_added name_eq z words p.listeners }) nothing) (its_name p e);
+        mine = subst (λ (a : Owner). own_listeners names (with_listener_added nat_eq k words ls) a ≡ with_listener_added name_eq y words
+            (own_listeners names ls a)) its_owner
             (own-listened names apart ls at k within words);
         others = λ q other. others-listened names apart ls at k within words q (λ e. other (sym its_owner ∙ e));
       }
 
   -- `unlisten`
   pub unlistening : (event label : Word) (capture : Bool) → MayAct w o (Command.unlisten x event label capture) →
-      ChangesListeners names ls (unlistened nat_eq k event label capture ls) w o (Command.unlisten x event label capture)
+      ChangesListeners names ls (with_listener_removed nat_eq k event label capture ls) w o (Command.unlisten x event label capture)
   unlistening event label capture may =
       let y = name_at names k in
-      let less = unlistened nat_eq k event label capture ls in
+      let less = with_listener_removed nat_eq k event label capture ls in
       record {
         there = there;
         at = at;
@@ -212,10 +213,11 @@ module _ (names : List NodeName) (ls : List (Listener ℕ)) (w : World) (apart :
         reached = reached;
         may = may;
         none = refl;
-        change = unlistened name_eq y event label capture;
+        change = with_listener_removed name_eq y event label capture;
         runs = λ v. refl;
-        does = λ p e. ap (λ (z : NodeName). keeps (record p { listeners = unlistened name_eq z event label capture p.listeners }) nothing) (its_name p e);
-        mine = subst (λ (a : Owner). own_listeners names less a ≡ unlistened name_eq y event label capture (own_listeners names ls a)) its_owner
+        does = λ p e. ap (λ (z : NodeName). keeps (record p { listeners = with_listener_removed name_eq z event label capture p.listeners }) nothing)
+            (its_name p e);
+        mine = subst (λ (a : Owner). own_listeners names less a ≡ with_listener_removed name_eq y event label capture (own_listeners names ls a)) its_owner
             (own-unlistened names apart ls at k within event label capture);
         others = λ q other. others-unlistened names apart ls at k within event label capture q (λ e. other (sym its_owner ∙ e));
       }

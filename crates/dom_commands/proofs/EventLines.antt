@@ -13,7 +13,8 @@ use Rattle.dom_base.specs.declared.NodeName.{NodeName}
 use Rattle.dom_base.specs.declared.Owner.{Owner}
 use Rattle.dom_model.specs.Command.{EventWords}
 use Rattle.dom_model.specs.Dispatch.{visit_of, visits_of, is_at_target, event_output}
-use Rattle.dom_model.specs.Listeners.{Listener, Visit, Dispatching, after_action, may_cancel, line_of, kept_after, called, hears, visited, begun}
+use Rattle.dom_model.specs.Listeners.{Listener, Visit, Dispatching, after_action, may_cancel, line_of, kept_after, after_inner_invoke, hears, after_invoke}
+use Rattle.dom_model.specs.Listeners.{begun}
 use Rattle.dom_model.specs.Output.{Output}
 use Rattle.dom_model.specs.Paths.{View}
 use Rattle.dom_model.proofs.OwnerLaws.{owner_eq-true}
@@ -62,7 +63,7 @@ module _ (names : List NodeName) (e : EventWords) where
   action-lines Cancel cancels d h = h
 
   called-lines : (v : Visit ℕ) → VisitsNodes v → (d : Dispatching ℕ) (l : Listener ℕ) → AllByRecursion (NamesNodes names) d.lines →
-      AllByRecursion (NamesNodes names) (called nat_eq e v d l).lines
+      AllByRecursion (NamesNodes names) (after_inner_invoke nat_eq e v d l).lines
   called-lines v at d l h =
       let lines = d.lines ++ line_of v l.words ∷ [] in
       let next : Dispatching ℕ = record d { listeners = kept_after nat_eq l d.listeners; lines = lines } in
@@ -72,22 +73,22 @@ module _ (names : List NodeName) (e : EventWords) where
       (after_action l.words.action (may_cancel e l.words) next) h (action-lines l.words.action (may_cancel e l.words) next more)
 
   calls-lines : (v : Visit ℕ) → VisitsNodes v → (ls : List (Listener ℕ)) (d : Dispatching ℕ) → AllByRecursion (NamesNodes names) d.lines →
-      AllByRecursion (NamesNodes names) (fold (called nat_eq e v) d ls).lines
+      AllByRecursion (NamesNodes names) (fold (after_inner_invoke nat_eq e v) d ls).lines
   calls-lines v at [] d h = h
-  calls-lines v at (l ∷ ls) d h = calls-lines v at ls (called nat_eq e v d l) (called-lines v at d l h)
+  calls-lines v at (l ∷ ls) d h = calls-lines v at ls (after_inner_invoke nat_eq e v d l) (called-lines v at d l h)
 
   visits-lines : (vs : List (Visit ℕ)) → AllByRecursion VisitsNodes vs → (d : Dispatching ℕ) → AllByRecursion (NamesNodes names) d.lines →
-      AllByRecursion (NamesNodes names) (fold (visited nat_eq e) d vs).lines
+      AllByRecursion (NamesNodes names) (fold (after_invoke nat_eq e) d vs).lines
   visits-lines [] at d h = h
   visits-lines (v ∷ vs) at d h =
       let hearing = filter (hears nat_eq e v) d.listeners in
-      visits-lines vs at.1 (visited nat_eq e d v)
-      (either_way (λ (s : Dispatching ℕ). AllByRecursion (NamesNodes names) s.lines) d.stopped d (fold (called nat_eq e v) d hearing) h
+      visits-lines vs at.1 (after_invoke nat_eq e d v)
+      (either_way (λ (s : Dispatching ℕ). AllByRecursion (NamesNodes names) s.lines) d.stopped d (fold (after_inner_invoke nat_eq e v) d hearing) h
       (calls-lines v at.0 hearing d h))
 
   -- the lines of a dispatch along what a path shows
   pub dispatch-lines : (ls : List (Listener ℕ)) (shown : List (View ℕ)) → AllByRecursion (ShowsNodes names) shown →
-      AllByRecursion (NamesNodes names) (fold (visited nat_eq e) (begun ls) (visits_of nat_eq e.bubbles shown)).lines
+      AllByRecursion (NamesNodes names) (fold (after_invoke nat_eq e) (begun ls) (visits_of nat_eq e.bubbles shown)).lines
   dispatch-lines ls shown at = visits-lines (visits_of nat_eq e.bubbles shown) (visits-nodes e.bubbles shown at) (begun ls) tt
 
 -- the lines of an outcome are those of keys

@@ -29,7 +29,7 @@ use Rattle.dom_model.specs.Tree.{node_in}
 use Rattle.dom_model.specs.Turns.{opening_turn}
 use Rattle.dom_model.specs.Validity.{first_refusal}
 use Rattle.dom_model.specs.World.{World, part_of, with_part, is_there, component_made, is_connected}
-use Rattle.dom_model.specs.Slots.{assigned}
+use Rattle.dom_model.specs.Slots.{assigned_nodes}
 use Rattle.dom_text.specs.Text.{output_text}
 use Rattle.dom_admission.specs.Handled.{IsHandled}
 use Rattle.dom_commands.specs.WithListeners.{hearing, heard}
@@ -205,7 +205,7 @@ module _ (of : Owner → List (Listener NodeName)) where
       ap (λ (p : Part). answering o (a_truth (is_connected (heard of w) (named p x))) (heard of w)) (part-heard of w fits o)
       ∙ ap (λ b. answering o (a_truth b) (heard of w)) (connected-heard of w fits (named (part_of w o) x))
   perform-heard w fits o (Command.assigned x) plain new =
-      ap (λ (p : Part). answering o (a_list (assigned (heard of w) (named p x))) (heard of w)) (part-heard of w fits o)
+      ap (λ (p : Part). answering o (a_list (assigned_nodes (heard of w) (named p x))) (heard of w)) (part-heard of w fits o)
       ∙ ap (λ xs. answering o (a_list xs) (heard of w)) (assigned-heard of w fits (named (part_of w o) x))
   perform-heard w fits o (Command.listen x words) plain new = absurd cc
   perform-heard w fits o (Command.unlisten x e l c) plain new = absurd cc

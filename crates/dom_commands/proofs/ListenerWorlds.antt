@@ -8,7 +8,7 @@ use Rattle.dom_base.specs.declared.NodeName.{NodeName}
 use Rattle.dom_model.specs.Listeners.{Listener}
 use Rattle.dom_model.specs.Names.{owner_eq, name_eq, max_depth, owner_depth, is_in, is_empty, distinct, list_eq, last_of}
 use Rattle.dom_model.specs.Part.{Part, empty_part}
-use Rattle.dom_model.specs.Slots.{is_slot_element, slot_in, slots_among, slot_of, assigned, signals, with_signal}
+use Rattle.dom_model.specs.Slots.{is_slot_element, slot_in, slots_among, slot_of, assigned_nodes, signals, with_signal}
 use Rattle.dom_model.specs.Steps.{Step, make, make_room, place, take_out, set_document, set_attribute, replace_data, split_at, join_at, set_range}
 use Rattle.dom_model.specs.Steps.{queue_record, part_step, leave, is_taken}
 use Rattle.dom_model.specs.Tree.{Trees, node_in, parent_of, root_of, children_of, subtree, inclusive_ancestors, inclusive_descendants, is_document}
@@ -83,7 +83,7 @@ hosts_in w o = (part_of w o).attached
 slot-read : (w : World) (x : NodeName) → slot_of w x ≡ slot_from (trees_in w) (hosts_in w) x
 slot-read w x = refl
 
-assigned-read : (w : World) (x : NodeName) → assigned w x ≡ assigned_from (trees_in w) (hosts_in w) x
+assigned-read : (w : World) (x : NodeName) → assigned_nodes w x ≡ assigned_from (trees_in w) (hosts_in w) x
 assigned-read w x = refl
 
 signals-read : (was now : World) (x around : NodeName) (is_move : Bool) →
@@ -176,7 +176,7 @@ module _ (of : Owner → List (Listener NodeName)) where
     pub component-heard : (x : NodeName) → component_at (heard of w) x ≡ component_at w x
     component-heard x = λ j. component_from (trees-same j) (hosts-same j) x
 
-    pub assigned-heard : (s : NodeName) → assigned (heard of w) s ≡ assigned w s
+    pub assigned-heard : (s : NodeName) → assigned_nodes (heard of w) s ≡ assigned_nodes w s
     assigned-heard s = λ j. assigned_from (trees-same j) (hosts-same j) s
 
     pub connected-heard : (x : NodeName) → is_connected (heard of w) x ≡ is_connected w x

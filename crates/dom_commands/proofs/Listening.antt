@@ -15,8 +15,9 @@ use Rattle.dom_base.specs.declared.NodeName.{NodeName}
 use Rattle.dom_base.specs.declared.Owner.{Owner}
 use Rattle.dom_base.specs.declared.Owner.TheVariants.{Page}
 use Rattle.dom_model.specs.Command.{EventWords, ListenerWords}
-use Rattle.dom_model.specs.Listeners.{Listener, Visit, Dispatching, after_action, may_cancel, line_of, is_listener, unlistened, listened, kept_after}
-use Rattle.dom_model.specs.Listeners.{called, hears, visited}
+use Rattle.dom_model.specs.Listeners.{Listener, Visit, Dispatching, after_action, may_cancel, line_of, is_listener, with_listener_removed, with_listener_added}
+use Rattle.dom_model.specs.Listeners.{kept_after}
+use Rattle.dom_model.specs.Listeners.{after_inner_invoke, hears, after_invoke}
 use Rattle.dom_model.specs.Names.{Word, owner_eq, name_eq, text_eq, node_of}
 use Rattle.dom_model.specs.World.{World, is_there}
 use Rattle.dom_model.proofs.OwnerLaws.{owner_eq-true, owner_eq-same, ne-owner_eq, name_eq-true}
@@ -89,7 +90,7 @@ module _ (x : NodeName) where
 
   -- of its owner
   listened-own : (words : ListenerWords) (ms : List (Listener NodeName)) →
-      filter (is_of_owner x.owner) (listened name_eq x words ms) ≡ listened name_eq x words (filter (is_of_owner x.owner) ms)
+      filter (is_of_owner x.owner) (with_listener_added name_eq x words ms) ≡ with_listener_added name_eq x words (filter (is_of_owner x.owner) ms)
   listened-own words ms =
       let test = is_listener name_eq x words.event words.label words.capture in
       let own = is_of_owner x.owner in
@@ -109,7 +110,7 @@ module _ (x : NodeName) where
 
   -- of others
   listened-other : (words : ListenerWords) (o : Owner) → x.owner ≢ o → (ms : List (Listener NodeName)) →
-      filter (is_of_owner o) (listened name_eq x words ms) ≡ filter (is_of_owner o) ms
+      filter (is_of_owner o) (with_listener_added name_eq x words ms) ≡ filter (is_of_owner o) ms
   listened-other words o other ms = by (list_any (is_listener name_eq x words.event words.label words.capture) ms)
     where
       by : (b : Bool) → filter (is_of_owner o) (if b then ms else ms ++ record { node = x; words = words } ∷ []) ≡ filter (is_of_owner o) ms
@@ -121,12 +122,12 @@ module _ (x : NodeName) where
           ∙ append-nil (filter (is_of_owner o) ms)
 
   unlistened-own : (event label : Word) (capture : Bool) (ms : List (Listener NodeName)) →
-      filter (is_of_owner x.owner) (unlistened name_eq x event label capture ms) ≡ unlistened name_eq x event label capture
+      filter (is_of_owner x.owner) (with_listener_removed name_eq x event label capture ms) ≡ with_listener_removed name_eq x event label capture
       (filter (is_of_owner x.owner) ms)
   unlistened-own event label capture ms = filter-filter (is_of_owner x.owner) (λ m. not (is_listener name_eq x event label capture m)) ms
 
   unlistened-other : (event label : Word) (capture : Bool) (o : Owner) → x.owner ≢ o → (ms : List (Listener NodeName)) →
-      filter (is_of_owner o) (unlistened name_eq x event label capture ms) ≡ filter (is_of_owner o) ms
+      filter (is_of_owner o) (with_listener_removed name_eq x event label capture ms) ≡ filter (is_of_owner o) ms
   unlistened-other event label capture o other ms =
       filter-wider (is_of_owner o) (λ m. not (is_listener name_eq x event label capture m))
       (λ m h. by_cases (is_listener name_eq x event label capture m)
@@ -136,38 +137,39 @@ module _ (x : NodeName) where
 module _ (names : List NodeName) (apart : TellApart names) (ls : List (Listener ℕ)) (at : AllByRecursion (IsListenerAt names) ls) (k : ℕ)
     (within : k < length names) where
   pub own-listened : (words : ListenerWords) →
-      own_listeners names (listened nat_eq k words ls) (name_at names k).owner ≡ listened name_eq (name_at names k) words
+      own_listeners names (with_listener_added nat_eq k words ls) (name_at names k).owner ≡ with_listener_added name_eq (name_at names k) words
       (own_listeners names ls (name_at names k).owner)
   own-listened words =
       ap (filter (is_of_owner (name_at names k).owner)) (listened-named names apart ls at k within words) ∙
       listened-own (name_at names k) words (map (listener_named names) ls)
 
   pub others-listened : (words : ListenerWords) (o : Owner) → (name_at names k).owner ≢ o →
-      own_listeners names (listened nat_eq k words ls) o ≡ own_listeners names ls o
+      own_listeners names (with_listener_added nat_eq k words ls) o ≡ own_listeners names ls o
   others-listened words o other = ap (filter (is_of_owner o)) (listened-named names apart ls at k within words) ∙
       listened-other (name_at names k) words o other (map (listener_named names) ls)
 
   pub own-unlistened : (event label : Word) (capture : Bool) →
-      own_listeners names (unlistened nat_eq k event label capture ls) (name_at names k).owner ≡ unlistened name_eq (name_at names k) event label
+      own_listeners names (with_listener_removed nat_eq k event label capture ls) (name_at names k).owner ≡ with_listener_removed name_eq
+      (name_at names k) event label
       capture (own_listeners names ls (name_at names k).owner)
   own-unlistened event label capture =
       ap (filter (is_of_owner (name_at names k).owner)) (unlistened-named names apart ls at k within event label capture) ∙
       unlistened-own (name_at names k) event label capture (map (listener_named names) ls)
 
   pub others-unlistened : (event label : Word) (capture : Bool) (o : Owner) → (name_at names k).owner ≢ o →
-      own_listeners names (unlistened nat_eq k event label capture ls) o ≡ own_listeners names ls o
+      own_listeners names (with_listener_removed nat_eq k event label capture ls) o ≡ own_listeners names ls o
   others-unlistened event label capture o other =
       ap (filter (is_of_owner o)) (unlistened-named names apart ls at k within event label capture) ∙ unlistened-other (name_at names k) event
       label capture o other (map (listener_named names) ls)
 
   -- they stay at nodes
-  pub at-listened : (words : ListenerWords) → AllByRecursion (IsListenerAt names) (listened nat_eq k words ls)
+  pub at-listened : (words : ListenerWords) → AllByRecursion (IsListenerAt names) (with_listener_added nat_eq k words ls)
   at-listened words =
       either_way (AllByRecursion (IsListenerAt names)) (list_any (is_listener nat_eq k words.event words.label words.capture) ls) ls
       (ls ++ record { node = k; words = words } ∷ []) at
       (all-append (IsListenerAt names) ls (record { node = k; words = words } ∷ []) at (within, tt))
 
-  pub at-unlistened : (event label : Word) (capture : Bool) → AllByRecursion (IsListenerAt names) (unlistened nat_eq k event label capture ls)
+  pub at-unlistened : (event label : Word) (capture : Bool) → AllByRecursion (IsListenerAt names) (with_listener_removed nat_eq k event label capture ls)
   at-unlistened event label capture = all-filter (IsListenerAt names) (λ l. not (is_listener nat_eq k event label capture l)) ls at
 
 -- ---- a dispatch leaves some of the listeners
@@ -179,11 +181,12 @@ module _ {N : Type 0} (same : N → N → Bool) (P : Listener N → Type 0) (e :
   after-action StopNow cancels d h = h
   after-action Cancel cancels d h = h
 
-  after-called : (v : Visit N) (d : Dispatching N) (l : Listener N) → AllByRecursion P d.listeners → AllByRecursion P (called same e v d l).listeners
+  after-called : (v : Visit N) (d : Dispatching N) (l : Listener N) → AllByRecursion P d.listeners → AllByRecursion P
+      (after_inner_invoke same e v d l).listeners
   after-called v d l h =
       let left = kept_after same l d.listeners in
       let next : Dispatching N = record d { listeners = left; lines = d.lines ++ line_of v l.words ∷ [] } in
-      let gone = unlistened same l.node l.words.event l.words.label l.words.capture d.listeners in
+      let gone = with_listener_removed same l.node l.words.event l.words.label l.words.capture d.listeners in
       let kept : AllByRecursion P left =
       either_way (AllByRecursion P) l.words.once gone d.listeners
       (all-filter P (λ k. not (is_listener same l.node l.words.event l.words.label l.words.capture k)) d.listeners h) h in
@@ -191,14 +194,14 @@ module _ {N : Type 0} (same : N → N → Bool) (P : Listener N → Type 0) (e :
       (after-action l.words.action (may_cancel e l.words) next kept)
 
   after-calls : (v : Visit N) (ls : List (Listener N)) (d : Dispatching N) → AllByRecursion P d.listeners →
-      AllByRecursion P (fold (called same e v) d ls).listeners
+      AllByRecursion P (fold (after_inner_invoke same e v) d ls).listeners
   after-calls v [] d h = h
-  after-calls v (l ∷ ls) d h = after-calls v ls (called same e v d l) (after-called v d l h)
+  after-calls v (l ∷ ls) d h = after-calls v ls (after_inner_invoke same e v d l) (after-called v d l h)
 
-  pub after-visits : (vs : List (Visit N)) (d : Dispatching N) → AllByRecursion P d.listeners → AllByRecursion P (fold (visited same e) d vs).listeners
+  pub after-visits : (vs : List (Visit N)) (d : Dispatching N) → AllByRecursion P d.listeners → AllByRecursion P (fold (after_invoke same e) d vs).listeners
   after-visits [] d h = h
   after-visits (v ∷ vs) d h =
       let hearing = filter (hears same e v) d.listeners in
-      after-visits vs (visited same e d v)
-      (either_way (λ (s : Dispatching N). AllByRecursion P s.listeners) d.stopped d (fold (called same e v) d hearing) h
+      after-visits vs (after_invoke same e d v)
+      (either_way (λ (s : Dispatching N). AllByRecursion P s.listeners) d.stopped d (fold (after_inner_invoke same e v) d hearing) h
       (after-calls v hearing d h))

@@ -6,7 +6,7 @@ use Rattle.dom_base.specs.declared.Owner.{Owner}
 use Rattle.dom_base.specs.declared.NodeName.{NodeName}
 use Rattle.dom_model.specs.Names.{owner_eq, name_eq, text_eq}
 use Rattle.dom_model.specs.Command.{EventWords}
-use Rattle.dom_model.specs.Listeners.{Listener, Visit, Dispatching, visited, begun, hears, is_listener}
+use Rattle.dom_model.specs.Listeners.{Listener, Visit, Dispatching, after_invoke, begun, hears, is_listener}
 use Rattle.dom_model.specs.Dispatch.{world_visit, visits_of, event_output}
 use Rattle.dom_model.specs.Part.{Part}
 use Rattle.dom_model.specs.Paths.{views}
@@ -52,7 +52,7 @@ module _ (e : EventWords) (from : World) where
 
   -- one visit
   visit-among : (w : World) (d s : Dispatching NodeName) (v : Visit NodeName) → IsAsFar e from w d s
-      → IsAsFar e from (world_visit e (w, d) v).0 (world_visit e (w, d) v).1 (visited name_eq e s v)
+      → IsAsFar e from (world_visit e (w, d) v).0 (world_visit e (w, d) v).1 (after_invoke name_eq e s v)
   visit-among w d s v far =
       let o = v.current.owner in
       let p = part_of w o in
@@ -63,10 +63,10 @@ module _ (e : EventWords) (from : World) where
         cancelled = far.cancelled j;
         lines = far.lines j;
       } in
-      let heard = visited name_eq e (record d { listeners = p.listeners }) v in
-      let next = visited name_eq e s v in
+      let heard = after_invoke name_eq e (record d { listeners = p.listeners }) v in
+      let next = after_invoke name_eq e s v in
       let is : heard ≡ narrowed name_eq e (is_of_owner o) next =
-      ap (λ x. visited name_eq e x v) begins ∙ sym (visited-narrow name_eq e (is_of_owner o) v (hears-own v) s) in
+      ap (λ x. after_invoke name_eq e x v) begins ∙ sym (visited-narrow name_eq e (is_of_owner o) v (hears-own v) s) in
       let new : Part = record p { listeners = heard.listeners } in
       let P : Owner → Type 0 = λ a. part_of (with_part w new) a ≡ record (part_of from a) { listeners = filter (is_of_owner a) next.listeners } in
       let own : P o = part_of-with_part w new o (owner-part_of w o) ∙
@@ -86,11 +86,11 @@ module _ (e : EventWords) (from : World) where
 
   -- all visits
   visits-among : (vs : List (Visit NodeName)) (w : World) (d s : Dispatching NodeName) → IsAsFar e from w d s
-      → IsAsFar e from (fold (world_visit e) (w, d) vs).0 (fold (world_visit e) (w, d) vs).1 (fold (visited name_eq e) s vs)
+      → IsAsFar e from (fold (world_visit e) (w, d) vs).0 (fold (world_visit e) (w, d) vs).1 (fold (after_invoke name_eq e) s vs)
   visits-among [] w d s far = far
   visits-among (v ∷ vs) w d s far =
       let next = world_visit e (w, d) v in
-      visits-among vs next.0 next.1 (visited name_eq e s v) (visit-among w d s v far)
+      visits-among vs next.0 next.1 (after_invoke name_eq e s v) (visit-among w d s v far)
 
 -- the law
 pub dispatched-among : DispatchedAmong
@@ -109,7 +109,7 @@ pub dispatched-along : DispatchedAlong
 dispatched-along names apart ls at vs shown w has target related e path =
     let all = dispatch_along ls e vs in
     let same : dispatch_among w (map (listener_named names) ls) target related e ≡ dispatching_named names all =
-    ap (λ xs. fold (visited name_eq e) (begun (map (listener_named names) ls)) (visits_of name_eq e.bubbles xs)) (sym path) ∙
+    ap (λ xs. fold (after_invoke name_eq e) (begun (map (listener_named names) ls)) (visits_of name_eq e.bubbles xs)) (sym path) ∙
     sym (dispatched-named names apart e ls at vs shown) in
     let far = dispatched-among w (map (listener_named names) ls) has target related e in (
       λ o. far.0 o ∙ ap (λ (d : Dispatching NodeName). record (part_of w o) { listeners = filter (is_of_owner o) d.listeners }) same,

@@ -11,8 +11,9 @@ use Rattle.dom_base.specs.declared.Action.TheVariants.{Log, Stop, StopNow, Cance
 use Rattle.dom_base.specs.declared.NodeName.{NodeName}
 use Rattle.dom_model.specs.Names.{Word, text_eq, name_eq}
 use Rattle.dom_model.specs.Command.{EventWords, ListenerWords}
-use Rattle.dom_model.specs.Listeners.{Listener, Visit, Dispatching, after_action, may_cancel, line_of, is_listener, unlistened, listened, kept_after}
-use Rattle.dom_model.specs.Listeners.{called, hears, visited, begun}
+use Rattle.dom_model.specs.Listeners.{Listener, Visit, Dispatching, after_action, may_cancel, line_of, is_listener, with_listener_removed, with_listener_added}
+use Rattle.dom_model.specs.Listeners.{kept_after}
+use Rattle.dom_model.specs.Listeners.{after_inner_invoke, hears, after_invoke, begun}
 use Rattle.dom_model.specs.Paths.{View}
 use Rattle.dom_model.specs.Dispatch.{is_at_target, visit_of, visits_of}
 use Rattle.dom_worlds.proofs.ListLemmas.{by_cases, all-reverse}
@@ -67,7 +68,7 @@ module _ (names : List NodeName) (apart : TellApart names) where
   module _ (ls : List (Listener ℕ)) (h : AllByRecursion (IsListenerAt names) ls) where
     -- one less
     pub unlistened-named : (x : ℕ) → x < length names → (event label : Word) (capture : Bool) →
-        map (listener_named names) (unlistened nat_eq x event label capture ls) ≡ unlistened name_eq (name x) event label capture
+        map (listener_named names) (with_listener_removed nat_eq x event label capture ls) ≡ with_listener_removed name_eq (name x) event label capture
         (map (listener_named names) ls)
     unlistened-named x at event label capture =
         filter-mapped (listener_named names) (IsListenerAt names)
@@ -76,7 +77,7 @@ module _ (names : List NodeName) (apart : TellApart names) where
 
     -- one more
     pub listened-named : (x : ℕ) → x < length names → (words : ListenerWords) →
-        map (listener_named names) (listened nat_eq x words ls) ≡ listened name_eq (name x) words (map (listener_named names) ls)
+        map (listener_named names) (with_listener_added nat_eq x words ls) ≡ with_listener_added name_eq (name x) words (map (listener_named names) ls)
     listened-named x at words =
         by (list_any (is_listener nat_eq x words.event words.label words.capture) ls)
         ∙ ap (λ (b : Bool). if b then map (listener_named names) ls else map (listener_named names) ls ++
@@ -95,8 +96,8 @@ module _ (names : List NodeName) (apart : TellApart names) where
       → map (listener_named names) (kept_after nat_eq l ls) ≡ kept_after name_eq (listener_named names l) (map (listener_named names) ls)
   kept-named l k ls h = by l.words.once
     where
-      by : (b : Bool) → map (listener_named names) (if b then unlistened nat_eq l.node l.words.event l.words.label l.words.capture ls else ls)
-          ≡ (if b then unlistened name_eq (name l.node) l.words.event l.words.label l.words.capture (map (listener_named names) ls) else map
+      by : (b : Bool) → map (listener_named names) (if b then with_listener_removed nat_eq l.node l.words.event l.words.label l.words.capture ls else ls)
+          ≡ (if b then with_listener_removed name_eq (name l.node) l.words.event l.words.label l.words.capture (map (listener_named names) ls) else map
           (listener_named names) ls)
       by true = unlistened-named ls h l.node k l.words.event l.words.label l.words.capture
       by false = refl
@@ -112,7 +113,8 @@ module _ (names : List NodeName) (apart : TellApart names) where
   module _ (e : EventWords) where
     -- one call
     called-named : (v : Visit ℕ) (s : Dispatching ℕ) (l : Listener ℕ) → IsListenerAt names l → AllByRecursion (IsListenerAt names) s.listeners
-        → dispatching_named names (called nat_eq e v s l) ≡ called name_eq e (visit_named names v) (dispatching_named names s) (listener_named names l)
+        → dispatching_named names (after_inner_invoke nat_eq e v s l) ≡ after_inner_invoke name_eq e (visit_named names v) (dispatching_named names s)
+        (listener_named names l)
     called-named v s l k h = by s.stopped_now
       where
         acts : Dispatching NodeName
@@ -138,16 +140,17 @@ module _ (names : List NodeName) (apart : TellApart names) where
     -- the calls of some listeners
     calls-named : (v : Visit ℕ) (heard : List (Listener ℕ)) (s : Dispatching ℕ) → AllByRecursion (IsListenerAt names) heard →
         AllByRecursion (IsListenerAt names) s.listeners
-        → dispatching_named names (fold (called nat_eq e v) s heard) ≡ fold (called name_eq e (visit_named names v)) (dispatching_named names s)
+        → dispatching_named names (fold (after_inner_invoke nat_eq e v) s heard) ≡ fold (after_inner_invoke name_eq e (visit_named names v))
+        (dispatching_named names s)
         (map (listener_named names) heard)
     calls-named v [] s g h = refl
     calls-named v (l ∷ heard) s g h =
-        calls-named v heard (called nat_eq e v s l) g.1 (called-at names e v s l h)
-        ∙ ap (λ d. fold (called name_eq e (visit_named names v)) d (map (listener_named names) heard)) (called-named v s l g.0 h)
+        calls-named v heard (after_inner_invoke nat_eq e v s l) g.1 (called-at names e v s l h)
+        ∙ ap (λ d. fold (after_inner_invoke name_eq e (visit_named names v)) d (map (listener_named names) heard)) (called-named v s l g.0 h)
 
     -- one visit
     visited-named : (v : Visit ℕ) → v.current < length names → (s : Dispatching ℕ) → AllByRecursion (IsListenerAt names) s.listeners
-        → dispatching_named names (visited nat_eq e s v) ≡ visited name_eq e (dispatching_named names s) (visit_named names v)
+        → dispatching_named names (after_invoke nat_eq e s v) ≡ after_invoke name_eq e (dispatching_named names s) (visit_named names v)
     visited-named v at s h = by s.stopped
       where
         hear : map (listener_named names) (filter (hears nat_eq e v) s.listeners) ≡ filter (hears name_eq e (visit_named names v))
@@ -156,22 +159,22 @@ module _ (names : List NodeName) (apart : TellApart names) where
             (λ l k. ap (λ b. b && (text_eq l.words.event e.event && beq l.words.capture v.capturing))
             (key-test names apart l.node v.current k at)) s.listeners h
 
-        by : (b : Bool) → dispatching_named names (if b then s else fold (called nat_eq e v) s (filter (hears nat_eq e v) s.listeners))
-            ≡ (if b then dispatching_named names s else fold (called name_eq e (visit_named names v)) (dispatching_named names s)
+        by : (b : Bool) → dispatching_named names (if b then s else fold (after_inner_invoke nat_eq e v) s (filter (hears nat_eq e v) s.listeners))
+            ≡ (if b then dispatching_named names s else fold (after_inner_invoke name_eq e (visit_named names v)) (dispatching_named names s)
             (filter (hears name_eq e (visit_named names v)) (map (listener_named names) s.listeners)))
         by true = refl
         by false =
             calls-named v (filter (hears nat_eq e v) s.listeners) s (all-kept (IsListenerAt names) (hears nat_eq e v) s.listeners h) h
-            ∙ ap (fold (called name_eq e (visit_named names v)) (dispatching_named names s)) hear
+            ∙ ap (fold (after_inner_invoke name_eq e (visit_named names v)) (dispatching_named names s)) hear
 
     -- all visits
     visits-named : (vs : List (Visit ℕ)) → AllByRecursion (λ v. v.current < length names) vs → (s : Dispatching ℕ) →
         AllByRecursion (IsListenerAt names) s.listeners
-        → dispatching_named names (fold (visited nat_eq e) s vs) ≡ fold (visited name_eq e) (dispatching_named names s) (map (visit_named names) vs)
+        → dispatching_named names (fold (after_invoke nat_eq e) s vs) ≡ fold (after_invoke name_eq e) (dispatching_named names s) (map (visit_named names) vs)
     visits-named [] g s h = refl
     visits-named (v ∷ vs) g s h =
-        visits-named vs g.1 (visited nat_eq e s v) (visited-at names e v s h)
-        ∙ ap (λ d. fold (visited name_eq e) d (map (visit_named names) vs)) (visited-named v g.0 s h)
+        visits-named vs g.1 (after_invoke nat_eq e s v) (visited-at names e v s h)
+        ∙ ap (λ d. fold (after_invoke name_eq e) d (map (visit_named names) vs)) (visited-named v g.0 s h)
 
     -- ---- the visits of a path
 
@@ -211,8 +214,8 @@ module _ (names : List NodeName) (apart : TellApart names) where
 
     -- the dispatch
     pub dispatched-named : (ls : List (Listener ℕ)) → AllByRecursion (IsListenerAt names) ls → (vs : List (View ℕ)) → AllByRecursion (IsViewOf names) vs
-        → dispatching_named names (fold (visited nat_eq e) (begun ls) (visits_of nat_eq e.bubbles vs))
-        ≡ fold (visited name_eq e) (begun (map (listener_named names) ls)) (visits_of name_eq e.bubbles (map (view_named names) vs))
+        → dispatching_named names (fold (after_invoke nat_eq e) (begun ls) (visits_of nat_eq e.bubbles vs))
+        ≡ fold (after_invoke name_eq e) (begun (map (listener_named names) ls)) (visits_of name_eq e.bubbles (map (view_named names) vs))
     dispatched-named ls h vs g =
         let down = reverse vs in
         let up = filter (λ v. e.bubbles || is_at_target nat_eq v) vs in
@@ -223,7 +226,7 @@ module _ (names : List NodeName) (apart : TellApart names) where
         visits-named (visits_of nat_eq e.bubbles vs)
         (both-at (map (visit_of nat_eq true) down) (map (visit_of nat_eq false) up) (along-at true down down_views)
         (along-at false up up_views)) (begun ls) h
-        ∙ ap (fold (visited name_eq e) (begun (map (listener_named names) ls)))
+        ∙ ap (fold (after_invoke name_eq e) (begun (map (listener_named names) ls)))
         (map-join (visit_named names) (map (visit_of nat_eq true) down) (map (visit_of nat_eq false) up)
         ∙ (λ j. (along-named true down down_views ∙ ap (map (visit_of name_eq true)) (reverse-mapped (view_named names) vs)) j ++
         (along-named false up up_views ∙ ap (map (visit_of name_eq false)) up_named) j))

@@ -6,8 +6,9 @@ use Rattle.std.proofs.lemmas.Bool.{cond-true, cond-false}
 use Rattle.dom_base.specs.declared.Action.{Action}
 use Rattle.dom_base.specs.declared.Action.TheVariants.{Log, Stop, StopNow, Cancel}
 use Rattle.dom_model.specs.Command.{EventWords}
-use Rattle.dom_model.specs.Listeners.{Listener, Visit, Dispatching, after_action, may_cancel, line_of, is_listener, unlistened, kept_after, called}
-use Rattle.dom_model.specs.Listeners.{hears, visited}
+use Rattle.dom_model.specs.Listeners.{Listener, Visit, Dispatching, after_action, may_cancel, line_of, is_listener, with_listener_removed, kept_after}
+use Rattle.dom_model.specs.Listeners.{after_inner_invoke}
+use Rattle.dom_model.specs.Listeners.{hears, after_invoke}
 use Rattle.dom_worlds.proofs.ListLemmas.{by_cases, filter-filter}
 
 module _ {X : Type 0} where
@@ -42,13 +43,14 @@ module _ {N : Type 0} (same : N → N → Bool) (e : EventWords) where
     kept-narrow : (l : Listener N) (ls : List (Listener N)) → filter c (kept_after same l ls) ≡ kept_after same l (filter c ls)
     kept-narrow l ls = by l.words.once
       where
-        by : (b : Bool) → filter c (if b then unlistened same l.node l.words.event l.words.label l.words.capture ls else ls)
-            ≡ (if b then unlistened same l.node l.words.event l.words.label l.words.capture (filter c ls) else filter c ls)
+        by : (b : Bool) → filter c (if b then with_listener_removed same l.node l.words.event l.words.label l.words.capture ls else ls)
+            ≡ (if b then with_listener_removed same l.node l.words.event l.words.label l.words.capture (filter c ls) else filter c ls)
         by true = filter-filter c (λ m. not (is_listener same l.node l.words.event l.words.label l.words.capture m)) ls
         by false = refl
 
     -- one call
-    called-narrow : (v : Visit N) (s : Dispatching N) (l : Listener N) → narrowed c (called same e v s l) ≡ called same e v (narrowed c s) l
+    called-narrow : (v : Visit N) (s : Dispatching N) (l : Listener N) → narrowed c (after_inner_invoke same e v s l) ≡ after_inner_invoke same e v
+        (narrowed c s) l
     called-narrow v s l = by s.stopped_now
       where
         by : (b : Bool) → narrowed c (if b then s else after_action l.words.action (may_cancel e l.words)
@@ -64,21 +66,22 @@ module _ {N : Type 0} (same : N → N → Bool) (e : EventWords) where
 
     -- the calls of some listeners
     calls-narrow : (v : Visit N) (heard : List (Listener N)) (s : Dispatching N) →
-        narrowed c (fold (called same e v) s heard) ≡ fold (called same e v) (narrowed c s) heard
+        narrowed c (fold (after_inner_invoke same e v) s heard) ≡ fold (after_inner_invoke same e v) (narrowed c s) heard
     calls-narrow v [] s = refl
-    calls-narrow v (l ∷ heard) s = calls-narrow v heard (called same e v s l) ∙ ap (λ d. fold (called same e v) d heard) (called-narrow v s l)
+    calls-narrow v (l ∷ heard) s = calls-narrow v heard (after_inner_invoke same e v s l) ∙ ap (λ d. fold (after_inner_invoke same e v) d heard)
+        (called-narrow v s l)
 
     -- a visit that only such listeners hear
     pub visited-narrow : (v : Visit N) → ((l : Listener N) → hears same e v l ≡ true → c l ≡ true) → (s : Dispatching N) →
-        narrowed c (visited same e s v) ≡ visited same e (narrowed c s) v
+        narrowed c (after_invoke same e s v) ≡ after_invoke same e (narrowed c s) v
     visited-narrow v wider s = by s.stopped
       where
-        by : (b : Bool) → narrowed c (if b then s else fold (called same e v) s (filter (hears same e v) s.listeners))
-            ≡ (if b then narrowed c s else fold (called same e v) (narrowed c s) (filter (hears same e v) (filter c s.listeners)))
+        by : (b : Bool) → narrowed c (if b then s else fold (after_inner_invoke same e v) s (filter (hears same e v) s.listeners))
+            ≡ (if b then narrowed c s else fold (after_inner_invoke same e v) (narrowed c s) (filter (hears same e v) (filter c s.listeners)))
         by true = refl
         by false =
             calls-narrow v (filter (hears same e v) s.listeners) s
-            ∙ ap (fold (called same e v) (narrowed c s)) (sym (filter-wider (hears same e v) c wider s.listeners))
+            ∙ ap (fold (after_inner_invoke same e v) (narrowed c s)) (sym (filter-wider (hears same e v) c wider s.listeners))
 
   -- ---- the other listeners
 
@@ -89,7 +92,7 @@ module _ {N : Type 0} (same : N → N → Bool) (e : EventWords) where
     kept-apart : (l : Listener N) → hears same e v l ≡ true → (ls : List (Listener N)) → filter c (kept_after same l ls) ≡ filter c ls
     kept-apart l h ls = by l.words.once
       where
-        by : (b : Bool) → filter c (if b then unlistened same l.node l.words.event l.words.label l.words.capture ls else ls) ≡ filter c ls
+        by : (b : Bool) → filter c (if b then with_listener_removed same l.node l.words.event l.words.label l.words.capture ls else ls) ≡ filter c ls
         by true = filter-wider c (λ m. not (is_listener same l.node l.words.event l.words.label l.words.capture m)) (λ m k. ap not (apart l m h k)) ls
         by false = refl
 
@@ -101,7 +104,7 @@ module _ {N : Type 0} (same : N → N → Bool) (e : EventWords) where
     acted-apart Cancel cancels s = refl
 
     -- one call
-    called-apart : (s : Dispatching N) (l : Listener N) → hears same e v l ≡ true → filter c (called same e v s l).listeners ≡ filter c s.listeners
+    called-apart : (s : Dispatching N) (l : Listener N) → hears same e v l ≡ true → filter c (after_inner_invoke same e v s l).listeners ≡ filter c s.listeners
     called-apart s l h = by s.stopped_now
       where
         by : (b : Bool) → filter c (if b then s else after_action l.words.action (may_cancel e l.words)
@@ -112,9 +115,9 @@ module _ {N : Type 0} (same : N → N → Bool) (e : EventWords) where
 
     -- the calls of listeners that hear
     calls-apart : (heard : List (Listener N)) → AllByRecursion (λ l. hears same e v l ≡ true) heard → (s : Dispatching N) →
-        filter c (fold (called same e v) s heard).listeners ≡ filter c s.listeners
+        filter c (fold (after_inner_invoke same e v) s heard).listeners ≡ filter c s.listeners
     calls-apart [] h s = refl
-    calls-apart (l ∷ heard) h s = calls-apart heard h.1 (called same e v s l) ∙ called-apart s l h.0
+    calls-apart (l ∷ heard) h s = calls-apart heard h.1 (after_inner_invoke same e v s l) ∙ called-apart s l h.0
 
     -- those that are kept pass
     passing : (ls : List (Listener N)) → AllByRecursion (λ l. hears same e v l ≡ true) (filter (hears same e v) ls)
@@ -127,9 +130,10 @@ module _ {N : Type 0} (same : N → N → Bool) (e : EventWords) where
         by false h rest = rest
 
     -- the visit
-    pub visited-apart : (s : Dispatching N) → filter c (visited same e s v).listeners ≡ filter c s.listeners
+    pub visited-apart : (s : Dispatching N) → filter c (after_invoke same e s v).listeners ≡ filter c s.listeners
     visited-apart s = by s.stopped
       where
-        by : (b : Bool) → filter c (if b then s else fold (called same e v) s (filter (hears same e v) s.listeners)).listeners ≡ filter c s.listeners
+        by : (b : Bool) → filter c (if b then s else fold (after_inner_invoke same e v) s (filter (hears same e v) s.listeners)).listeners
+            ≡ filter c s.listeners
         by true = refl
         by false = calls-apart (filter (hears same e v) s.listeners) (passing s.listeners) s

@@ -8,8 +8,9 @@ use Rattle.dom_base.specs.declared.Action.TheVariants.{Log, Stop, StopNow, Cance
 use Rattle.dom_base.specs.declared.NodeName.{NodeName}
 use Rattle.dom_model.specs.Command.{EventWords}
 use Rattle.dom_model.specs.Dispatch.{visits_of}
-use Rattle.dom_model.specs.Listeners.{Listener, Visit, Dispatching, after_action, may_cancel, line_of, is_listener, unlistened, kept_after, called, hears}
-use Rattle.dom_model.specs.Listeners.{visited, begun}
+use Rattle.dom_model.specs.Listeners.{Listener, Visit, Dispatching, after_action, may_cancel, line_of, is_listener, with_listener_removed, kept_after}
+use Rattle.dom_model.specs.Listeners.{after_inner_invoke, hears}
+use Rattle.dom_model.specs.Listeners.{after_invoke, begun}
 use Rattle.dom_dispatch.specs.ListenersByName.{IsListenerAt}
 use Rattle.dom_dispatch.specs.Staying.{AreAtNodes, NoneStay, MoreStay, ListenedStay, UnlistenedStay, DispatchedStay}
 
@@ -38,13 +39,14 @@ module _ (names : List NodeName) where
   kept-at : (l : Listener ℕ) (ls : List (Listener ℕ)) → AreAtNodes names ls → AreAtNodes names (kept_after nat_eq l ls)
   kept-at l ls h = by l.words.once
     where
-      by : (b : Bool) → AreAtNodes names (if b then unlistened nat_eq l.node l.words.event l.words.label l.words.capture ls else ls)
+      by : (b : Bool) → AreAtNodes names (if b then with_listener_removed nat_eq l.node l.words.event l.words.label l.words.capture ls else ls)
       by true = all-kept (IsListenerAt names) (λ m. not (is_listener nat_eq l.node l.words.event l.words.label l.words.capture m)) ls h
       by false = h
 
   module _ (e : EventWords) where
     -- so are they after one call,
-    pub called-at : (v : Visit ℕ) (s : Dispatching ℕ) (l : Listener ℕ) → AreAtNodes names s.listeners → AreAtNodes names (called nat_eq e v s l).listeners
+    pub called-at : (v : Visit ℕ) (s : Dispatching ℕ) (l : Listener ℕ) → AreAtNodes names s.listeners → AreAtNodes names
+        (after_inner_invoke nat_eq e v s l).listeners
     called-at v s l h = by s.stopped_now
       where
         by : (b : Bool) → AreAtNodes names (if b then s else after_action l.words.action (may_cancel e l.words) (heard_by v s l)).listeners
@@ -53,22 +55,22 @@ module _ (names : List NodeName) where
 
     -- after some,
     calls-at : (v : Visit ℕ) (heard : List (Listener ℕ)) (s : Dispatching ℕ) → AreAtNodes names s.listeners →
-        AreAtNodes names (fold (called nat_eq e v) s heard).listeners
+        AreAtNodes names (fold (after_inner_invoke nat_eq e v) s heard).listeners
     calls-at v [] s h = h
-    calls-at v (l ∷ heard) s h = calls-at v heard (called nat_eq e v s l) (called-at v s l h)
+    calls-at v (l ∷ heard) s h = calls-at v heard (after_inner_invoke nat_eq e v s l) (called-at v s l h)
 
     -- after one visit,
-    pub visited-at : (v : Visit ℕ) (s : Dispatching ℕ) → AreAtNodes names s.listeners → AreAtNodes names (visited nat_eq e s v).listeners
+    pub visited-at : (v : Visit ℕ) (s : Dispatching ℕ) → AreAtNodes names s.listeners → AreAtNodes names (after_invoke nat_eq e s v).listeners
     visited-at v s h = by s.stopped
       where
-        by : (b : Bool) → AreAtNodes names (if b then s else fold (called nat_eq e v) s (filter (hears nat_eq e v) s.listeners)).listeners
+        by : (b : Bool) → AreAtNodes names (if b then s else fold (after_inner_invoke nat_eq e v) s (filter (hears nat_eq e v) s.listeners)).listeners
         by true = h
         by false = calls-at v (filter (hears nat_eq e v) s.listeners) s h
 
     -- and after all
-    visits-at : (vs : List (Visit ℕ)) (s : Dispatching ℕ) → AreAtNodes names s.listeners → AreAtNodes names (fold (visited nat_eq e) s vs).listeners
+    visits-at : (vs : List (Visit ℕ)) (s : Dispatching ℕ) → AreAtNodes names s.listeners → AreAtNodes names (fold (after_invoke nat_eq e) s vs).listeners
     visits-at [] s h = h
-    visits-at (v ∷ vs) s h = visits-at vs (visited nat_eq e s v) (visited-at v s h)
+    visits-at (v ∷ vs) s h = visits-at vs (after_invoke nat_eq e s v) (visited-at v s h)
 
 -- ---- the calls
 

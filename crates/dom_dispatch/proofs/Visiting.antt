@@ -11,7 +11,7 @@ use Rattle.std.proofs.lemmas.Option.{slice_get-map, slice_get-get_or, slice_get_
 use Rattle.dom_base.specs.declared.NodeName.{NodeName}
 use Rattle.dom_model.specs.Command.{EventWords}
 use Rattle.dom_model.specs.Dispatch.{event_output, visit_of}
-use Rattle.dom_model.specs.Listeners.{Dispatching, Listener, Visit, hears, called, visited, begun}
+use Rattle.dom_model.specs.Listeners.{Dispatching, Listener, Visit, hears, after_inner_invoke, after_invoke, begun}
 use Rattle.dom_model.specs.Names.{text_eq}
 use Rattle.dom_model.specs.Output.{EventLine}
 use Rattle.dom_model.specs.Paths.{View}
@@ -74,12 +74,12 @@ module _ {D V W : Type 0} (step : D → W → D) (g : V → W) where
 module _ (e : EventWords) (capturing : Bool) where
   pub visited-calls : (d : Dispatching ℕ) (heard : List (Listener ℕ)) {v view : View ℕ} → d.stopped ≡ false →
       heard ≡ filter (hears nat_eq e (visit_of nat_eq capturing v)) d.listeners → Some v ≡ Some view →
-      fold (called nat_eq e (visit_of nat_eq capturing v)) d heard ≡ visited nat_eq e d (visit_of nat_eq capturing view)
+      fold (after_inner_invoke nat_eq e (visit_of nat_eq capturing v)) d heard ≡ after_invoke nat_eq e d (visit_of nat_eq capturing view)
   visited-calls d heard {v} {view} running is same =
-      let call = fold (called nat_eq e (visit_of nat_eq capturing v)) d in
+      let call = fold (after_inner_invoke nat_eq e (visit_of nat_eq capturing v)) d in
       let one : v ≡ view = cc in
       ap call is ∙ sym (cond-false d.stopped d (call (filter (hears nat_eq e (visit_of nat_eq capturing v)) d.listeners)) running) ∙
-      ap (λ u. visited nat_eq e d (visit_of nat_eq capturing u)) one
+      ap (λ u. after_invoke nat_eq e d (visit_of nat_eq capturing u)) one
 
 -- where nobody listens for its type a dispatch ends as it begins
 module _ (e : EventWords) where
@@ -94,9 +94,10 @@ module _ (e : EventWords) where
       deaf false b d none = refl
 
   pub silent : (ls : List (Listener ℕ)) → AllByRecursion (λ l. text_eq l.words.event e.event ≡ false) ls → (vs : List (Visit ℕ)) →
-      fold (visited nat_eq e) (begun ls) vs ≡ begun ls
+      fold (after_invoke nat_eq e) (begun ls) vs ≡ begun ls
   silent ls all [] = refl
-  silent ls all (v ∷ vs) = ap (λ d. fold (visited nat_eq e) d vs) (ap (fold (called nat_eq e v) (begun ls)) (unheard ls all v)) ∙ silent ls all vs
+  silent ls all (v ∷ vs) = ap (λ d. fold (after_invoke nat_eq e) d vs) (ap (fold (after_inner_invoke nat_eq e v) (begun ls)) (unheard ls all v))
+      ∙ silent ls all vs
 
 -- an item that is there
 there : {X : Type 0} (xs : List X) (i : ℕ) → i < length xs → (x : X) × (slice_get xs i ≡ Some x)

@@ -5,7 +5,7 @@ use Rattle.dom_base.specs.declared.Owner.{Owner}
 use Rattle.dom_base.specs.declared.NodeName.{NodeName}
 use Rattle.dom_model.specs.Names.{owner_eq, name_eq}
 use Rattle.dom_model.specs.Command.{EventWords}
-use Rattle.dom_model.specs.Listeners.{Listener, Dispatching, visited, begun}
+use Rattle.dom_model.specs.Listeners.{Listener, Dispatching, after_invoke, begun}
 use Rattle.dom_model.specs.Dispatch.{dispatch_in, event_output, visits_of}
 use Rattle.dom_model.specs.Paths.{View, views}
 use Rattle.dom_model.specs.World.{World, part_of}
@@ -23,7 +23,7 @@ HasListeners w ls = (o : Owner) → (part_of w o).listeners ≡ filter (is_of_ow
 
 -- a dispatch with one list of all owners' listeners (DOM Standard, concept: dispatch)
 abbrev pub dispatch_among : World → List (Listener NodeName) → NodeName → Option NodeName → EventWords → Dispatching NodeName
-dispatch_among w ls target related e = fold (visited name_eq e) (begun ls) (visits_of name_eq e.bubbles (views w target related e.composed))
+dispatch_among w ls target related e = fold (after_invoke name_eq e) (begun ls) (visits_of name_eq e.bubbles (views w target related e.composed))
 
 -- Such a dispatch has the lines and the answer of the dispatch in the world, and leaves each owner the listeners that the
 -- latter leaves it; and of a part nothing else changes (DOM Standard, concept: dispatch).
@@ -37,7 +37,7 @@ DispatchedAmong =
 
 -- a dispatch by keys along the views of a path, with one list of all owners' listeners
 abbrev pub dispatch_along : List (Listener ℕ) → EventWords → List (View ℕ) → Dispatching ℕ
-dispatch_along ls e vs = fold (visited nat_eq e) (begun ls) (visits_of nat_eq e.bubbles vs)
+dispatch_along ls e vs = fold (after_invoke nat_eq e) (begun ls) (visits_of nat_eq e.bubbles vs)
 
 -- So a dispatch by keys, along what a path shows in a world, has by names the lines and the answer of the dispatch in that world, and
 -- leaves each owner its listeners (DOM Standard, concept: dispatch).

@@ -5,7 +5,7 @@ use Rattle.dom_base.specs.declared.NodeName.{NodeName}
 use Rattle.dom_model.specs.Names.{Word, name_eq}
 use Rattle.dom_model.specs.Command.{EventWords, ListenerWords}
 use Rattle.dom_model.specs.Output.{EventLine}
-use Rattle.dom_model.specs.Listeners.{Listener, Visit, Dispatching, listened, unlistened, visited, begun}
+use Rattle.dom_model.specs.Listeners.{Listener, Visit, Dispatching, with_listener_added, with_listener_removed, after_invoke, begun}
 use Rattle.dom_model.specs.Paths.{View}
 use Rattle.dom_model.specs.Dispatch.{visits_of}
 use Rattle.dom_tree.specs.Forest.{name_at}
@@ -64,14 +64,14 @@ abbrev pub ListenedByNames : Type 0
 ListenedByNames =
     (names : List NodeName) → TellApart names → (ls : List (Listener ℕ)) → AllByRecursion (IsListenerAt names) ls → (x : ℕ) → x < length names →
     (words : ListenerWords) →
-    map (listener_named names) (listened nat_eq x words ls) ≡ listened name_eq (name_at names x) words (map (listener_named names) ls)
+    map (listener_named names) (with_listener_added nat_eq x words ls) ≡ with_listener_added name_eq (name_at names x) words (map (listener_named names) ls)
 
 -- a listener less
 abbrev pub UnlistenedByNames : Type 0
 UnlistenedByNames =
     (names : List NodeName) → TellApart names → (ls : List (Listener ℕ)) → AllByRecursion (IsListenerAt names) ls → (x : ℕ) → x < length names →
     (event label : Word) (capture : Bool) →
-    map (listener_named names) (unlistened nat_eq x event label capture ls) ≡ unlistened name_eq (name_at names x) event label capture
+    map (listener_named names) (with_listener_removed nat_eq x event label capture ls) ≡ with_listener_removed name_eq (name_at names x) event label capture
     (map (listener_named names) ls)
 
 -- a dispatch along a path, from the listeners that there are (DOM Standard, concept: dispatch)
@@ -79,5 +79,5 @@ abbrev pub DispatchedByNames : Type 0
 DispatchedByNames =
     (names : List NodeName) → TellApart names → (ls : List (Listener ℕ)) → AllByRecursion (IsListenerAt names) ls → (vs : List (View ℕ)) →
     AllByRecursion (IsViewOf names) vs → (e : EventWords) →
-    dispatching_named names (fold (visited nat_eq e) (begun ls) (visits_of nat_eq e.bubbles vs))
-    ≡ fold (visited name_eq e) (begun (map (listener_named names) ls)) (visits_of name_eq e.bubbles (map (view_named names) vs))
+    dispatching_named names (fold (after_invoke nat_eq e) (begun ls) (visits_of nat_eq e.bubbles vs))
+    ≡ fold (after_invoke name_eq e) (begun (map (listener_named names) ls)) (visits_of name_eq e.bubbles (map (view_named names) vs))

@@ -4,7 +4,7 @@ use Rattle.std.specs.List.{AllByRecursion}
 use Rattle.dom_base.specs.declared.NodeName.{NodeName}
 use Rattle.dom_model.specs.Names.{Word}
 use Rattle.dom_model.specs.Command.{EventWords, ListenerWords}
-use Rattle.dom_model.specs.Listeners.{Listener, listened, unlistened}
+use Rattle.dom_model.specs.Listeners.{Listener, with_listener_added, with_listener_removed}
 use Rattle.dom_tree.specs.Forest.{NamedTrees}
 use Rattle.dom_slots.specs.Hosts.{ShadowHost}
 use Rattle.dom_dispatch.specs.declared.event.Outcome.{Outcome}
@@ -26,13 +26,13 @@ MoreStay = (names more : List NodeName) (ls : List (Listener ℕ)) → AreAtNode
 -- a node is listened to
 abbrev pub ListenedStay : Type 0
 ListenedStay = (names : List NodeName) (ls : List (Listener ℕ)) → AreAtNodes names ls → (x : ℕ) → x < length names → (words : ListenerWords) →
-    AreAtNodes names (listened nat_eq x words ls)
+    AreAtNodes names (with_listener_added nat_eq x words ls)
 
 -- a listener goes
 abbrev pub UnlistenedStay : Type 0
 UnlistenedStay =
     (names : List NodeName) (ls : List (Listener ℕ)) → AreAtNodes names ls → (x : ℕ) (event label : Word) (capture : Bool) →
-    AreAtNodes names (unlistened nat_eq x event label capture ls)
+    AreAtNodes names (with_listener_removed nat_eq x event label capture ls)
 
 -- an event is dispatched
 abbrev pub DispatchedStay : Type 0

@@ -3,7 +3,7 @@ ghost use Rattle.std.specs.Prelude.{◌≡◌, ℕ, ◌<◌, ◌||◌, nat_eq, t
 ghost use Rattle.std.specs.List.{AllByRecursion};
 ghost use Rattle.std.specs.Option.{ForSome};
 ghost use Rattle.dom_model.specs.Dispatch.{visit_of, is_at_target};
-ghost use Rattle.dom_model.specs.Listeners.{called, visited};
+ghost use Rattle.dom_model.specs.Listeners.{after_inner_invoke, after_invoke};
 ghost use Rattle.dom_model.specs.Paths.{View};
 ghost use Rattle.dom_slots.specs.Kept.{AreSlotsOf};
 ghost use Rattle.dom_path.specs.Items.{HasNodes};
@@ -73,7 +73,7 @@ impl Listeners {
         requires nodes { AllByRecursion (HasNodes forest.now.names) path.now.items }
         requires shown { IsShownOf path.now handed.old.shown }
         requires owners { AllByRecursion (IsOwnLine forest.now.names) so_far.old.lines.items }
-        ensures visits { OnOk result (dispatching_in self.new so_far.new ≡ fold (visited nat_eq (event_words event.now))
+        ensures visits { OnOk result (dispatching_in self.new so_far.new ≡ fold (after_invoke nat_eq (event_words event.now))
             (dispatching_in self.old so_far.old) (map (visit_of nat_eq true) (reverse path.now.views))) }
         ensures shown { OnOk result (IsShownOf path.now handed.new.shown) }
         ensures owners { OnOk result (AllByRecursion (IsOwnLine forest.now.names) so_far.new.lines.items) }
@@ -99,7 +99,7 @@ impl Listeners {
         requires nodes { AllByRecursion (HasNodes forest.now.names) path.now.items }
         requires shown { IsShownOf path.now handed.old.shown }
         requires owners { AllByRecursion (IsOwnLine forest.now.names) so_far.old.lines.items }
-        ensures visits { OnOk result (dispatching_in self.new so_far.new ≡ fold (visited nat_eq (event_words event.now))
+        ensures visits { OnOk result (dispatching_in self.new so_far.new ≡ fold (after_invoke nat_eq (event_words event.now))
             (dispatching_in self.old so_far.old)
             (map (visit_of nat_eq false) (filter (λ v. event.now.bubbles || is_at_target nat_eq v) path.now.views))) }
         ensures shown { OnOk result (IsShownOf path.now handed.new.shown) }
@@ -131,7 +131,7 @@ impl Listeners {
         requires shown { IsShownOf path.now handed.old.shown }
         requires owners { AllByRecursion (IsOwnLine forest.now.names) so_far.old.lines.items }
         ensures visit { OnOk result ((view : View ℕ) → slice_get path.now.views at ≡ Some view →
-            dispatching_in self.new so_far.new ≡ visited nat_eq (event_words event.now) (dispatching_in self.old so_far.old)
+            dispatching_in self.new so_far.new ≡ after_invoke nat_eq (event_words event.now) (dispatching_in self.old so_far.old)
             (visit_of nat_eq capturing view)) }
         ensures shown { OnOk result (IsShownOf path.now handed.new.shown) }
         ensures owners { OnOk result (AllByRecursion (IsOwnLine forest.now.names) so_far.new.lines.items) }
@@ -180,7 +180,7 @@ impl Listeners {
         heard: &mut VecDeque<Entry>,
         so_far: &mut Progress,
     ) -> Result<(), AllocError>
-        ensures calls { OnOk result (dispatching_in self.new so_far.new ≡ fold (called nat_eq (event_words event.now) (visit_in visit.now))
+        ensures calls { OnOk result (dispatching_in self.new so_far.new ≡ fold (after_inner_invoke nat_eq (event_words event.now) (visit_in visit.now))
             (dispatching_in self.old so_far.old) (listeners_in heard.old.items)) }
         ensures owners { OnOk result (KeepsOwners visit.now so_far.old so_far.new) }
     {
@@ -199,7 +199,7 @@ impl Listeners {
         listener: Entry,
         so_far: &mut Progress,
     ) -> Result<(), AllocError>
-        ensures call { OnOk result (dispatching_in self.new so_far.new ≡ called nat_eq (event_words event.now) (visit_in visit.now)
+        ensures call { OnOk result (dispatching_in self.new so_far.new ≡ after_inner_invoke nat_eq (event_words event.now) (visit_in visit.now)
             (dispatching_in self.old so_far.old) (listener_of listener)) }
         ensures owners { OnOk result (KeepsOwners visit.now so_far.old so_far.new) }
     {

@@ -1,6 +1,6 @@
 //! The listeners of all nodes.
 ghost use Rattle.std.specs.Prelude.{◌≡◌, ℕ, List, nat_eq, true, false, [], string_bytes, IfOk, OnOk, OnErr};
-ghost use Rattle.dom_model.specs.Listeners.{is_listener, listened, unlistened};
+ghost use Rattle.dom_model.specs.Listeners.{is_listener, with_listener_added, with_listener_removed};
 ghost use Rattle.std.specs.HashSet.{contains_text};
 ghost use Rattle.std.specs.List.{list_any, AllByRecursion};
 ghost use Rattle.dom_model.specs.Names.{text_eq};
@@ -103,7 +103,7 @@ impl Listeners {
     /// Adds a listener to a node, behind the others, unless it has one with the same type, label and capture (DOM Standard,
     /// concept: add an event listener). Where memory is refused, all is as it was.
     pub fn listen(&mut self, node: Key, words: ListenerInit) -> Result<(), AllocError>
-        ensures ok { OnOk result (self.new ≡ listened nat_eq node (words_of words) self.old) }
+        ensures ok { OnOk result (self.new ≡ with_listener_added nat_eq node (words_of words) self.old) }
         ensures err { OnErr result (self.new ≡ self.old) }
     {
         if self.has(node, &words) {
@@ -137,7 +137,7 @@ impl Listeners {
     /// Takes the listener of a node with this type, label and capture away, if there is one (DOM Standard, concept: remove
     /// an event listener).
     pub fn unlisten(&mut self, node: Key, event: &str, label: &str, capture: bool)
-        ensures { self.new ≡ unlistened nat_eq node event.now label.now capture self.old }
+        ensures { self.new ≡ with_listener_removed nat_eq node event.now label.now capture self.old }
     {
         while let Some(at) = self.table.find(node, event, label, capture) {
             self.table.take(node, at);

@@ -33,7 +33,8 @@ use Rattle.dom_base.specs.declared.Action.{Action}
 use Rattle.dom_base.specs.declared.Action.TheVariants.{Log, Stop, StopNow, Cancel}
 use Rattle.dom_model.specs.Names.{Word, text_eq, owner_eq, name_eq}
 use Rattle.dom_model.specs.Output.{EventLine}
-use Rattle.dom_model.specs.Listeners.{Listener, Visit, visited, called, hears, is_listener, kept_after, after_action, may_cancel, line_of, begun}
+use Rattle.dom_model.specs.Listeners.{Listener, Visit, after_invoke, after_inner_invoke, hears, is_listener, kept_after, after_action, may_cancel, line_of}
+use Rattle.dom_model.specs.Listeners.{begun}
 use Rattle.dom_model.specs.Part.{Part}
 use Rattle.dom_model.specs.Paths.{views}
 use Rattle.dom_model.specs.Dispatch.{world_visit, visits_of}
@@ -55,16 +56,16 @@ unfolding call
 flags-call e v d l log = rw log (λ ls os. refl)
 
 -- made or not
-flags-called : (e : EventWords) (v : Visit NodeName) (d : Going) (l : Listener NodeName) → OnlyLogs l → HasSameFlags (called name_eq e v d l) d
+flags-called : (e : EventWords) (v : Visit NodeName) (d : Going) (l : Listener NodeName) → OnlyLogs l → HasSameFlags (after_inner_invoke name_eq e v d l) d
 flags-called e v d l log =
     by_cases d.stopped_now (λ s. subst (λ c. HasSameFlags c d) (sym (no_call e v d l s)) (λ ls os. refl))
     (λ s. subst (λ c. HasSameFlags c d) (sym (call-of e v d l s)) (flags-call e v d l log))
 
 -- calls of all that hear
 flags-calls : (e : EventWords) (v : Visit NodeName) (ls : List (Listener NodeName)) (d : Going) → AllByRecursion OnlyLogs ls →
-    HasSameFlags (fold (called name_eq e v) d ls) d
+    HasSameFlags (fold (after_inner_invoke name_eq e v) d ls) d
 flags-calls e v [] d logs = λ ks os. refl
-flags-calls e v (l ∷ ls) d logs = λ ks os. flags-calls e v ls (called name_eq e v d l) logs.1 ks os ∙ flags-called e v d l logs.0 ks os
+flags-calls e v (l ∷ ls) d logs = λ ks os. flags-calls e v ls (after_inner_invoke name_eq e v d l) logs.1 ks os ∙ flags-called e v d l logs.0 ks os
 
 -- those that hear are listeners for the event
 hearing-logs : (e : EventWords) (v : Visit NodeName) (ls : List (Listener NodeName)) → AllByRecursion (LogsEvent e.event) ls →
@@ -81,11 +82,11 @@ hearing-logs e v (l ∷ ls) h =
 
 -- a visit
 pub flags-visited : (e : EventWords) (v : Visit NodeName) (d : Going) → AllByRecursion (LogsEvent e.event) d.listeners →
-    HasSameFlags (visited name_eq e d v) d
+    HasSameFlags (after_invoke name_eq e d v) d
 flags-visited e v d h =
     let hearing = filter (hears name_eq e v) d.listeners in
-    by_cases d.stopped (λ s. subst (λ c. HasSameFlags c d) (sym (cond-true d.stopped d (fold (called name_eq e v) d hearing) s)) (λ ls os. refl))
-    (λ s. subst (λ c. HasSameFlags c d) (sym (cond-false d.stopped d (fold (called name_eq e v) d hearing) s))
+    by_cases d.stopped (λ s. subst (λ c. HasSameFlags c d) (sym (cond-true d.stopped d (fold (after_inner_invoke name_eq e v) d hearing) s)) (λ ls os. refl))
+    (λ s. subst (λ c. HasSameFlags c d) (sym (cond-false d.stopped d (fold (after_inner_invoke name_eq e v) d hearing) s))
     (flags-calls e v hearing d (hearing-logs e v d.listeners h)))
 
 -- Listeners only go.
@@ -108,7 +109,7 @@ module _ (P : Listener NodeName → Type 0) where
       from Cancel k = k
 
   -- behind a visit
-  all-visited : (e : EventWords) (v : Visit NodeName) (d : Going) → AllByRecursion P d.listeners → AllByRecursion P (visited name_eq e d v).listeners
+  all-visited : (e : EventWords) (v : Visit NodeName) (d : Going) → AllByRecursion P d.listeners → AllByRecursion P (after_invoke name_eq e d v).listeners
   all-visited e v d h = kept-visited (λ c. AllByRecursion P c.listeners) e v (all-call e v) d h
 
 module _ (g : Owner → Bool) where
@@ -116,7 +117,7 @@ module _ (g : Owner → Bool) where
   logs-visit : (event : Word) (e : EventWords) (s : InWorld) (v : Visit NodeName) → OthersOnlyLog g event s.0 → OthersOnlyLog g event (world_visit e s v).0
   logs-visit event e s v logs o out =
       let p = part_of s.0 v.current.owner in
-      let heard = visited name_eq e (record s.1 { listeners = p.listeners }) v in
+      let heard = after_invoke name_eq e (record s.1 { listeners = p.listeners }) v in
       let AllLog : Part → Type 0 = λ q. AllByRecursion (LogsEvent event) q.listeners in
       by_cases (owner_eq v.current.owner o)
       (λ h. let same = owner_eq-true v.current.owner o h in

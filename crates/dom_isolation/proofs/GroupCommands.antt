@@ -23,7 +23,7 @@ use Rattle.dom_model.specs.CommandNames.{named}
 use Rattle.dom_model.specs.Effects.{Effect, tables, changes}
 use Rattle.dom_model.specs.World.{World, micro_task, part_of, with_part, is_there, kind_at, is_connected, component_made, shadow_including_ancestors}
 use Rattle.dom_model.specs.WorldSteps.{world_after}
-use Rattle.dom_model.specs.Slots.{assigned}
+use Rattle.dom_model.specs.Slots.{assigned_nodes}
 use Rattle.dom_model.specs.Turns.{is_page_turn, has_other_turn, ending_other_turn, opening_turn}
 use Rattle.dom_model.specs.DocumentMachine.{refusal, effect_in, attaching, part_with_root, perform, accepted, step}
 use Rattle.dom_model.specs.Groups.{KeepsMakers, group_world, group_outputs, group_run, is_task_of, group_turn, outward_words}
@@ -146,11 +146,11 @@ module _ (g : Owner → Bool) (closed : KeepsMakers g) where
     assigned-alike a =
         let x = named (part_of w o) a in
         let mine = named-inside a in
-        answered o (a_list (assigned w x)) w v s.same
+        answered o (a_list (assigned_nodes w x)) w v s.same
         ∙ ap (λ b. group_run g (answering o (a_list b) v))
-        (sym (assigned-in g closed w (ground-of w s.first.world) x mine) ∙ ap (λ u. assigned u x) s.same
+        (sym (assigned-in g closed w (ground-of w s.first.world) x mine) ∙ ap (λ u. assigned_nodes u x) s.same
         ∙ assigned-in g closed v (ground-of v s.second.world) x mine)
-        ∙ ap (λ r. group_run g (answering o (a_list (assigned v (named r a))) v)) (same-part g closed w v s.same o h)
+        ∙ ap (λ r. group_run g (answering o (a_list (assigned_nodes v (named r a))) v)) (same-part g closed w v s.same o h)
 
     -- a microtask
     pub micro-alike : (a : Word) → group_run g (perform w o (Command.micro a)) ≡ group_run g (perform v o (Command.micro a))

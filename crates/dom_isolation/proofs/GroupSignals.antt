@@ -11,7 +11,7 @@ use Rattle.dom_model.specs.Tree.{Node, nodes, names_of, node_in, root_of, subtre
 use Rattle.dom_model.specs.Part.{Part}
 use Rattle.dom_model.specs.World.{World, part_of, trees_with, node_at, root_at, component_at, component_made, shadow_root_of, is_in_shadow_tree}
 use Rattle.dom_model.specs.World.{components_below}
-use Rattle.dom_model.specs.Slots.{assigned, is_changed, slot_of, slots_among, is_slot_element, is_bare_slot, own_slots, other_slots, signals}
+use Rattle.dom_model.specs.Slots.{assigned_nodes, assigned_nodes_changed, slot_of, slots_among, is_slot_element, is_bare_slot, own_slots, other_slots, signals}
 use Rattle.dom_model.specs.Groups.{KeepsMakers, group_world}
 use Rattle.dom_model.proofs.OwnerLaws.{name_eq-true}
 use Rattle.dom_worlds.specs.Worlds.{IsOf}
@@ -49,10 +49,10 @@ module _ {X : Type 0} where
 module _ (g : Owner → Bool) (closed : KeepsMakers g) where
   -- whether the assigned nodes of a slot changed is the same
   changed-in : (was now : World) → IsGround was → IsGround now → (s : NodeName) → in_node g s ≡ true →
-      is_changed (group_world g was) (group_world g now) s ≡ is_changed was now s
+      assigned_nodes_changed (group_world g was) (group_world g now) s ≡ assigned_nodes_changed was now s
   changed-in was now i j s h =
-      ap (λ xs. not (list_eq name_eq xs (assigned (group_world g now) s))) (assigned-in g closed was i s h)
-      ∙ ap (λ xs. not (list_eq name_eq (assigned was s) xs)) (assigned-in g closed now j s h)
+      ap (λ xs. not (list_eq name_eq xs (assigned_nodes (group_world g now) s))) (assigned-in g closed was i s h)
+      ∙ ap (λ xs. not (list_eq name_eq (assigned_nodes was s) xs)) (assigned-in g closed now j s h)
 
   -- the slots of a node, before and after
   own_slots-group : (was now : World) → IsGround was → IsGround now → (x : NodeName) →
@@ -105,9 +105,9 @@ module _ (g : Owner → Bool) (closed : KeepsMakers g) where
       inside : in_node g around ≡ true → bare_slots true v around ≡ filter (in_node g) (bare_slots true w around)
       inside h =
           ap (λ (p : Part). if is_slot_element (node_in p.trees around) && (is_in_shadow_tree v around && is_empty
-          (assigned v around)) then around ∷ [] else [])
+          (assigned_nodes v around)) then around ∷ [] else [])
           (part-in g w around.owner h)
-          ∙ ap (λ o. if is_slot_element (node_at w around) && (is_some o && is_empty (assigned v around)) then around ∷ [] else [])
+          ∙ ap (λ o. if is_slot_element (node_at w around) && (is_some o && is_empty (assigned_nodes v around)) then around ∷ [] else [])
           (host_above-in g closed w i around h)
           ∙ ap (λ xs. if is_slot_element (node_at w around) && (is_in_shadow_tree w around && is_empty xs) then around ∷ [] else [])
           (assigned-in g closed w i around h)
@@ -120,7 +120,7 @@ module _ (g : Owner → Bool) (closed : KeepsMakers g) where
       outside : in_node g around ≡ false → bare_slots true v around ≡ filter (in_node g) (bare_slots true w around)
       outside h =
           ap (λ (p : Part). if is_slot_element (node_in p.trees around) && (is_in_shadow_tree v around && is_empty
-          (assigned v around)) then around ∷ [] else [])
+          (assigned_nodes v around)) then around ∷ [] else [])
           (part-out g w around.owner h)
           ∙ dropped (is_bare_slot w around)
         where
@@ -135,17 +135,18 @@ module _ (g : Owner → Bool) (closed : KeepsMakers g) where
       let here = in_node g in
       let was' = group_world g was in
       let now' = group_world g now in
-      let own = filter (is_changed was now) (own_slots was now x) in
+      let own = filter (assigned_nodes_changed was now) (own_slots was now x) in
       let bare = bare_slots is_move now around in
-      let other = filter (is_changed was now) (other_slots now x around) in
-      let own-is : filter (is_changed was' now') (own_slots was' now' x) ≡ filter here own =
-      ap (filter (is_changed was' now')) (own_slots-group was now i j x)
-      ∙ filter-as here (is_changed was' now') (is_changed was now) (changed-in was now i j) (own_slots was now x) in
-      let other-is : filter (is_changed was' now') (other_slots now' x around) ≡ filter here other =
-      ap (filter (is_changed was' now')) (other_slots-group now j x around)
-      ∙ filter-as here (is_changed was' now') (is_changed was now) (changed-in was now i j) (other_slots now x around) in
-      ap (λ xs. distinct name_eq (xs ++ bare_slots is_move now' around ++ filter (is_changed was' now') (other_slots now' x around))) own-is
-      ∙ ap (λ xs. distinct name_eq (filter here own ++ xs ++ filter (is_changed was' now') (other_slots now' x around))) (bare-group is_move now j around)
+      let other = filter (assigned_nodes_changed was now) (other_slots now x around) in
+      let own-is : filter (assigned_nodes_changed was' now') (own_slots was' now' x) ≡ filter here own =
+      ap (filter (assigned_nodes_changed was' now')) (own_slots-group was now i j x)
+      ∙ filter-as here (assigned_nodes_changed was' now') (assigned_nodes_changed was now) (changed-in was now i j) (own_slots was now x) in
+      let other-is : filter (assigned_nodes_changed was' now') (other_slots now' x around) ≡ filter here other =
+      ap (filter (assigned_nodes_changed was' now')) (other_slots-group now j x around)
+      ∙ filter-as here (assigned_nodes_changed was' now') (assigned_nodes_changed was now) (changed-in was now i j) (other_slots now x around) in
+      ap (λ xs. distinct name_eq (xs ++ bare_slots is_move now' around ++ filter (assigned_nodes_changed was' now') (other_slots now' x around))) own-is
+      ∙ ap (λ xs. distinct name_eq (filter here own ++ xs ++ filter (assigned_nodes_changed was' now') (other_slots now' x around)))
+      (bare-group is_move now j around)
       ∙ ap (λ xs. distinct name_eq (filter here own ++ filter here bare ++ xs)) other-is
       ∙ ap (λ xs. distinct name_eq (xs ++ filter here other)) (sym (filter-append here own bare))
       ∙ ap (distinct name_eq) (sym (filter-append here (own ++ bare) other))

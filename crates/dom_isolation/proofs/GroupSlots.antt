@@ -13,7 +13,7 @@ use Rattle.dom_model.specs.Tree.{none, Node, nodes, node_in, parent_of, root_of,
 use Rattle.dom_model.specs.Part.{Part, empty_part}
 use Rattle.dom_model.specs.World.{World, part_of, trees_with, node_at, root_at, parent_at, component_at, component_made, made_by, host_of, MayAttach}
 use Rattle.dom_model.specs.World.{host_above, some_if, shadow_root_of, shadow_tree, Task, find_part, put_part, with_part, is_there}
-use Rattle.dom_model.specs.Slots.{slot_of, slot_in, slottable_name, has_slot_name, assigned, assigned_below, is_assigned_to}
+use Rattle.dom_model.specs.Slots.{slot_of, slot_in, slottable_name, has_slot_name, assigned_nodes, slottables_of, is_assigned_to}
 use Rattle.dom_model.specs.Groups.{KeepsMakers, group_world, group_turn, group_outputs, is_task_of}
 use Rattle.dom_model.proofs.OwnerLaws.{made_by-is, name_eq-true, owner_eq-true}
 use Rattle.dom_worlds.specs.Worlds.{IsPart, IsWorld, IsOf, HasMakers}
@@ -379,9 +379,9 @@ module _ (g : Owner → Bool) (closed : KeepsMakers g) where
   is_in-kept s xs h = any-kept (name_eq s) (in_node g) (λ x e. ap (in_node g) (sym (name_eq-true s x e)) ∙ h) xs
 
   -- What is assigned to a slot of the group is the same.
-  pub assigned-in : (w : World) → IsGround w → (s : NodeName) → in_node g s ≡ true → assigned (group_world g w) s ≡ assigned w s
+  pub assigned-in : (w : World) → IsGround w → (s : NodeName) → in_node g s ≡ true → assigned_nodes (group_world g w) s ≡ assigned_nodes w s
   assigned-in w i s h =
-      ap (λ o. option_map_or (assigned_below v s) o []) (host_above-in w i s h) ∙ from (host_above w s) refl
+      ap (λ o. option_map_or (slottables_of v s) o []) (host_above-in w i s h) ∙ from (host_above w s) refl
     where
       v : World
       v = group_world g w
@@ -389,7 +389,7 @@ module _ (g : Owner → Bool) (closed : KeepsMakers g) where
       each : (x : NodeName) → is_assigned_to v s x ≡ is_assigned_to w s x
       each x = ap (is_in name_eq s) (slot-group w i x) ∙ is_in-kept s (option_to_list (slot_of w x)) h
 
-      from : (o : Option NodeName) → host_above w s ≡ o → option_map_or (assigned_below v s) o [] ≡ option_map_or (assigned_below w s) o []
+      from : (o : Option NodeName) → host_above w s ≡ o → option_map_or (slottables_of v s) o [] ≡ option_map_or (slottables_of w s) o []
       from None e = refl
       from (Some host) e =
           ap (λ (p : Part). filter (is_assigned_to v s) (children_of p.trees host))

@@ -10,7 +10,7 @@ use Rattle.dom_model.specs.Part.{Part}
 use Rattle.dom_model.specs.Steps.{Step, place, take_out, set_document, set_attribute, queue_record, part_step, is_taken}
 use Rattle.dom_model.specs.World.{World, Task, micro_task, notify_task, part_of, with_part, is_notify_of, with_notify, components_below}
 use Rattle.dom_model.specs.World.{shadow_root_of, is_in_shadow_tree}
-use Rattle.dom_model.specs.Slots.{signals, with_signal, assigned, is_slot_element, is_changed, own_slots, other_slots}
+use Rattle.dom_model.specs.Slots.{signals, with_signal, assigned_nodes, is_slot_element, assigned_nodes_changed, own_slots, other_slots}
 use Rattle.dom_model.specs.WorldSteps.{world_step, world_after, stepped, with_signals, with_removal_signals, with_notify_if, with_shadow_document}
 use Rattle.dom_model.specs.Groups.{KeepsMakers, group_world, is_task_of}
 use Rattle.dom_model.proofs.OwnerLaws.{owner_eq-true, name_eq-same}
@@ -68,8 +68,9 @@ list_eq-same [] = refl
 list_eq-same (x ∷ xs) = ap (λ b. b && list_eq name_eq xs xs) (name_eq-same x) ∙ list_eq-same xs
 
 -- where nothing changed, nothing is signalled but a slot without assigned nodes
-unchanged : (w : World) (xs : List NodeName) → filter (is_changed w w) xs ≡ []
-unchanged w xs = filter_none (is_changed w w) xs (all-from (λ s. is_changed w w s ≡ false) (λ s. ap not (list_eq-same (assigned w s))) xs)
+unchanged : (w : World) (xs : List NodeName) → filter (assigned_nodes_changed w w) xs ≡ []
+unchanged w xs = filter_none (assigned_nodes_changed w w) xs (all-from (λ s. assigned_nodes_changed w w s ≡ false) (λ s. ap not (list_eq-same
+    (assigned_nodes w s))) xs)
 
 module _ (g : Owner → Bool) where
   -- Notifications: one of the group is among its tasks,
@@ -221,16 +222,16 @@ module _ (g : Owner → Bool) (closed : KeepsMakers g) where
       signals v v x around is_move ≡ []
   no_signals v x around is_move bare =
       let parent : List NodeName = if is_move && (is_slot_element (node_in (part_of v around.owner).trees around)
-      && (is_in_shadow_tree v around && is_empty (assigned v around))) then around ∷ [] else [] in
-      ap (λ xs. distinct name_eq (xs ++ parent ++ filter (is_changed v v) (other_slots v x around))) (unchanged v (own_slots v v x))
+      && (is_in_shadow_tree v around && is_empty (assigned_nodes v around))) then around ∷ [] else [] in
+      ap (λ xs. distinct name_eq (xs ++ parent ++ filter (assigned_nodes_changed v v) (other_slots v x around))) (unchanged v (own_slots v v x))
       ∙ ap (λ xs. distinct name_eq (parent ++ xs)) (unchanged v (other_slots v x around))
       ∙ ap (λ xs. distinct name_eq (xs ++ [])) (none_bare is_move bare)
     where
       none_bare : (m : Bool) → (m ≡ true → is_slot_element (node_in (part_of v around.owner).trees around) ≡ false) →
-          (if m && (is_slot_element (node_in (part_of v around.owner).trees around) && (is_in_shadow_tree v around && is_empty (assigned v around)))
+          (if m && (is_slot_element (node_in (part_of v around.owner).trees around) && (is_in_shadow_tree v around && is_empty (assigned_nodes v around)))
           then around ∷ [] else []) ≡ []
       none_bare false b = refl
-      none_bare true b = ap (λ t. if t && (is_in_shadow_tree v around && is_empty (assigned v around)) then around ∷ [] else []) (b refl)
+      none_bare true b = ap (λ t. if t && (is_in_shadow_tree v around && is_empty (assigned_nodes v around)) then around ∷ [] else []) (b refl)
 
   -- An owner outside.
   module _ (o : Owner) (h : g o ≡ false) where

@@ -10,7 +10,7 @@ use Rattle.dom_base.specs.declared.NodeName.{NodeName}
 use Rattle.dom_model.specs.Names.{name_eq}
 use Rattle.dom_model.specs.Command.{EventWords}
 use Rattle.dom_model.specs.Output.{EventLine}
-use Rattle.dom_model.specs.Listeners.{Listener, Visit, visited, called, hears, kept_after, after_action, may_cancel, line_of}
+use Rattle.dom_model.specs.Listeners.{Listener, Visit, after_invoke, after_inner_invoke, hears, kept_after, after_action, may_cancel, line_of}
 use Rattle.dom_model.specs.Part.{Part}
 use Rattle.dom_model.specs.World.{part_of, with_part, World}
 use Rattle.dom_model.specs.Dispatch.{world_visit, Dispatched, visits_of, visit_of, is_at_target, event_output}
@@ -26,25 +26,25 @@ use Rattle.dom_model.specs.Trace.{is_of, owner_of_output}
 -- A visit leaves as it is what is told by the calls alone: what each call keeps all calls keep, and so the visit.
 module _ (P : Going → Type 0) (e : EventWords) (v : Visit NodeName) (keeps : (d : Going) (l : Listener NodeName) → P d → P (call e v d l)) where
   -- a call, or none
-  kept-called : (d : Going) (l : Listener NodeName) → P d → P (called name_eq e v d l)
+  kept-called : (d : Going) (l : Listener NodeName) → P d → P (after_inner_invoke name_eq e v d l)
   kept-called d l h =
       by_cases d.stopped_now (λ s. subst P (sym (no_call e v d l s)) h) (λ s. subst P (sym (call-of e v d l s)) (keeps d l h))
 
   -- calls of all that hear
-  kept-calls : (ls : List (Listener NodeName)) (d : Going) → P d → P (fold (called name_eq e v) d ls)
+  kept-calls : (ls : List (Listener NodeName)) (d : Going) → P d → P (fold (after_inner_invoke name_eq e v) d ls)
   kept-calls [] d h = h
-  kept-calls (l ∷ ls) d h = kept-calls ls (called name_eq e v d l) (kept-called d l h)
+  kept-calls (l ∷ ls) d h = kept-calls ls (after_inner_invoke name_eq e v d l) (kept-called d l h)
 
   -- a visit
-  pub kept-visited : (d : Going) → P d → P (visited name_eq e d v)
+  pub kept-visited : (d : Going) → P d → P (after_invoke name_eq e d v)
   kept-visited d h =
       let hearing = filter (hears name_eq e v) d.listeners in
-      by_cases d.stopped (λ s. subst P (sym (cond-true d.stopped d (fold (called name_eq e v) d hearing) s)) h)
-      (λ s. subst P (sym (cond-false d.stopped d (fold (called name_eq e v) d hearing) s)) (kept-calls hearing d h))
+      by_cases d.stopped (λ s. subst P (sym (cond-true d.stopped d (fold (after_inner_invoke name_eq e v) d hearing) s)) h)
+      (λ s. subst P (sym (cond-false d.stopped d (fold (after_inner_invoke name_eq e v) d hearing) s)) (kept-calls hearing d h))
 
 -- Once an event is stopped a visit makes no call.
-pub visited-stopped : (e : EventWords) (v : Visit NodeName) (d : Going) → d.stopped ≡ true → visited name_eq e d v ≡ d
-visited-stopped e v d s = cond-true d.stopped d (fold (called name_eq e v) d (filter (hears name_eq e v) d.listeners)) s
+pub visited-stopped : (e : EventWords) (v : Visit NodeName) (d : Going) → d.stopped ≡ true → after_invoke name_eq e d v ≡ d
+visited-stopped e v d s = cond-true d.stopped d (fold (after_inner_invoke name_eq e v) d (filter (hears name_eq e v) d.listeners)) s
 
 -- What is made of a dispatch on its way, such as some of its lines, where it keeps the listeners and the stop flags, and each call does to it what it
 -- does to the dispatch.
@@ -57,25 +57,25 @@ record IsThrough (f : Going → Going) (e : EventWords) (v : Visit NodeName) : T
 -- So does the visit.
 module _ {f : Going → Going} {e : EventWords} {v : Visit NodeName} (k : IsThrough f e v) where
   -- a call, or none
-  through-called : (d : Going) (l : Listener NodeName) → f (called name_eq e v d l) ≡ called name_eq e v (f d) l
+  through-called : (d : Going) (l : Listener NodeName) → f (after_inner_invoke name_eq e v d l) ≡ after_inner_invoke name_eq e v (f d) l
   through-called d l =
       by_cases d.stopped_now (λ s. ap f (no_call e v d l s) ∙ sym (no_call e v (f d) l (k.stopped_now d ∙ s)))
       (λ s. ap f (call-of e v d l s) ∙ k.call d l ∙ sym (call-of e v (f d) l (k.stopped_now d ∙ s)))
 
   -- calls of all that hear
-  through-calls : (ls : List (Listener NodeName)) (d : Going) → f (fold (called name_eq e v) d ls) ≡ fold (called name_eq e v) (f d) ls
+  through-calls : (ls : List (Listener NodeName)) (d : Going) → f (fold (after_inner_invoke name_eq e v) d ls) ≡ fold (after_inner_invoke name_eq e v) (f d) ls
   through-calls [] d = refl
   through-calls (l ∷ ls) d =
-      through-calls ls (called name_eq e v d l) ∙ ap (λ s. fold (called name_eq e v) s ls) (through-called d l)
+      through-calls ls (after_inner_invoke name_eq e v d l) ∙ ap (λ s. fold (after_inner_invoke name_eq e v) s ls) (through-called d l)
 
   -- a visit
-  through-visited : (d : Going) → f (visited name_eq e d v) ≡ visited name_eq e (f d) v
+  through-visited : (d : Going) → f (after_invoke name_eq e d v) ≡ after_invoke name_eq e (f d) v
   through-visited d =
-      let all : List (Listener NodeName) → Going = λ ls. fold (called name_eq e v) (f d) (filter (hears name_eq e v) ls) in
+      let all : List (Listener NodeName) → Going = λ ls. fold (after_inner_invoke name_eq e v) (f d) (filter (hears name_eq e v) ls) in
       let hearing = filter (hears name_eq e v) d.listeners in
       by_cases d.stopped
       (λ s. ap f (visited-stopped e v d s) ∙ sym (visited-stopped e v (f d) (k.stopped d ∙ s)))
-      (λ s. ap f (cond-false d.stopped d (fold (called name_eq e v) d hearing) s) ∙ through-calls hearing d ∙ ap all (sym (k.listeners d))
+      (λ s. ap f (cond-false d.stopped d (fold (after_inner_invoke name_eq e v) d hearing) s) ∙ through-calls hearing d ∙ ap all (sym (k.listeners d))
       ∙ sym (cond-false (f d).stopped (f d) (all (f d).listeners) (k.stopped d ∙ s)))
 
 -- Who stops the other listeners at once stops the event.
@@ -128,7 +128,8 @@ cancel-call c e v d l =
     (record d { listeners = kept_after name_eq l d.listeners; lines = d.lines ++ line_of v l.words ∷ [] })
 
 -- nor a visit
-cancel-visited : (c : Bool) (e : EventWords) (v : Visit NodeName) (d : Going) → with_cancel c (visited name_eq e d v) ≡ visited name_eq e (with_cancel c d) v
+cancel-visited : (c : Bool) (e : EventWords) (v : Visit NodeName) (d : Going) → with_cancel c (after_invoke name_eq e d v) ≡ after_invoke name_eq e
+    (with_cancel c d) v
 cancel-visited c e v d =
     through-visited (record { listeners = λ d. refl; stopped = λ d. refl; stopped_now = λ d. refl; call = cancel-call c e v }) d
 
@@ -165,7 +166,8 @@ module _ (g : Owner → Bool) where
       (filter-append in_line d.lines (line_of v l.words ∷ []) ∙ ap (λ ls. filter in_line d.lines ++ ls) (filter-here in_line (line_of v l.words) [] h))
 
   -- a visit at a node of the group is seen as it is alone
-  pub seen-visited : (e : EventWords) (v : Visit NodeName) → is_own_visit g v ≡ true → (d : Going) → seen (visited name_eq e d v) ≡ visited name_eq e (seen d) v
+  pub seen-visited : (e : EventWords) (v : Visit NodeName) → is_own_visit g v ≡ true → (d : Going) → seen (after_invoke name_eq e d v) ≡ after_invoke name_eq e
+      (seen d) v
   seen-visited e v h d =
       through-visited (record { listeners = λ d. refl; stopped = λ d. refl; stopped_now = λ d. refl; call = seen-call e v h }) d
 
@@ -188,7 +190,7 @@ module _ (g : Owner → Bool) where
         ∙ ap (λ ls. filter in_line d.lines ++ ls) (filter-away in_line (line_of v l.words) [] f) ∙ append-nil (filter in_line d.lines)
 
     -- a visit
-    pub lines-outside : (d : Going) → filter in_line (visited name_eq e d v).lines ≡ filter in_line d.lines
+    pub lines-outside : (d : Going) → filter in_line (after_invoke name_eq e d v).lines ≡ filter in_line d.lines
     lines-outside d =
         kept-visited (λ c. filter in_line c.lines ≡ filter in_line d.lines) e v (λ c l h. call-outside c l ∙ h) d refl
 
@@ -204,13 +206,13 @@ module _ (g : Owner → Bool) where
       let u = group_world g s.0 in
       let p = part_of s.0 o in
       let start : Going = record s.1 { listeners = p.listeners } in
-      let heard = visited name_eq e start v in
+      let heard = after_invoke name_eq e start v in
       let q = with_listeners p heard.listeners in
       let mine : g q.owner ≡ true = ap g (owner-part_of s.0 o) ∙ h in
       let left : group_going (world_visit e s v) ≡ (with_part u q, record (seen heard) { listeners = [] }) =
       ap (λ w. (w, record (seen heard) { listeners = [] })) (with_part-in g s.0 q mine) in
       let right : world_visit e (group_going s) v ≡ (with_part u q, seen heard) =
-      ap (λ (p : Part). let d = visited name_eq e (record (seen s.1) { listeners = p.listeners }) v in (with_part u (with_listeners p d.listeners), d))
+      ap (λ (p : Part). let d = after_invoke name_eq e (record (seen s.1) { listeners = p.listeners }) v in (with_part u (with_listeners p d.listeners), d))
       (part-in g s.0 o h)
       ∙ ap (λ (d : Going). (with_part u (with_listeners p d.listeners), d)) (sym (seen-visited e v h start)) in
       let again : group_going (with_part u q, seen heard) ≡ (with_part u q, record (seen heard) { listeners = [] }) =
@@ -240,7 +242,7 @@ module _ (g : Owner → Bool) where
   visit-out e s v f =
       let p = part_of s.0 v.current.owner in
       let start : Going = record s.1 { listeners = p.listeners } in
-      let heard = visited name_eq e start v in
+      let heard = after_invoke name_eq e start v in
       ap (λ w. (w, record (seen heard) { listeners = [] })) (with_part-out g s.0 (with_listeners p heard.listeners)
       (ap g (owner-part_of s.0 v.current.owner) ∙ f))
       ∙ ap (λ ls. (group_world g s.0, record heard { listeners = []; lines = ls })) (lines-outside e v f start)

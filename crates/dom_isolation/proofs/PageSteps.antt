@@ -28,7 +28,7 @@ use Rattle.dom_isolation.proofs.GroupSlots.{any-kept, added-in, filter-sub, memb
 use Rattle.dom_model.specs.Groups.{group_world, group_turn, group_run, is_task_of}
 use Rattle.dom_model.specs.Command.{Command, EventWords}
 use Rattle.dom_model.specs.CommandNames.{named}
-use Rattle.dom_model.specs.Listeners.{Listener, Visit, visited, begun}
+use Rattle.dom_model.specs.Listeners.{Listener, Visit, after_invoke, begun}
 use Rattle.dom_model.specs.Part.{Part}
 use Rattle.dom_model.specs.Paths.{views, plain_views}
 use Rattle.dom_model.specs.Dispatch.{Dispatched, dispatched, dispatch_in, world_visit, event_output, visits_of}
@@ -188,7 +188,7 @@ page_of-world_after w (s ∷ steps) = page_of-world_after (world_step Page w s) 
 visit_as : Owner → EventWords → InWorld → Visit NodeName → InWorld
 visit_as o e s v =
     let p = part_of s.0 o in
-    let heard = visited name_eq e (record s.1 { listeners = p.listeners }) v in
+    let heard = after_invoke name_eq e (record s.1 { listeners = p.listeners }) v in
     (with_part s.0 (with_listeners p heard.listeners), heard)
 
 -- a visit, by the owner of its node
@@ -198,18 +198,18 @@ visit-as o e s v h = ap (λ o. visit_as o e s v) h
 
 -- at a page node
 page_going-visit_as : (e : EventWords) (s : InWorld) (v : Visit NodeName) → v.current.owner ≡ Page →
-    page_going (visit_as Page e s v) ≡ visited name_eq e (page_going s) v
+    page_going (visit_as Page e s v) ≡ after_invoke name_eq e (page_going s) v
 unfolding visit_as
 page_going-visit_as e s v h =
     let p = part_of s.0 Page in
-    let heard = visited name_eq e (record s.1 { listeners = p.listeners }) v in
+    let heard = after_invoke name_eq e (record s.1 { listeners = p.listeners }) v in
     ap (λ (q : Part). record (seen is_page heard) { listeners = q.listeners })
     (part_of-with_part s.0 (with_listeners p heard.listeners) Page (owner-part_of s.0 Page))
     ∙ seen-visited is_page e v (ap is_page h) (record s.1 { listeners = p.listeners })
 
 -- a visit at a page node does what it does alone
 pub page_going-visit : (e : EventWords) (s : InWorld) (v : Visit NodeName) → v.current.owner ≡ Page →
-    page_going (world_visit e s v) ≡ visited name_eq e (page_going s) v
+    page_going (world_visit e s v) ≡ after_invoke name_eq e (page_going s) v
 page_going-visit e s v h = ap page_going (visit-as Page e s v h) ∙ page_going-visit_as e s v h
 
 -- at a component's node
@@ -217,7 +217,7 @@ pub page_going-visit_other : (e : EventWords) (s : InWorld) (v : Visit NodeName)
     page_going (world_visit e s v) ≡ page_going s
 page_going-visit_other e s v f logs =
     let p = part_of s.0 v.current.owner in
-    let heard = visited name_eq e (record s.1 { listeners = p.listeners }) v in
+    let heard = after_invoke name_eq e (record s.1 { listeners = p.listeners }) v in
     let ls = (part_of s.0 Page).listeners in
     let start : Going = record s.1 { listeners = p.listeners } in
     let logging = all-then OnlyLogs (LogsEvent e.event) (λ l log t. log) p.listeners (logs v.current.owner f) in
@@ -228,23 +228,24 @@ page_going-visit_other e s v f logs =
 
 -- visits at page nodes alone
 pub page_going-own : (e : EventWords) (vs : List (Visit NodeName)) (s : InWorld) → AllByRecursion (λ v. is_page_visit v ≡ true) vs →
-    page_going (fold (world_visit e) s vs) ≡ fold (visited name_eq e) (page_going s) vs
+    page_going (fold (world_visit e) s vs) ≡ fold (after_invoke name_eq e) (page_going s) vs
 page_going-own e [] s h = refl
 page_going-own e (v ∷ vs) s h =
     page_going-own e vs (world_visit e s v) h.1
-    ∙ ap (λ d. fold (visited name_eq e) d vs) (page_going-visit e s v (owner_eq-true v.current.owner Page h.0))
+    ∙ ap (λ d. fold (after_invoke name_eq e) d vs) (page_going-visit e s v (owner_eq-true v.current.owner Page h.0))
 
 -- all visits, as the page sees them
 pub page_going-visits : (e : EventWords) (vs : List (Visit NodeName)) (s : InWorld) → ComponentsOnlyLog s.0 →
-    page_going (fold (world_visit e) s vs) ≡ fold (visited name_eq e) (page_going s) (filter is_page_visit vs)
+    page_going (fold (world_visit e) s vs) ≡ fold (after_invoke name_eq e) (page_going s) (filter is_page_visit vs)
 page_going-visits e [] s logs = refl
 page_going-visits e (v ∷ vs) s logs =
     let later = page_going-visits e vs (world_visit e s v) (logs-visit e s v logs) in
     by_cases (is_page_visit v)
-    (λ h. later ∙ ap (λ d. fold (visited name_eq e) d (filter is_page_visit vs)) (page_going-visit e s v (owner_eq-true v.current.owner Page h))
-    ∙ ap (fold (visited name_eq e) (page_going s)) (sym (cond-true (is_page_visit v) (v ∷ filter is_page_visit vs) (filter is_page_visit vs) h)))
-    (λ h. later ∙ ap (λ d. fold (visited name_eq e) d (filter is_page_visit vs)) (page_going-visit_other e s v (owner_eq-false v.current.owner Page h) logs)
-    ∙ ap (fold (visited name_eq e) (page_going s)) (sym (cond-false (is_page_visit v) (v ∷ filter is_page_visit vs) (filter is_page_visit vs) h)))
+    (λ h. later ∙ ap (λ d. fold (after_invoke name_eq e) d (filter is_page_visit vs)) (page_going-visit e s v (owner_eq-true v.current.owner Page h))
+    ∙ ap (fold (after_invoke name_eq e) (page_going s)) (sym (cond-true (is_page_visit v) (v ∷ filter is_page_visit vs) (filter is_page_visit vs) h)))
+    (λ h. later ∙ ap (λ d. fold (after_invoke name_eq e) d (filter is_page_visit vs)) (page_going-visit_other e s v
+    (owner_eq-false v.current.owner Page h) logs)
+    ∙ ap (fold (after_invoke name_eq e) (page_going s)) (sym (cond-false (is_page_visit v) (v ∷ filter is_page_visit vs) (filter is_page_visit vs) h)))
 
 -- the law of all visits
 pub fold-skips_components : FoldSkipsComponents
@@ -291,7 +292,7 @@ module _ (w : World) (target : NodeName) (related : Option NodeName) (e : EventW
   -- how it ends is how its first visits at page nodes end
   pub dispatch-touched :
       page_dispatched (dispatch_in w target related e)
-      ≡ page_end done.cancelled (page_of w) (fold (visited name_eq e) (begun (part_of w Page).listeners)
+      ≡ page_end done.cancelled (page_of w) (fold (after_invoke name_eq e) (begun (part_of w Page).listeners)
       (first_visits done.reached (visits_of name_eq e.bubbles (filter (in_view is_page) (views w target related e.composed)))))
   dispatch-touched =
       let start : InWorld = (w, begun []) in
@@ -331,7 +332,7 @@ module _ (w : World) (target : NodeName) (related : Option NodeName) (e : EventW
       ∙ ap (page_end done.cancelled (page_of w)) (page_going-own e own start
       (all-first (λ v. is_page_visit v ≡ true) done.reached (filter is_page_visit all_visits)
       (all-passed (λ v. is_page_visit v ≡ true) is_page_visit (λ v h. h) all_visits)))
-      ∙ ap (λ vs. page_end done.cancelled (page_of w) (fold (visited name_eq e) (begun (part_of w Page).listeners) (first_visits done.reached vs)))
+      ∙ ap (λ vs. page_end done.cancelled (page_of w) (fold (after_invoke name_eq e) (begun (part_of w Page).listeners) (first_visits done.reached vs)))
       (group_visits is_page e.bubbles (views w target related e.composed))
 
   -- the page machine's dispatch, where the views at page nodes are its own
@@ -340,7 +341,7 @@ module _ (w : World) (target : NodeName) (related : Option NodeName) (e : EventW
       page_dispatched (dispatch_in w target related e) ≡ page_dispatch_under done (page_of w) x near e
   dispatch-page x near h =
       dispatch-touched
-      ∙ ap (λ vs. page_end done.cancelled (page_of w) (fold (visited name_eq e) (begun (part_of w Page).listeners)
+      ∙ ap (λ vs. page_end done.cancelled (page_of w) (fold (after_invoke name_eq e) (begun (part_of w Page).listeners)
       (first_visits done.reached (visits_of name_eq e.bubbles vs)))) h
 
 -- What others do to the event of a command in the turn that is open, if it has one.

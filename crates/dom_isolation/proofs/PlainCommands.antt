@@ -11,7 +11,8 @@ use Rattle.dom_model.specs.Command.{Command, ListenerWords, EventWords, effect}
 use Rattle.dom_model.specs.CommandNames.{named}
 use Rattle.dom_model.specs.DocumentMachine.{first_world}
 use Rattle.dom_model.specs.Effects.{Effect, tables, changes, sets_walker, node_or_null, string_or_null}
-use Rattle.dom_model.specs.Listeners.{Listener, is_listener, listened, Visit, Dispatching, visited, called, hears, unlistened, kept_after, after_action}
+use Rattle.dom_model.specs.Listeners.{Listener, is_listener, with_listener_added, Visit, Dispatching, after_invoke, after_inner_invoke, hears}
+use Rattle.dom_model.specs.Listeners.{with_listener_removed, kept_after, after_action}
 use Rattle.dom_model.specs.Listeners.{may_cancel, line_of}
 use Rattle.dom_model.specs.Output.{Value, a_tree, says, recorded, Output, bad_owner, Said, replied, refused}
 use Rattle.dom_model.specs.Output.{event_seen, micro_ran, Change, EventLine}
@@ -75,9 +76,9 @@ plain-after_action Cancel c d h = h
 
 -- a call
 plain-called : (e : EventWords) (v : Visit NodeName) (d : Dispatching NodeName) (l : Listener NodeName) → IsPlainGoing d → IsPlainListener l →
-    IsPlainGoing (called name_eq e v d l)
+    IsPlainGoing (after_inner_invoke name_eq e v d l)
 plain-called e v d l h g =
-    let without = unlistened name_eq l.node l.words.event l.words.label l.words.capture d.listeners in
+    let without = with_listener_removed name_eq l.node l.words.event l.words.label l.words.capture d.listeners in
     let next : Dispatching NodeName = record d { listeners = kept_after name_eq l d.listeners; lines = d.lines ++ line_of v l.words ∷ [] } in
     either_way IsPlainGoing d.stopped_now d (after_action l.words.action (may_cancel e l.words) next) h
     (plain-after_action l.words.action (may_cancel e l.words) next (
@@ -88,15 +89,15 @@ plain-called e v d l h g =
 
 -- calls of all that hear
 plain-calls : (e : EventWords) (v : Visit NodeName) (ls : List (Listener NodeName)) (d : Dispatching NodeName) → IsPlainGoing d →
-    AllByRecursion IsPlainListener ls → IsPlainGoing (fold (called name_eq e v) d ls)
+    AllByRecursion IsPlainListener ls → IsPlainGoing (fold (after_inner_invoke name_eq e v) d ls)
 plain-calls e v [] d h g = h
-plain-calls e v (l ∷ ls) d h g = plain-calls e v ls (called name_eq e v d l) (plain-called e v d l h g.0) g.1
+plain-calls e v (l ∷ ls) d h g = plain-calls e v ls (after_inner_invoke name_eq e v d l) (plain-called e v d l h g.0) g.1
 
 -- a visit
-pub plain-visited : (e : EventWords) (v : Visit NodeName) (d : Dispatching NodeName) → IsPlainGoing d → IsPlainGoing (visited name_eq e d v)
+pub plain-visited : (e : EventWords) (v : Visit NodeName) (d : Dispatching NodeName) → IsPlainGoing d → IsPlainGoing (after_invoke name_eq e d v)
 plain-visited e v d h =
     let hearing = filter (hears name_eq e v) d.listeners in
-    either_way IsPlainGoing d.stopped d (fold (called name_eq e v) d hearing) h
+    either_way IsPlainGoing d.stopped d (fold (after_inner_invoke name_eq e v) d hearing) h
     (plain-calls e v hearing d h (all-filter IsPlainListener (hears name_eq e v) d.listeners h.0))
 
 -- Notifications.
@@ -146,7 +147,7 @@ plain-some (Some x) f d h g = h x
 
 -- one more listener
 plain-listened : (x : NodeName) (w : ListenerWords) (ls : List (Listener NodeName)) → AllByRecursion IsPlainListener ls → HasNoFeed w.event ×
-    HasNoFeed w.label → AllByRecursion IsPlainListener (listened name_eq x w ls)
+    HasNoFeed w.label → AllByRecursion IsPlainListener (with_listener_added name_eq x w ls)
 plain-listened x w ls h g =
     let more : List (Listener NodeName) = ls ++ record { node = x; words = w } ∷ [] in
     either_way (AllByRecursion IsPlainListener) (list_any (is_listener name_eq x w.event w.label w.capture) ls) ls more h

@@ -15,7 +15,7 @@ use Rattle.dom_model.specs.Dispatch.{world_visit, visits_of, dispatch_in, event_
 use Rattle.dom_model.specs.DocumentMachine.{first_world, part_with_root, refusal, effect_in, perform, accepted, run_command, step, run_lines}
 use Rattle.dom_model.specs.DocumentMachine.{finish, outputs_of}
 use Rattle.dom_model.specs.Effects.{Effect, tables, changes}
-use Rattle.dom_model.specs.Listeners.{Visit, Dispatching, visited, begun}
+use Rattle.dom_model.specs.Listeners.{Visit, Dispatching, after_invoke, begun}
 use Rattle.dom_model.specs.Output.{Output, bad_owner, says, replied, refused, micro_ran, Value, a_tree, EventLine}
 use Rattle.dom_model.specs.Part.{Part}
 use Rattle.dom_model.specs.Paths.{views}
@@ -50,7 +50,7 @@ SaysEffect Inv May IsSaid o (changes steps v) = AllByRecursion May steps × IsSa
 pub record KeepsSaying (Inv : Part → Type 0) (May : Step → Type 0) (IsTask : Task → Type 0) (IsSaid : Output → Type 0) (MayRun : Line → Type 0) : Type 0 where
   pub steps : IsKeptIn Inv May IsTask
   pub visit : (e : EventWords) (v : Visit NodeName) (p : Part) (d : Dispatching NodeName) → p.owner ≡ v.current.owner → Inv p →
-      AllByRecursion (IsSaidEvent IsSaid) d.lines → let heard = visited name_eq e (record d { listeners = p.listeners }) v in
+      AllByRecursion (IsSaidEvent IsSaid) d.lines → let heard = after_invoke name_eq e (record d { listeners = p.listeners }) v in
       Inv (record p { listeners = heard.listeners }) × AllByRecursion (IsSaidEvent IsSaid) heard.lines
   pub notified : (p : Part) → Inv p → Inv (notified p) × AllByRecursion IsSaid (notified_lines p)
   pub ran : (o : Owner) (label : Word) → IsTask (micro_task o label) → IsSaid (says o (micro_ran label))
@@ -91,7 +91,7 @@ module _ {Inv : Part → Type 0} {May : Step → Type 0} {IsTask : Task → Type
   says-visits e (v ∷ vs) w d h g =
       let o = v.current.owner in
       let p = part_of w o in
-      let heard = visited name_eq e (record d { listeners = p.listeners }) v in
+      let heard = after_invoke name_eq e (record d { listeners = p.listeners }) v in
       let one = k.visit e v p d (owner-part_of w o) (h.parts o) g in
       says-visits e vs (with_part w (record p { listeners = heard.listeners })) heard
       (holds-with_part k.steps w (record p { listeners = heard.listeners }) h one.0) one.1

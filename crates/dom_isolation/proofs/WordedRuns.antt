@@ -14,7 +14,7 @@ use Rattle.dom_model.specs.Tree.{parent_of, inclusive_ancestors}
 use Rattle.dom_model.specs.Command.{Command, Line, EventWords, effect}
 use Rattle.dom_model.specs.DocumentMachine.{first_world, outputs_of}
 use Rattle.dom_model.specs.Effects.{Effect, tables, changes}
-use Rattle.dom_model.specs.Listeners.{Listener, Visit, Dispatching, visited, kept_after, after_action, may_cancel, line_of}
+use Rattle.dom_model.specs.Listeners.{Listener, Visit, Dispatching, after_invoke, kept_after, after_action, may_cancel, line_of}
 use Rattle.dom_model.specs.Observers.{interested, target_of, transients_for, without_transients}
 use Rattle.dom_model.specs.Output.{Output, bad_owner, says}
 use Rattle.dom_model.specs.Part.{Part}
@@ -82,7 +82,7 @@ IsWordedInput l = (o : Owner) → owner_of_line l ≡ Some o → HasWord o
 module _ (e : EventWords) (v : Visit NodeName) where
   -- in a part of the owner of its node
   worded-visit : (p : Part) (d : Dispatching NodeName) → p.owner ≡ v.current.owner → IsWorded p →
-      AllByRecursion (IsSaidEvent HasOwner) d.lines → let heard = visited name_eq e (record d { listeners = p.listeners }) v in
+      AllByRecursion (IsSaidEvent HasOwner) d.lines → let heard = after_invoke name_eq e (record d { listeners = p.listeners }) v in
       IsWorded (record p { listeners = heard.listeners }) × AllByRecursion (IsSaidEvent HasOwner) heard.lines
   unfolding call
   worded-visit p d o (inl t) g =
@@ -102,7 +102,7 @@ module _ (e : EventWords) (v : Visit NodeName) where
           (record c { listeners = kept_after name_eq l c.listeners; lines = c.lines ++ line_of v l.words ∷ [] })))
           (all-append (IsSaidEvent HasOwner) c.lines (line_of v l.words ∷ []) h (t, tt))
   worded-visit p d o (inr s) g =
-      let Q : List (Listener NodeName) → Type 0 = λ ls. let heard = visited name_eq e (record d { listeners = ls }) v in
+      let Q : List (Listener NodeName) → Type 0 = λ ls. let heard = after_invoke name_eq e (record d { listeners = ls }) v in
       (heard.listeners ≡ []) × AllByRecursion (IsSaidEvent HasOwner) heard.lines in
       let none : Dispatching NodeName = record d { listeners = [] } in
       let both : Q p.listeners = subst Q (sym s.0) (

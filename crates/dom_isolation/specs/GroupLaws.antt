@@ -10,7 +10,7 @@ use Rattle.dom_model.specs.DocumentMachine.{step, perform, finish}
 use Rattle.dom_model.specs.Groups.{KeepsMakers, group_world, group_turn, group_run, is_task_of, outward_in, ends_group_turn}
 use Rattle.dom_model.specs.Paths.{View, views}
 use Rattle.dom_model.specs.Runs.{run_each}
-use Rattle.dom_model.specs.Slots.{assigned, signals}
+use Rattle.dom_model.specs.Slots.{assigned_nodes, signals}
 use Rattle.dom_model.specs.Steps.{Step}
 use Rattle.dom_model.specs.Trace.{is_of, owner_of_line, boundary_host, outward_dispatch, outward_event}
 use Rattle.dom_model.specs.Turns.{ending_turn}
@@ -29,7 +29,7 @@ IsIn group x = IsTrue (group x.owner)
 abbrev pub AssignedAgree : Type 0
 AssignedAgree =
     (group : Owner → Bool) → KeepsMakers group → (w : World) → IsWorld w → (s : NodeName) → IsIn group s →
-    assigned (group_world group w) s ≡ assigned w s
+    assigned_nodes (group_world group w) s ≡ assigned_nodes w s
 
 -- its signals
 abbrev pub SignalsAgree : Type 0

@@ -7,7 +7,7 @@ use Rattle.dom_base.specs.declared.Owner.TheVariants.{Page}
 use Rattle.dom_base.specs.declared.NodeName.{NodeName}
 use Rattle.dom_model.specs.Command.{Command, Line, EventWords, NodeWord, part_refusal}
 use Rattle.dom_model.specs.Output.{Output, EventLine}
-use Rattle.dom_model.specs.Listeners.{Visit, Dispatching, visited}
+use Rattle.dom_model.specs.Listeners.{Visit, Dispatching, after_invoke}
 use Rattle.dom_model.specs.Names.{name_eq}
 use Rattle.dom_model.specs.Paths.{views, plain_views}
 use Rattle.dom_model.specs.Runs.{Run, quiet, run_then, run_each}
@@ -54,7 +54,7 @@ is_page_visit v = is_page v.current.owner
 abbrev pub FoldSkipsComponents : Type 0
 FoldSkipsComponents =
     (e : EventWords) (vs : List (Visit NodeName)) (s : World × Dispatching NodeName) → ComponentsOnlyLog s.0 →
-    page_going (fold (world_visit e) s vs) ≡ fold (visited name_eq e) (page_going s) (filter is_page_visit vs)
+    page_going (fold (world_visit e) s vs) ≡ fold (after_invoke name_eq e) (page_going s) (filter is_page_visit vs)
 
 -- The visits at page nodes, with what is seen there, are the page machine's: of an event of the page, and of one that goes
 -- out of a shadow tree, which is the page machine's at the boundary host for the page, the outermost one.

@@ -7,7 +7,7 @@ use Rattle.dom_model.specs.Names.{name_eq}
 use Rattle.dom_model.specs.Command.{Command, Line, command, EventWords}
 use Rattle.dom_model.specs.CommandNames.{named}
 use Rattle.dom_model.specs.Output.{Output, a_truth}
-use Rattle.dom_model.specs.Listeners.{Dispatching, visited, begun}
+use Rattle.dom_model.specs.Listeners.{Dispatching, after_invoke, begun}
 use Rattle.dom_model.specs.Paths.{plain_views}
 use Rattle.dom_model.specs.Runs.{Run, quiet, run_then, run_each, answering, unless_refused}
 use Rattle.dom_model.specs.Dispatch.{Dispatched, visits_of, event_output}
@@ -29,7 +29,7 @@ dispatched_under cancelled s d = record { run = (s, map event_output d.lines); a
 abbrev pub page_dispatch_under : Interference → PageState → NodeName → Option NodeName → EventWords → Dispatched PageState
 page_dispatch_under i s x related e =
     let visits = visits_of name_eq e.bubbles (plain_views s.part.trees x related) in
-    let end = fold (visited name_eq e) (begun s.part.listeners) (first_visits i.reached visits) in
+    let end = fold (after_invoke name_eq e) (begun s.part.listeners) (first_visits i.reached visits) in
     dispatched_under i.cancelled (record s { part = record s.part { listeners = end.listeners } }) end
 
 -- what an accepted command does

@@ -3,9 +3,9 @@ use Rattle.std.proofs.Common.{◌≡◌, ℕ, ◌+◌, ◌-◌, Bool, true, fals
 use Rattle.std.specs.Prelude.{if◌then◌else◌}
 use Rattle.std.specs.Option.{option_map_or}
 use Rattle.dom_base.specs.declared.NodeName.{NodeName}
-use Rattle.dom_model.specs.Changes.{Plan, ◌and_then◌, in_turn, doing, steps_of, Observing, observed, suppressed, telling, removing, changing_document}
-use Rattle.dom_model.specs.Changes.{adopting, document_below, placed_nodes, emptying, making_room, placing, sibling_before, inserting_nodes}
-use Rattle.dom_model.specs.Changes.{inserting, reference_for, pre_inserting}
+use Rattle.dom_model.specs.Changes.{Plan, ◌and_then◌, in_turn, doing, steps_of, Observing, observed, suppressed, telling, remove_plan, changing_document}
+use Rattle.dom_model.specs.Changes.{adopt_plan, document_below, placed_nodes, emptying, making_room, placing, sibling_before, inserting_nodes}
+use Rattle.dom_model.specs.Changes.{insert_plan, reference_child, pre_insert_plan}
 use Rattle.dom_model.specs.Names.{is_empty}
 use Rattle.dom_model.specs.Output.{child_list}
 use Rattle.dom_model.specs.Part.{Part, next_name}
@@ -38,18 +38,18 @@ bare-if true f g a c = a
 bare-if false f g a c = c
 
 -- adoptions and placings
-bare-adopting : (d x : NodeName) → IsBare (adopting d x)
-bare-adopting d x = bare-then (removing observed x) (changing_document d x) (λ p. refl) (λ p. refl)
+bare-adopting : (d x : NodeName) → IsBare (adopt_plan d x)
+bare-adopting d x = bare-then (remove_plan observed x) (changing_document d x) (λ p. refl) (λ p. refl)
 
 bare-placing : (parent : NodeName) (before : Option NodeName) (x : NodeName) → IsBare (placing parent before x)
 bare-placing parent before x p =
-    bare-then (adopting (document_below p.trees parent) x) (doing (place x parent before)) (bare-adopting (document_below p.trees parent) x) (λ q. refl) p
+    bare-then (adopt_plan (document_below p.trees parent) x) (doing (place x parent before)) (bare-adopting (document_below p.trees parent) x) (λ q. refl) p
 
 -- insertions
 bare-emptying : (node : NodeName) (children : List NodeName) → IsBare (emptying node children)
 bare-emptying node children =
-    bare-then (in_turn (removing suppressed) children) (doing (queue_record (child_list node [] children None None)))
-    (bare-turn (removing suppressed) (λ x p. refl) children) (λ p. refl)
+    bare-then (in_turn (remove_plan suppressed) children) (doing (queue_record (child_list node [] children None None)))
+    (bare-turn (remove_plan suppressed) (λ x p. refl) children) (λ p. refl)
 
 bare-inserting_nodes : (how : Observing) (node : NodeName) (moved : List NodeName) (parent : NodeName) (before : Option NodeName) →
     IsBare (inserting_nodes how node moved parent before)
@@ -64,19 +64,19 @@ bare-inserting_nodes how node moved parent before p =
     (λ q. refl)) (λ q. refl))
     (bare-turn (placing parent before) (bare-placing parent before) moved)) (λ q. refl) p
 
-bare-inserting : (how : Observing) (node parent : NodeName) (before : Option NodeName) → IsBare (inserting how node parent before)
+bare-inserting : (how : Observing) (node parent : NodeName) (before : Option NodeName) → IsBare (insert_plan how node parent before)
 bare-inserting how node parent before p =
     let moved = placed_nodes p.trees node in
     ap (λ (steps : List Step). if is_empty moved then [] else steps) (bare-inserting_nodes how node moved parent before p)
 
-bare-pre_inserting : (node parent : NodeName) (child : Option NodeName) → IsBare (pre_inserting node parent child)
-bare-pre_inserting node parent child p = bare-inserting observed node parent (reference_for p.trees node child) p
+bare-pre_inserting : (node parent : NodeName) (child : Option NodeName) → IsBare (pre_insert_plan node parent child)
+bare-pre_inserting node parent child p = bare-inserting observed node parent (reference_child p.trees node child) p
 
 -- a split
 bare-tail : (x : NodeName) (offset : ℕ) (new : NodeName) (parent : Option NodeName) → IsBare (placing_tail x offset new parent)
 bare-tail x offset new None p = refl
 bare-tail x offset new (Some parent) p =
-    bare-then (inserting observed new parent (next_sibling p.trees x)) (doing (split_at x offset new parent (index_of p.trees x)))
+    bare-then (insert_plan observed new parent (next_sibling p.trees x)) (doing (split_at x offset new parent (index_of p.trees x)))
     (bare-inserting observed new parent (next_sibling p.trees x)) (λ q. refl) p
 
 bare-splitting : (x : NodeName) (offset : ℕ) → IsBare (splitting x offset)
@@ -93,12 +93,12 @@ bare-before : (k : ℕ) (node parent : NodeName) (reference : Option NodeName) �
 bare-before k node parent reference p =
     let ts = p.trees in
     let end = at parent (option_map_or (index_of ts) reference (length_of ts parent) + (if is_fragment (kind_of ts node) then length_of ts node else 1)) in
-    bare-then (pre_inserting node parent reference) (ending_at k end) (bare-pre_inserting node parent reference) (λ q. refl) p
+    bare-then (pre_insert_plan node parent reference) (ending_at k end) (bare-pre_inserting node parent reference) (λ q. refl) p
 
 bare-at : (k : ℕ) (node parent : NodeName) (child : Option NodeName) → IsBare (inserting_at k node parent child)
 bare-at k node parent child p =
-    let reference = reference_for p.trees node child in
-    bare-then (removing observed node) (inserting_before k node parent reference) (λ q. refl) (bare-before k node parent reference) p
+    let reference = reference_child p.trees node child in
+    bare-then (remove_plan observed node) (inserting_before k node parent reference) (λ q. refl) (bare-before k node parent reference) p
 
 pub bare-inserting_into_range : (k : ℕ) (r : Range NodeName) (node : NodeName) (p : Part) →
     inserting_into_range k r node (bare p) ≡ inserting_into_range k r node p

@@ -6,7 +6,7 @@ use Rattle.std.proofs.Math.ListN.{get_or-append}
 use Rattle.dom_base.specs.declared.NodeName.{NodeName}
 use Rattle.dom_base.specs.declared.Owner.{Owner}
 use Rattle.dom_base.specs.declared.Owner.TheVariants.{Page}
-use Rattle.dom_model.specs.Changes.{Plan, Observing, suppressed, in_turn, doing, removing, emptying}
+use Rattle.dom_model.specs.Changes.{Plan, Observing, suppressed, in_turn, doing, remove_plan, emptying}
 use Rattle.dom_model.specs.CommandRefusals.{past_limit}
 use Rattle.dom_model.specs.Names.{DomString, node_of}
 use Rattle.dom_model.specs.Output.{Change, child_list}
@@ -33,20 +33,20 @@ module _ (o : Owner) (d : DocState) (alone : IsAlone d.world o) (part : IsPart (
   bounds_after f own h e is = subst (λ (s : DocState). HasBounds (part_of s.world o)) (sym is) (subst HasBounds (sym (plan_alone o f d.world alone own)) h)
 
   -- before the node that takes the place of a child is inserted
-  pub bounds_removed : (how : Observing) (x : NodeName) (e : DocState) → e ≡ planned o (removing how x) d → HasBounds (part_of e.world o)
-  bounds_removed how x = bounds_after (removing how x) (plans_removing o how x) (removal-keeps how x (part_of d.world o) part bounds)
+  pub bounds_removed : (how : Observing) (x : NodeName) (e : DocState) → e ≡ planned o (remove_plan how x) d → HasBounds (part_of e.world o)
+  bounds_removed how x = bounds_after (remove_plan how x) (plans_removing o how x) (removal-keeps how x (part_of d.world o) part bounds)
 
   -- before the Text that takes the place of children is inserted
-  pub bounds_cleared : (how : Observing) (xs : List NodeName) (e : DocState) → e ≡ planned o (in_turn (removing how) xs) d → HasBounds (part_of e.world o)
-  bounds_cleared how xs = bounds_after (in_turn (removing how) xs) (plans_each o (removing how) (plans_removing o how) xs)
+  pub bounds_cleared : (how : Observing) (xs : List NodeName) (e : DocState) → e ≡ planned o (in_turn (remove_plan how) xs) d → HasBounds (part_of e.world o)
+  bounds_cleared how xs = bounds_after (in_turn (remove_plan how) xs) (plans_each o (remove_plan how) (plans_removing o how) xs)
       (removals-keep how xs (part_of d.world o) part bounds)
 
   -- before room is made for a fragment's children
   pub bounds_emptied : (node : NodeName) (moved : List NodeName) (e : DocState) → e ≡ planned o (emptying node moved) d → HasBounds (part_of e.world o)
   bounds_emptied node moved =
       bounds_after (emptying node moved)
-      (plans_then o (in_turn (removing suppressed) moved) (doing (queue_record (child_list node [] moved None None)))
-      (plans_each o (removing suppressed) (plans_removing o suppressed) moved) (λ p own. (tt, tt)))
+      (plans_then o (in_turn (remove_plan suppressed) moved) (doing (queue_record (child_list node [] moved None None)))
+      (plans_each o (remove_plan suppressed) (plans_removing o suppressed) moved) (λ p own. (tt, tt)))
       (emptying-keeps node moved (part_of d.world o) part bounds)
 
   -- before a new node is inserted

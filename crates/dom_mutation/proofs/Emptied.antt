@@ -11,7 +11,7 @@ use Rattle.dom_model.specs.Part.{next_name}
 use Rattle.dom_model.specs.Steps.{Step, make, queue_record}
 use Rattle.dom_model.specs.World.{World, part_of}
 use Rattle.dom_model.specs.WorldSteps.{world_after}
-use Rattle.dom_model.specs.Changes.{Plan, ◌and_then◌, doing, steps_of, only_if, in_turn, suppressed, removing, inserting, document_below}
+use Rattle.dom_model.specs.Changes.{Plan, ◌and_then◌, doing, steps_of, only_if, in_turn, suppressed, remove_plan, insert_plan, document_below}
 use Rattle.dom_model.specs.TextChanges.{new_text_node, replacing_children}
 use Rattle.dom_model.proofs.PartLaws.{owner-part_of}
 use Rattle.dom_tree.specs.Forest.{name_at}
@@ -48,7 +48,7 @@ none_above_parent d counted node ks e =
 -- The state e after the children of a node are taken out.
 module _ (d e : DocState) (counted : Counted d) (node text : ℕ) (ks : List ℕ)
     (listed : map (name_in d) ks ≡ children_of (trees_in d node) (name_in d node))
-    (taken : e ≡ planned (owner_in d node) (in_turn (removing suppressed) (map (name_in d) ks)) d) where
+    (taken : e ≡ planned (owner_in d node) (in_turn (remove_plan suppressed) (map (name_in d) ks)) d) where
   -- when they are taken out, a Text may move there
   pub text_may : ((y : NodeName) → NoneAbove d node y ks → inclusive_ancestors (trees_in e node) y ≡ inclusive_ancestors (trees_in d node) y) →
       text < length d.names → owner_in d text ≡ owner_in d node → is_inclusive_ancestor (trees_in d node) (name_in d text) (name_in d node) ≡ false →
@@ -73,17 +73,17 @@ module _ (d : DocState) (node : ℕ) (alone : IsAlone d.world (owner_in d node))
   x = name_in d node
 
   abbrev put_none : NodeName → Plan
-  put_none y = inserting suppressed y x None
+  put_none y = insert_plan suppressed y x None
 
   abbrev all : List NodeName → List Step → DocState
-  all old told = planned o (steps_of [] and_then in_turn (removing suppressed) old and_then in_turn put_none [] and_then steps_of told) d
+  all old told = planned o (steps_of [] and_then in_turn (remove_plan suppressed) old and_then in_turn put_none [] and_then steps_of told) d
 
-  cleared : (old : List NodeName) (told : List Step) → planned o (steps_of told) (planned o (in_turn (removing suppressed) old) d) ≡ all old told
+  cleared : (old : List NodeName) (told : List Step) → planned o (steps_of told) (planned o (in_turn (remove_plan suppressed) old) d) ≡ all old told
   cleared old told =
-      let out = in_turn (removing suppressed) old in
+      let out = in_turn (remove_plan suppressed) old in
       let none : PlansOwn o (steps_of []) = λ p own. tt in
       let none_put : PlansOwn o (in_turn put_none []) = λ p own. tt in
-      let taken = plans_then o (steps_of []) out none (plans_each o (removing suppressed) (plans_removing o suppressed) old) in
+      let taken = plans_then o (steps_of []) out none (plans_each o (remove_plan suppressed) (plans_removing o suppressed) old) in
       ap (planned o (steps_of told)) (planned_then o (steps_of []) out d alone none)
       ∙ ap (planned o (steps_of told)) (planned_then o (steps_of [] and_then out) (in_turn put_none []) d alone taken)
       ∙ planned_then o (steps_of [] and_then out and_then in_turn put_none []) (steps_of told) d alone
@@ -94,14 +94,14 @@ module _ (d : DocState) (node : ℕ) (alone : IsAlone d.world (owner_in d node))
 
   -- without children, and with some
   pub cleared_none : (e : DocState) (ks : List ℕ) → ks ≡ [] → map (name_in d) ks ≡ children_of (trees_in d node) x →
-      e ≡ planned o (in_turn (removing suppressed) (map (name_in d) ks)) d
+      e ≡ planned o (in_turn (remove_plan suppressed) (map (name_in d) ks)) d
       → e ≡ planned o (replacing_children x []) d
   cleared_none e ks nil listed taken =
-      taken ∙ ap (λ js. planned o (in_turn (removing suppressed) (map (name_in d) js)) d) nil ∙ cleared [] [] ∙
+      taken ∙ ap (λ js. planned o (in_turn (remove_plan suppressed) (map (name_in d) js)) d) nil ∙ cleared [] [] ∙
       ap (λ old. all old (told_of old)) (ap (map (name_in d)) (sym nil) ∙ listed)
 
   pub cleared_some : {e g : DocState} (ks : List ℕ) → is_empty ks ≡ false → map (name_in d) ks ≡ children_of (trees_in d node) x →
-      e ≡ planned o (in_turn (removing suppressed) (map (name_in d) ks)) d
+      e ≡ planned o (in_turn (remove_plan suppressed) (map (name_in d) ks)) d
       → g ≡ stepped (owner_in e node) (queue_record (child_list (name_in e node) [] (map (name_in e) ks) None None)) e →
       g ≡ planned o (replacing_children x []) d
   cleared_some [] some listed taken told = cc
@@ -135,10 +135,10 @@ module _ {d e : DocState} {node new : ℕ} {doc : Option NodeName} {text : DomSt
   and_false false = refl
 
   abbrev clear_plan : List NodeName → Plan
-  clear_plan zs = in_turn (removing suppressed) zs
+  clear_plan zs = in_turn (remove_plan suppressed) zs
 
   abbrev put_plan : NodeName → Plan
-  put_plan w = inserting suppressed w z None
+  put_plan w = insert_plan suppressed w z None
 
   abbrev record_plan : List NodeName → Plan
   record_plan zs = doing (queue_record (child_list z (y ∷ []) zs None None))
@@ -157,7 +157,7 @@ module _ {d e : DocState} {node new : ℕ} {doc : Option NodeName} {text : DomSt
   text_whole g some documented is =
       let make_plan : Plan = doing (make (new_text_node y doc text)) in
       let made_own : PlansOwn p make_plan = λ q own. (tt, tt) in
-      let clear_own = plans_each p (removing suppressed) (plans_removing p suppressed) old in
+      let clear_own = plans_each p (remove_plan suppressed) (plans_removing p suppressed) old in
       let put_own = plans_inserting p suppressed y z None (owner-part_of d.world p) in
       let cleared_own = plans_then p make_plan (clear_plan old) made_own clear_own in
       let now = alone_new is_made in

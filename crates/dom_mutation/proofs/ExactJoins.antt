@@ -8,7 +8,7 @@ use Rattle.dom_base.specs.declared.NodeName.{NodeName}
 use Rattle.dom_model.specs.Names.{name_eq, first_of, items_before}
 use Rattle.dom_model.specs.Part.{Part}
 use Rattle.dom_model.specs.Steps.{join_at, after}
-use Rattle.dom_model.specs.TextChanges.{replacing_data, joins, texts_after}
+use Rattle.dom_model.specs.TextChanges.{replacing_data, joins, contiguous_texts_after}
 use Rattle.dom_model.specs.Tree.{Trees, none, tree, Node, node_in, kind_of, names_of, roots, subtree, trees_below, children_of, parent_of, index_of}
 use Rattle.dom_model.specs.Tree.{length_of}
 use Rattle.dom_model.specs.TreeChanges.{map_nodes, change_node, with_data_replaced}
@@ -54,11 +54,11 @@ index_changed f keeps x ts y = index_mapped (λ n. cond (name_eq n.name x) (f n)
 
 -- those made after the data came are the plan's
 pub joins_after : (x q : NodeName) {p : Part} (size : ℕ) → IsPart p → IsTextOf p x → {parent : NodeName} → parent_of p.trees x ≡ Some parent →
-    let nexts = texts_after p.trees x in
+    let nexts = contiguous_texts_after p.trees x in
     let all = flat_map (λ y. (node_in p.trees y).text) nexts in
     joins (after p (replacing_data x (length_of p.trees x) 0 all p)).trees x q size nexts ≡ joins p.trees x q size nexts
 joins_after x q {p} size i is {parent} up =
-    let nexts = texts_after p.trees x in
+    let nexts = contiguous_texts_after p.trees x in
     let all = flat_map (λ y. (node_in p.trees y).text) nexts in
     let now = after p (replacing_data x (length_of p.trees x) 0 all p) in
     let fits = joining-fits x parent p i (has_node-times p.trees x is.there) (text-data (kind_of p.trees x) is.text) up in

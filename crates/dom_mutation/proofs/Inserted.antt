@@ -14,7 +14,7 @@ use Rattle.dom_model.specs.Part.{Part}
 use Rattle.dom_model.specs.Steps.{Step}
 use Rattle.dom_model.specs.World.{part_of}
 use Rattle.dom_model.specs.WorldSteps.{world_after}
-use Rattle.dom_model.specs.Changes.{Plan, Observing, ◌and_then◌, in_turn, steps_of, telling, emptying, making_room, placing, sibling_before, inserting}
+use Rattle.dom_model.specs.Changes.{Plan, Observing, ◌and_then◌, in_turn, steps_of, telling, emptying, making_room, placing, sibling_before, insert_plan}
 use Rattle.dom_model.proofs.OwnerLaws.{name_eq-same}
 use Rattle.dom_laws.proofs.Counts.{times_in-tree, one-true}
 use Rattle.dom_parts.specs.Doc.{DocState, planned, placed_all, name_in, owner_in, trees_in, MayMove, IsChild, NoneAbove}
@@ -40,7 +40,7 @@ module _ (o : Owner) (how : Observing) (node parent : NodeName) (before : Option
       if is_empty moved then [] else placing_plan moved (if b then emptying node moved else steps_of []) (sibling_before p.trees parent before) p
 
   steps_as : (p : Part) (b : Bool) → is_fragment (kind_of p.trees node) ≡ b →
-      inserting how node parent before p ≡ steps_if p b (if b then children_of p.trees node else node ∷ [])
+      insert_plan how node parent before p ≡ steps_if p b (if b then children_of p.trees node else node ∷ [])
   steps_as p b e = ap (λ t. steps_if p t (if t then children_of p.trees node else node ∷ [])) e
 
   abbrev with_steps : DocState → List Step → DocState
@@ -65,7 +65,7 @@ module _ (o : Owner) (how : Observing) (node parent : NodeName) (before : Option
 
       -- one node
       pub inserted_one : is_fragment (kind_of ts node) ≡ false →
-          placed_all how (node ∷ []) parent before (sibling_before ts parent before) o d ≡ planned o (inserting how node parent before) d
+          placed_all how (node ∷ []) parent before (sibling_before ts parent before) o d ≡ planned o (insert_plan how node parent before) d
       inserted_one e =
           placed_plan (node ∷ []) (steps_of []) (sibling_before ts parent before) (λ p h. tt) (own, tt) ∙
           ap (with_steps d) (sym (steps_as (part_of d.world o) false e))
@@ -73,7 +73,7 @@ module _ (o : Owner) (how : Observing) (node parent : NodeName) (before : Option
       -- a fragment's children
       pub inserted_children : is_fragment (kind_of ts node) ≡ true → is_empty (children_of ts node) ≡ false
           → placed_all how (children_of ts node) parent before (sibling_before ts parent before) o
-          (planned o (emptying node (children_of ts node)) d) ≡ planned o (inserting how node parent before) d
+          (planned o (emptying node (children_of ts node)) d) ≡ planned o (insert_plan how node parent before) d
       inserted_children e some =
           let moved = children_of ts node in
           placed_plan moved (emptying node moved) (sibling_before ts parent before) (plans_emptying o node moved) (children_own o ts node alone.own)

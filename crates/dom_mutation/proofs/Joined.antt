@@ -16,8 +16,8 @@ use Rattle.dom_model.specs.Tree.{times_in, is_inclusive_ancestor, subtree, inclu
 use Rattle.dom_model.specs.Steps.{Step}
 use Rattle.dom_model.specs.World.{part_of}
 use Rattle.dom_model.specs.WorldSteps.{world_after}
-use Rattle.dom_model.specs.Changes.{◌and_then◌, observed, removing}
-use Rattle.dom_model.specs.TextChanges.{texts_after, joining, normalizing_text}
+use Rattle.dom_model.specs.Changes.{◌and_then◌, observed, remove_plan}
+use Rattle.dom_model.specs.TextChanges.{contiguous_texts_after, joining, normalizing_text}
 use Rattle.dom_model.proofs.OwnerLaws.{name_eq-same}
 use Rattle.dom_tree.specs.Forest.{name_at}
 use Rattle.dom_parts.specs.Doc.{DocState, planned, name_in, owner_in, trees_in, IsOwnNode}
@@ -48,11 +48,11 @@ after_first x y (w ∷ ws) rest once e = elim (cases_Bool (name_eq x w)) [
 -- some names, and where a walk along these Texts stands, that Text and those after it
 abbrev pub with_rest : Trees → List NodeName → Option NodeName → List NodeName
 with_rest ts xs None = xs
-with_rest ts xs (Some y) = xs ++ y ∷ texts_after ts y
+with_rest ts xs (Some y) = xs ++ y ∷ contiguous_texts_after ts y
 
 abbrev pub rest_length : Trees → Option NodeName → ℕ
 rest_length ts None = 0
-rest_length ts (Some y) = suc (length (texts_after ts y))
+rest_length ts (Some y) = suc (length (contiguous_texts_after ts y))
 
 -- with the first of some names, these are all of them
 record IsRest (ts : Trees) (zs : List NodeName) (o : Option NodeName) : Type 0 where
@@ -62,35 +62,36 @@ record IsRest (ts : Trees) (zs : List NodeName) (o : Option NodeName) : Type 0 w
 rest_none : (ts : Trees) (zs : List NodeName) → zs ≡ [] → IsRest ts zs (first_of zs)
 rest_none ts zs e = subst (λ ys. IsRest ts ys (first_of ys)) (sym e) (record { all = λ xs. sym (append-nil xs); size = refl })
 
-rest_some : (ts : Trees) (zs : List NodeName) (y : NodeName) → zs ≡ y ∷ texts_after ts y → IsRest ts zs (first_of zs)
+rest_some : (ts : Trees) (zs : List NodeName) (y : NodeName) → zs ≡ y ∷ contiguous_texts_after ts y → IsRest ts zs (first_of zs)
 rest_some ts zs y e = subst (λ ys. IsRest ts ys (first_of ys)) (sym e) (record { all = λ xs. refl; size = refl })
 
 -- so they are with the first Text after a Text
-after_rest : (ts : Trees) → Once ts → (x : NodeName) → IsRest ts (texts_after ts x) (first_of (texts_after ts x))
+after_rest : (ts : Trees) → Once ts → (x : NodeName) → IsRest ts (contiguous_texts_after ts x) (first_of (contiguous_texts_after ts x))
 after_rest ts once x = by_parent (parent_of ts x) refl
   where
     by_items : (q : NodeName) (zs : List NodeName) → parent_of ts x ≡ Some q → items_after name_eq x (children_of ts q) ≡ zs →
-        texts_after ts x ≡ take_while (λ y. is_text (kind_of ts y)) zs → IsRest ts (texts_after ts x) (first_of (texts_after ts x))
-    by_items q [] up items e = rest_none ts (texts_after ts x) e
+        contiguous_texts_after ts x ≡ take_while (λ y. is_text (kind_of ts y)) zs → IsRest ts (contiguous_texts_after ts x) (first_of
+        (contiguous_texts_after ts x))
+    by_items q [] up items e = rest_none ts (contiguous_texts_after ts x) e
     by_items q (y ∷ rest) up items e = elim (cases_Bool (is_text (kind_of ts y))) [
       | inl h ↦
           let next : next_sibling ts x ≡ Some y =
           ap (λ o. first_of (items_after name_eq x (option_map_or (children_of ts) o (x ∷ [])))) up ∙ ap first_of items in
           let beside = (next_child ts once x q y up next).0 in
-          let behind : texts_after ts y ≡ take_while (λ y. is_text (kind_of ts y)) rest =
+          let behind : contiguous_texts_after ts y ≡ take_while (λ y. is_text (kind_of ts y)) rest =
           ap (λ o. take_while (λ y. is_text (kind_of ts y)) (items_after name_eq y (option_map_or (children_of ts) o (y ∷ [])))) beside
           ∙ ap (λ zs. take_while (λ y. is_text (kind_of ts y)) zs) (after_first x y (children_of ts q) rest (children_once ts q once) items) in
-          rest_some ts (texts_after ts x) y
+          rest_some ts (contiguous_texts_after ts x) y
           (e ∙ take_while-cons (λ y. is_text (kind_of ts y)) y rest ∙
           cond-true (is_text (kind_of ts y)) (y ∷ take_while (λ y. is_text (kind_of ts y)) rest) [] h ∙ ap (λ zs. y ∷ zs) (sym behind))
-      | inr h ↦ rest_none ts (texts_after ts x)
+      | inr h ↦ rest_none ts (contiguous_texts_after ts x)
           (e ∙ take_while-cons (λ y. is_text (kind_of ts y)) y rest ∙
           cond-false (is_text (kind_of ts y)) (y ∷ take_while (λ y. is_text (kind_of ts y)) rest) [] h)
     ]
 
-    by_parent : (o : Option NodeName) → parent_of ts x ≡ o → IsRest ts (texts_after ts x) (first_of (texts_after ts x))
+    by_parent : (o : Option NodeName) → parent_of ts x ≡ o → IsRest ts (contiguous_texts_after ts x) (first_of (contiguous_texts_after ts x))
     by_parent None up =
-        rest_none ts (texts_after ts x)
+        rest_none ts (contiguous_texts_after ts x)
         (ap (λ o. take_while (λ y. is_text (kind_of ts y)) (items_after name_eq x (option_map_or (children_of ts) o (x ∷ [])))) up
         ∙ ap (λ zs. take_while (λ y. is_text (kind_of ts y)) zs) (cond-true (name_eq x x) [] [] (name_eq-same x)))
     by_parent (Some q) up =
@@ -113,18 +114,18 @@ first_while p (z ∷ zs) y e = by (p z) refl
 
 -- that is the next sibling, where it is a Text
 pub text_next : (ts : Trees) (x y : NodeName) (b : Bool) → next_sibling ts x ≡ Some y → is_text (kind_of ts y) ≡ b →
-    (if b then Some y else None) ≡ first_of (texts_after ts x)
+    (if b then Some y else None) ≡ first_of (contiguous_texts_after ts x)
 text_next ts x y b next kind = sym (first_while (λ y. is_text (kind_of ts y)) (items_after name_eq x (siblings ts x)) y next ∙
     ap (λ t. if t then Some y else None) kind)
 
 -- how far the loop has come that lists them
 pub record Follows (d : DocState) (node : ℕ) (keys : List ℕ) (at : Option ℕ) : Type 0 where
-  pub listed : with_rest (trees_in d node) (map (name_in d) keys) (option_map (name_in d) at) ≡ texts_after (trees_in d node) (name_in d node)
+  pub listed : with_rest (trees_in d node) (map (name_in d) keys) (option_map (name_in d) at) ≡ contiguous_texts_after (trees_in d node) (name_in d node)
   pub nodes : AllByRecursion (IsOwnNode d node) keys
   pub here : ForSome at (IsOwnNode d node)
 
 pub follows_first : (d : DocState) → Counted d → (node : ℕ) (at : Option ℕ) →
-    option_map (name_in d) at ≡ first_of (texts_after (trees_in d node) (name_in d node)) → ForSome at (IsOwnNode d node) → Follows d node [] at
+    option_map (name_in d) at ≡ first_of (contiguous_texts_after (trees_in d node) (name_in d node)) → ForSome at (IsOwnNode d node) → Follows d node [] at
 follows_first d counted node at found near = record {
   listed = ap (with_rest (trees_in d node) []) found ∙ (after_rest (trees_in d node) (once_in d counted (owner_in d node)) (name_in d node)).all [];
   nodes = tt;
@@ -133,20 +134,22 @@ follows_first d counted node at found near = record {
 
 -- a step of it
 pub follows_next : {d : DocState} → Counted d → {node : ℕ} {keys : List ℕ} {at : Option ℕ} (next : Option ℕ) {k : ℕ} → at ≡ Some k → Follows d node keys at
-    → option_map (name_in d) next ≡ first_of (texts_after (trees_in d k) (name_in d k)) → ForSome next (IsOwnNode d k)
+    → option_map (name_in d) next ≡ first_of (contiguous_texts_after (trees_in d k) (name_in d k)) → ForSome next (IsOwnNode d k)
     → Follows d node (keys ++ k ∷ []) next ×
     (rest_length (trees_in d node) (option_map (name_in d) next) < rest_length (trees_in d node) (option_map (name_in d) at))
 follows_next {d} counted {node} {keys} next {k} is follows found near =
     let ts = trees_in d node in
     let y = name_in d k in
     let here = follows.here k is in
-    let own : option_map (name_in d) next ≡ first_of (texts_after ts y) = found ∙ ap (λ o. first_of (texts_after (part_of d.world o).trees y)) here.1 in
-    let rest = subst (IsRest ts (texts_after ts y)) (sym own) (after_rest ts (once_in d counted (owner_in d node)) y) in
-    let listed = subst (λ (o : Option ℕ). with_rest ts (map (name_in d) keys) (option_map (name_in d) o) ≡ texts_after ts (name_in d node)) is follows.listed in
+    let own : option_map (name_in d) next ≡ first_of (contiguous_texts_after ts y) = found ∙ ap (λ o. first_of (contiguous_texts_after
+    (part_of d.world o).trees y)) here.1 in
+    let rest = subst (IsRest ts (contiguous_texts_after ts y)) (sym own) (after_rest ts (once_in d counted (owner_in d node)) y) in
+    let listed = subst (λ (o : Option ℕ). with_rest ts (map (name_in d) keys) (option_map (name_in d) o) ≡ contiguous_texts_after ts
+    (name_in d node)) is follows.listed in
     let size = rest.size in (
       record {
-        listed = rest.all (map (name_in d) (keys ++ k ∷ [])) ∙ ap (λ xs. xs ++ texts_after ts y) (map-append (name_in d) keys (k ∷ [])) ∙
-            append_assoc (map (name_in d) keys) (y ∷ []) (texts_after ts y) ∙ listed;
+        listed = rest.all (map (name_in d) (keys ++ k ∷ [])) ∙ ap (λ xs. xs ++ contiguous_texts_after ts y) (map-append (name_in d) keys (k ∷ [])) ∙
+            append_assoc (map (name_in d) keys) (y ∷ []) (contiguous_texts_after ts y) ∙ listed;
         nodes = all_push (IsOwnNode d node) keys k follows.nodes here;
         here = λ j e. let h = near j e in (h.0, h.1 ∙ here.1);
       },
@@ -185,18 +188,18 @@ module _ (d : DocState) (node : ℕ) where
   join_to nexts q = if is_empty nexts then [] else joining x q nexts (part_of d.world o)
 
   abbrev steps_if : Bool → Option NodeName → List NodeName → List Step
-  steps_if b up nexts = if b then removing observed x (part_of d.world o) else option_map_or (join_to nexts) up []
+  steps_if b up nexts = if b then remove_plan observed x (part_of d.world o) else option_map_or (join_to nexts) up []
 
   abbrev after_steps : List Step → DocState
   after_steps steps = record d { world = world_after o d.world steps }
 
   pub normal_joined : {e : DocState} {q : NodeName} (ks : List ℕ) → (length_of ts x == 0) ≡ false → parent_of ts x ≡ Some q →
-      map (name_in d) ks ≡ texts_after ts x → is_empty ks ≡ false
+      map (name_in d) ks ≡ contiguous_texts_after ts x → is_empty ks ≡ false
       → e ≡ planned o (joining x q (map (name_in d) ks)) d → e ≡ planned o (normalizing_text x) d
   normal_joined [] h up listed some is = cc
   normal_joined {q} (k ∷ ks) h up listed some is =
-      is ∙ ap (λ ys. after_steps (steps_if false (Some q) ys)) listed ∙ ap (λ a. after_steps (steps_if false a (texts_after ts x))) (sym up) ∙
-      ap (λ b. after_steps (steps_if b (parent_of ts x) (texts_after ts x))) (sym h)
+      is ∙ ap (λ ys. after_steps (steps_if false (Some q) ys)) listed ∙ ap (λ a. after_steps (steps_if false a (contiguous_texts_after ts x))) (sym up) ∙
+      ap (λ b. after_steps (steps_if b (parent_of ts x) (contiguous_texts_after ts x))) (sym h)
 
 -- ---- the Texts below a node
 

@@ -6,7 +6,7 @@ use Rattle.dom_base.specs.declared.NodeName.{NodeName}
 use Rattle.dom_model.specs.Names.{DomString}
 use Rattle.dom_model.specs.Part.{Part}
 use Rattle.dom_model.specs.Steps.{after}
-use Rattle.dom_model.specs.TextChanges.{replacing_data, joins, texts_after}
+use Rattle.dom_model.specs.TextChanges.{replacing_data, joins, contiguous_texts_after}
 use Rattle.dom_model.specs.Tree.{node_in, has_node, is_text, kind_of, parent_of, length_of}
 use Rattle.dom_model.specs.World.{part_of}
 use Rattle.dom_worlds.specs.Bounds.{HasBounds}
@@ -32,7 +32,7 @@ module _ (d e : DocState) (node parent size : ℕ) (units : DomString) (ks : Lis
     (part : IsPart (part_of d.world (owner_in d node))) (bounds : HasBounds (part_of d.world (owner_in d node)))
     (there : has_node (trees_in d node) (name_in d node) ≡ true) (text : is_text (kind_of (trees_in d node) (name_in d node)) ≡ true)
     (up : parent_of (trees_in d node) (name_in d node) ≡ Some (name_in d parent))
-    (listed : map (name_in d) ks ≡ texts_after (trees_in d node) (name_in d node)) (sized : size ≡ length_of (trees_in d node) (name_in d node))
+    (listed : map (name_in d) ks ≡ contiguous_texts_after (trees_in d node) (name_in d node)) (sized : size ≡ length_of (trees_in d node) (name_in d node))
     (collected : units ≡ flat_map (λ y. (node_in (trees_in d node) y).text) (map (name_in d) ks))
     (made : e ≡ planned (owner_in d node) (replacing_data (name_in d node) size 0 units) d) where
   abbrev p : Part
@@ -42,7 +42,7 @@ module _ (d e : DocState) (node parent size : ℕ) (units : DomString) (ks : Lis
   x = name_in d node
 
   abbrev all : DomString
-  all = flat_map (λ y. (node_in p.trees y).text) (texts_after p.trees x)
+  all = flat_map (λ y. (node_in p.trees y).text) (contiguous_texts_after p.trees x)
 
   -- the owner's trees then
   grown : (part_of e.world (owner_in d node)).trees ≡ (after p (replacing_data x (length_of p.trees x) 0 all p)).trees

@@ -11,7 +11,7 @@ use Rattle.dom_model.specs.TreeChanges.{taken_out, placed, change_subtree, with_
 use Rattle.dom_model.specs.Part.{Part}
 use Rattle.dom_model.specs.Steps.{place, take_out, set_document, after, part_step, leave}
 use Rattle.dom_model.specs.World.{part_of}
-use Rattle.dom_model.specs.Changes.{Observing, observed, suppressed, removing, removing_from, changing_document, adopting, has_document, only_if}
+use Rattle.dom_model.specs.Changes.{Observing, observed, suppressed, remove_plan, removing_from, changing_document, adopt_plan, has_document, only_if}
 use Rattle.dom_tree.specs.Forest.{name_at}
 use Rattle.dom_parts.specs.Doc.{DocState, planned, stepped, name_in, owner_in, trees_in, MayMove, IsChild, KeepsPaths}
 use Rattle.dom_parts.specs.Hosting.{IsAlone}
@@ -26,7 +26,7 @@ use Rattle.dom_parts.proofs.OwnPlans.{plans_removing, plans_adopting}
 abbrev Removed : NodeName → Trees → Trees → Type 0
 Removed x ts us = ((parent_of ts x ≡ None) × (us ≡ ts)) ⊎ (us ≡ taken_out x ts)
 
-removed_trees : (how : Observing) (x : NodeName) (p : Part) → Removed x p.trees (after p (removing how x p)).trees
+removed_trees : (how : Observing) (x : NodeName) (p : Part) → Removed x p.trees (after p (remove_plan how x p)).trees
 removed_trees how x p = by_parent how (parent_of p.trees x) refl
   where
     at : (how : Observing) (a : Option NodeName) → Trees
@@ -71,36 +71,36 @@ documented_path d x p y = by (not (has_document p.trees d x))
 -- an adoption
 module _ (d x : NodeName) (p : Part) where
   abbrev moved : Part
-  moved = after p (removing observed x p)
+  moved = after p (remove_plan observed x p)
 
-  adopted_is : (after p (adopting d x p)).trees ≡ (after moved (changing_document d x moved)).trees
-  adopted_is = ap (λ (q : Part). q.trees) (after_append p (removing observed x p) (changing_document d x moved))
+  adopted_is : (after p (adopt_plan d x p)).trees ≡ (after moved (changing_document d x moved)).trees
+  adopted_is = ap (λ (q : Part). q.trees) (after_append p (remove_plan observed x p) (changing_document d x moved))
 
   adopted_path : Once p.trees → (y : NodeName) → Lacks x (inclusive_ancestors p.trees y) →
-      inclusive_ancestors (after p (adopting d x p)).trees y ≡ inclusive_ancestors p.trees y
+      inclusive_ancestors (after p (adopt_plan d x p)).trees y ≡ inclusive_ancestors p.trees y
   adopted_path once y lacks = ap (λ t. inclusive_ancestors t y) adopted_is ∙ documented_path d x moved y ∙
       removed_path x once (removed_trees observed x p) y lacks
 
-  adopted_parent : parent_of (after p (adopting d x p)).trees x ≡ None
+  adopted_parent : parent_of (after p (adopt_plan d x p)).trees x ≡ None
   adopted_parent =
       ap (λ t. parent_of t x) adopted_is ∙ ap (λ path. first_of (drop 1 path)) (documented_path d x moved x) ∙
       removed_parent x p.trees moved.trees (removed_trees observed x p)
 
 -- ---- the same of states
 module _ (o : Owner) (d : DocState) (alone : IsAlone d.world o) where
-  pub parent_adopted : (doc x : NodeName) → x.owner ≡ o → parent_of (part_of (planned o (adopting doc x) d).world o).trees x ≡ None
-  parent_adopted doc x own = ap (λ t. parent_of t x) (trees_after o (adopting doc x) d alone (plans_adopting o doc x own)) ∙
+  pub parent_adopted : (doc x : NodeName) → x.owner ≡ o → parent_of (part_of (planned o (adopt_plan doc x) d).world o).trees x ≡ None
+  parent_adopted doc x own = ap (λ t. parent_of t x) (trees_after o (adopt_plan doc x) d alone (plans_adopting o doc x own)) ∙
       adopted_parent doc x (part_of d.world o)
 
   pub path_adopted : Once (part_of d.world o).trees → (doc x y : NodeName) → x.owner ≡ o → Lacks x (inclusive_ancestors (part_of d.world o).trees y)
-      → inclusive_ancestors (part_of (planned o (adopting doc x) d).world o).trees y ≡ inclusive_ancestors (part_of d.world o).trees y
-  path_adopted once doc x y own lacks = ap (λ t. inclusive_ancestors t y) (trees_after o (adopting doc x) d alone (plans_adopting o doc x own)) ∙
+      → inclusive_ancestors (part_of (planned o (adopt_plan doc x) d).world o).trees y ≡ inclusive_ancestors (part_of d.world o).trees y
+  path_adopted once doc x y own lacks = ap (λ t. inclusive_ancestors t y) (trees_after o (adopt_plan doc x) d alone (plans_adopting o doc x own)) ∙
       adopted_path doc x (part_of d.world o) once y lacks
 
   pub path_removed : Once (part_of d.world o).trees → (how : Observing) (x y : NodeName) → Lacks x (inclusive_ancestors (part_of d.world o).trees y)
-      → inclusive_ancestors (part_of (planned o (removing how x) d).world o).trees y ≡ inclusive_ancestors (part_of d.world o).trees y
+      → inclusive_ancestors (part_of (planned o (remove_plan how x) d).world o).trees y ≡ inclusive_ancestors (part_of d.world o).trees y
   path_removed once how x y lacks =
-      ap (λ t. inclusive_ancestors t y) (trees_after o (removing how x) d alone (plans_removing o how x))
+      ap (λ t. inclusive_ancestors t y) (trees_after o (remove_plan how x) d alone (plans_removing o how x))
       ∙ removed_path x once
       (removed_trees how x (part_of d.world o)) y lacks
 
@@ -133,9 +133,9 @@ before_lacks {d} counted {parent} {node} may child {b} is =
 module _ (d e : DocState) (counted : Counted d) (parent node : ℕ) (before : Option ℕ) (may : MayMove d parent before node)
     (child : ForSome before (IsChild d parent))
     (alone : (k : ℕ) → k < length d.names → IsAlone d.world (owner_in d k)) (parent_is : parent < length d.names) (doc : NodeName)
-    (is : e ≡ planned (owner_in d node) (adopting doc (name_in d node)) d) where
-  is_own : e ≡ planned (owner_in d parent) (adopting doc (name_in d node)) d
-  is_own = is ∙ ap (λ o. planned o (adopting doc (name_in d node)) d) may.owner
+    (is : e ≡ planned (owner_in d node) (adopt_plan doc (name_in d node)) d) where
+  is_own : e ≡ planned (owner_in d parent) (adopt_plan doc (name_in d node)) d
+  is_own = is ∙ ap (λ o. planned o (adopt_plan doc (name_in d node)) d) may.owner
 
   pub asked_unlinked : parent_of (trees_in e node) (name_in e node) ≡ None
   asked_unlinked = subst (λ (s : DocState). parent_of (trees_in s node) (name_in s node) ≡ None) (sym is)
@@ -171,7 +171,7 @@ module _ (d e : DocState) (counted : Counted d) (parent node : ℕ) (before : Op
   alone_now : IsAlone e.world (owner_in e parent)
   alone_now =
       subst (λ (s : DocState). IsAlone s.world (owner_in s parent)) (sym is_own)
-      (alone_made (owner_in d parent) (adopting doc (name_in d node)) d.world (alone parent parent_is)
+      (alone_made (owner_in d parent) (adopt_plan doc (name_in d node)) d.world (alone parent parent_is)
       (plans_adopting (owner_in d parent) doc (name_in d node) may.owner))
 
   -- and after the placing
@@ -189,7 +189,7 @@ module _ (d e : DocState) (counted : Counted d) (parent node : ℕ) (before : Op
 
 -- ---- a removal keeps the paths of others
 pub removal_keeps : (d : DocState) {f : DocState} → Counted d → (k : ℕ) → IsAlone d.world (owner_in d k) → (how : Observing) →
-    f ≡ planned (owner_in d k) (removing how (name_in d k)) d → KeepsPaths k (name_in d k) d f
+    f ≡ planned (owner_in d k) (remove_plan how (name_in d k)) d → KeepsPaths k (name_in d k) d f
 removal_keeps d {f} counted k alone how is y off =
     subst (λ (s : DocState). inclusive_ancestors (trees_in s k) y ≡ inclusive_ancestors (trees_in d k) y) (sym is)
     (path_removed (owner_in d k) d alone (once_in d counted (owner_in d k)) how (name_in d k) y

@@ -8,7 +8,7 @@ use Rattle.dom_base.specs.declared.Kind.{Kind}
 use Rattle.dom_base.specs.declared.Kind.TheVariants.{Document, Fragment, Shadow, Element, Text, Comment}
 use Rattle.dom_base.specs.declared.NodeName.{NodeName}
 use Rattle.dom_base.specs.declared.Refusal.TheVariants.{Hierarchy, NotFound}
-use Rattle.dom_model.specs.Changes.{Plan, observed, removing, adopting, inserting, replacing, setting_attribute}
+use Rattle.dom_model.specs.Changes.{Plan, observed, remove_plan, adopt_plan, insert_plan, replace_plan, setting_attribute}
 use Rattle.dom_model.specs.Changes.{unsetting_attribute}
 use Rattle.dom_model.specs.CommandRefusals.{of_range}
 use Rattle.dom_model.specs.Effects.{plan_of_range}
@@ -20,7 +20,7 @@ use Rattle.dom_model.specs.Ranges.{Range}
 use Rattle.dom_model.specs.Steps.{Step, make, set_document, set_range, after}
 use Rattle.dom_model.specs.TextChanges.{replacing_data, replacing_all_data, replacing_children, splitting, normalizing, setting_text}
 use Rattle.dom_model.specs.Tree.{Trees, Node, has_node, kind_of, has_data, is_document, is_text, is_shadow, child_nodes, is_inclusive_ancestor}
-use Rattle.dom_model.specs.Validity.{first_refusal, has_parent, may_be_parent, may_be_inserted, placing_tests, insertion_refusal, replacement_refusal}
+use Rattle.dom_model.specs.Validity.{first_refusal, has_parent, may_be_parent, may_be_inserted, placing_tests, pre_insert_refusal, replace_refusal}
 use Rattle.dom_model.proofs.KindLaws.{parent-open}
 use Rattle.dom_worlds.specs.Bounds.{HasBounds, IsWithin}
 use Rattle.dom_worlds.specs.Tables.{EndsIn, HasEnds}
@@ -84,10 +84,10 @@ tested ts parent x is_lost others h =
     }
 
 -- of an insertion and a replacement
-pub insertion-tested : (ts : Trees) (parent x : NodeName) (child : Option NodeName) → insertion_refusal ts parent x child ≡ None → MayPlace ts parent x
+pub insertion-tested : (ts : Trees) (parent x : NodeName) (child : Option NodeName) → pre_insert_refusal ts parent x child ≡ None → MayPlace ts parent x
 insertion-tested ts parent x child h = tested ts parent x (option_map_or (λ c. not (has_parent ts parent c)) child false) (child_nodes ts parent) h
 
-replacement-tested : (ts : Trees) (parent x child : NodeName) → replacement_refusal ts parent x child ≡ None → MayPlace ts parent x
+replacement-tested : (ts : Trees) (parent x child : NodeName) → replace_refusal ts parent x child ≡ None → MayPlace ts parent x
 replacement-tested ts parent x child h =
     tested ts parent x (not (has_parent ts parent child)) (filter (λ (n : Node). not (name_eq n.name child)) (child_nodes ts parent)) h
 
@@ -136,31 +136,31 @@ module _ (p : Part) (i : IsPart p) (h : IsReadyPart p) where
   ready-by f made bounds k = record { made = made; bounds = bounds; roots = lone-plan f k }
 
   -- a removal and an adoption
-  pub ready-removing : (x : NodeName) → KeepReady p (removing observed x p)
+  pub ready-removing : (x : NodeName) → KeepReady p (remove_plan observed x p)
   ready-removing x =
-      ready-by (removing observed x) (leads-removing observed x p i).made (removal-keeps observed x p i h.bounds) (keeps-removing (lone-rules p) observed x)
+      ready-by (remove_plan observed x) (leads-removing observed x p i).made (removal-keeps observed x p i h.bounds) (keeps-removing (lone-rules p) observed x)
 
-  pub ready-adopting : (d x : NodeName) → IsTrue (has_node p.trees x) → KeepReady p (adopting d x p)
+  pub ready-adopting : (d x : NodeName) → IsTrue (has_node p.trees x) → KeepReady p (adopt_plan d x p)
   ready-adopting d x t =
-      ready-by (adopting d x) (leads-adopting d x p i (i.owned x (has_node-times p.trees x t))).made (adoption-keeps d x p i t h.bounds)
+      ready-by (adopt_plan d x) (leads-adopting d x p i (i.owned x (has_node-times p.trees x t))).made (adoption-keeps d x p i t h.bounds)
       (keeps-adopting (lone-rules p) d x)
 
   module _ (x parent : NodeName) (t : IsTrue (has_node p.trees x)) (s : IsTrue (has_node p.trees parent)) where
     -- an insertion
     pub ready-inserting : (before : Option NodeName) →
         is_inclusive_ancestor p.trees x parent ≡ false → has_data (kind_of p.trees parent) ≡ false → is_shadow (kind_of p.trees x) ≡ false →
-        KeepReady p (inserting observed x parent before p)
+        KeepReady p (insert_plan observed x parent before p)
     ready-inserting before a o m =
-        ready-by (inserting observed x parent before) (leads-inserting observed x parent before i (may-go x parent t s a)).made
+        ready-by (insert_plan observed x parent before) (leads-inserting observed x parent before i (may-go x parent t s a)).made
         (insertion-keeps observed x parent before p
         (record { part = i; there = t; parent_there = s; apart = a; opened = o; bounds = h.bounds }))
         (keeps-inserting (lone-rules p) observed x parent before m)
 
     -- a replacement
-    pub ready-replacing : (child : NodeName) → replacement_refusal p.trees parent x child ≡ None → KeepReady p (replacing parent x child p)
+    pub ready-replacing : (child : NodeName) → replace_refusal p.trees parent x child ≡ None → KeepReady p (replace_plan parent x child p)
     ready-replacing child r =
         let m = replacement-tested p.trees parent x child r in
-        ready-by (replacing parent x child) (leads-replacing parent x child p i (may-go x parent t s m.apart)).made
+        ready-by (replace_plan parent x child) (leads-replacing parent x child p i (may-go x parent t s m.apart)).made
         (replacement-keeps parent x child p
         (record { part = i; there = t; parent_there = s; apart = m.apart; opened = m.opened; bounds = h.bounds }))
         (keeps-replacing (lone-rules p) parent x child m.plain)
@@ -252,7 +252,7 @@ module _ (p : Part) (i : IsPart p) (h : IsReadyPart p) where
       KeepReady p (plan_of_range p k (λ r. inserting_into_range k r x))
   ready-inserting_into_range k x t valid =
       ready-of_range k (λ r. inserting_into_range k r x)
-      (λ r e. let refused = insertion_refusal p.trees (insertion_parent p.trees r) x (start_reference p.trees r) in
+      (λ r e. let refused = pre_insert_refusal p.trees (insertion_parent p.trees r) x (start_reference p.trees r) in
       let m = insertion-tested p.trees (insertion_parent p.trees r) x (start_reference p.trees r)
       (not_taken (cannot_take_node p.trees r x) refused (valid r e)) in
       let start = has_node-times p.trees r.start.node (range-ends k r e).start in

@@ -6,7 +6,7 @@ use Rattle.dom_base.specs.declared.NodeName.{NodeName}
 use Rattle.dom_model.specs.Names.{name_eq, first_of, items_after}
 use Rattle.dom_model.specs.Tree.{Trees, none, tree, parent_of, children_of, next_sibling, inclusive_ancestors, is_inclusive_ancestor}
 use Rattle.dom_model.specs.World.{part_of}
-use Rattle.dom_model.specs.Changes.{◌and_then◌, suppressed, removing, reference_for}
+use Rattle.dom_model.specs.Changes.{◌and_then◌, suppressed, remove_plan, reference_child}
 use Rattle.dom_model.proofs.OwnerLaws.{name_eq-true}
 use Rattle.dom_tree.specs.Forest.{name_at}
 use Rattle.dom_parts.specs.Doc.{DocState, planned, name_in, owner_in, trees_in, IsChild}
@@ -74,10 +74,10 @@ after_next x {z} {y} (w ∷ ws) once e f = elim (cases_Bool (name_eq x w)) [
 
 -- the reference of a replacement is not the child that gives way
 pub reference_apart : (ts : Trees) → Once ts → (x : NodeName) {p : NodeName} (node : NodeName) {y : NodeName} → parent_of ts x ≡ Some p →
-    reference_for ts node (next_sibling ts x) ≡ Some y → name_eq x y ≡ false
+    reference_child ts node (next_sibling ts x) ≡ Some y → name_eq x y ≡ false
 reference_apart ts once x {p} node {y} up e = by_next (next_sibling ts x) refl e
   where
-    by_next : (o : Option NodeName) → next_sibling ts x ≡ o → reference_for ts node o ≡ Some y → name_eq x y ≡ false
+    by_next : (o : Option NodeName) → next_sibling ts x ≡ o → reference_child ts node o ≡ Some y → name_eq x y ≡ false
     by_next None is e = cc
     by_next (Some z) is e = elim (cases_Bool (name_eq z node)) [
       | inl h ↦
@@ -103,13 +103,13 @@ next_is_near {d} counted {parent} {child} next child_is found near own b is =
 module _ (d e : DocState) (counted : Counted d) (alone : (k : ℕ) → k < length d.names → IsAlone d.world (owner_in d k)) (parent node child : ℕ)
     (next reference : Option ℕ) (child_is : IsChild d parent child)
     (found : option_map (name_in d) next ≡ next_sibling (trees_in d child) (name_in d child))
-    (referred : option_map (name_in d) reference ≡ reference_for (trees_in d parent) (name_in d node) (option_map (name_in d) next))
-    (removed : e ≡ planned (owner_in d child) (removing suppressed (name_in d child)) d) where
+    (referred : option_map (name_in d) reference ≡ reference_child (trees_in d parent) (name_in d node) (option_map (name_in d) next))
+    (removed : e ≡ planned (owner_in d child) (remove_plan suppressed (name_in d child)) d) where
   off : (b : ℕ) → reference ≡ Some b → name_eq (name_in d child) (name_in d b) ≡ false
   off b is =
       reference_apart (trees_in d parent) (once_in d counted (owner_in d parent)) (name_in d child) (name_in d node)
       child_is.child
-      (ap (reference_for (trees_in d parent) (name_in d node))
+      (ap (reference_child (trees_in d parent) (name_in d node))
       (ap (λ o. next_sibling (part_of d.world o).trees (name_in d child)) (sym child_is.owner) ∙ sym found) ∙ sym referred ∙
       ap (option_map (name_in d)) is)
 

@@ -6,7 +6,7 @@ use Rattle.std.specs.Option.{ForSome}
 use Rattle.dom_base.specs.declared.NodeName.{NodeName}
 use Rattle.dom_model.specs.Names.{name_eq, first_of, is_in}
 use Rattle.dom_model.specs.Tree.{parent_of, inclusive_ancestors, is_inclusive_ancestor}
-use Rattle.dom_model.specs.Changes.{Plan, Observing, in_turn, placing, removing}
+use Rattle.dom_model.specs.Changes.{Plan, Observing, in_turn, placing, remove_plan}
 use Rattle.dom_tree.specs.Forest.{name_at}
 use Rattle.dom_parts.specs.Doc.{DocState, planned, name_in, owner_in, trees_in, MayMove, IsChild, KeepsPaths, NoneAbove}
 use Rattle.dom_parts.specs.Hosting.{IsAlone}
@@ -118,8 +118,8 @@ pub record IsItem (all : List ℕ) (i k : ℕ) : Type 0 where
 pub record Empties (how : Observing) (top : ℕ) (all : List ℕ) (d : DocState) (rest : List ℕ) (e : DocState) : Type 0 where
   pub names : e.names ≡ d.names
   pub alone : IsAlone e.world (owner_in d top)
-  pub state : planned (owner_in d top) (in_turn (removing how) (map (name_in d) rest)) e ≡ planned (owner_in d top)
-      (in_turn (removing how) (map (name_in d) all)) d
+  pub state : planned (owner_in d top) (in_turn (remove_plan how) (map (name_in d) rest)) e ≡ planned (owner_in d top)
+      (in_turn (remove_plan how) (map (name_in d) all)) d
   pub paths : (y : NodeName) → NoneAbove d top y all → (inclusive_ancestors (trees_in e top) y ≡ inclusive_ancestors (trees_in d top) y) ×
       NoneAbove d top y rest
 
@@ -129,13 +129,13 @@ empties_first how top all d alone = record { names = refl; alone = alone; state 
 module _ (how : Observing) (top : ℕ) (all : List ℕ) (d : DocState) where
   -- a step of it
   pub empties_next : {k : ℕ} {rest : List ℕ} {e f : DocState} → owner_in d k ≡ owner_in d top
-      → Empties how top all d (k ∷ rest) e → f ≡ planned (owner_in e k) (removing how (name_in e k)) e → KeepsPaths k (name_in e k) e f →
+      → Empties how top all d (k ∷ rest) e → f ≡ planned (owner_in e k) (remove_plan how (name_in e k)) e → KeepsPaths k (name_in e k) e f →
       Empties how top all d rest f
   empties_next {k} {rest} {e} {f} owner empties is keeps =
       let own : owner_in e k ≡ owner_in d top = ap (λ (ns : List NodeName). (name_at ns k).owner) empties.names ∙ owner in
-      let at : f ≡ planned (owner_in d top) (removing how (name_in d k)) e =
-      is ∙ ap (λ o. planned o (removing how (name_in e k)) e) own ∙
-      ap (λ (ns : List NodeName). planned (owner_in d top) (removing how (name_at ns k)) e) empties.names in
+      let at : f ≡ planned (owner_in d top) (remove_plan how (name_in d k)) e =
+      is ∙ ap (λ o. planned o (remove_plan how (name_in e k)) e) own ∙
+      ap (λ (ns : List NodeName). planned (owner_in d top) (remove_plan how (name_at ns k)) e) empties.names in
       let names = ap (λ (s : DocState). s.names) at in
       let trees_e = ap (λ o. (Rattle.dom_model.specs.World.part_of e.world o).trees)
       (own ∙ ap (λ (ns : List NodeName). (name_at ns top).owner) (sym empties.names)) in
@@ -145,8 +145,8 @@ module _ (how : Observing) (top : ℕ) (all : List ℕ) (d : DocState) where
       record {
         names = names ∙ empties.names;
         alone = subst (λ (s : DocState). IsAlone s.world (owner_in d top)) (sym at)
-            (alone_made (owner_in d top) (removing how (name_in d k)) e.world empties.alone (plans_removing (owner_in d top) how (name_in d k)));
-        state = ap (planned (owner_in d top) (in_turn (removing how) (map (name_in d) rest))) at ∙ planned_turn (owner_in d top) (removing how)
+            (alone_made (owner_in d top) (remove_plan how (name_in d k)) e.world empties.alone (plans_removing (owner_in d top) how (name_in d k)));
+        state = ap (planned (owner_in d top) (in_turn (remove_plan how) (map (name_in d) rest))) at ∙ planned_turn (owner_in d top) (remove_plan how)
             (name_in d k) (map (name_in d) rest) e empties.alone (plans_removing (owner_in d top) how (name_in d k)) ∙ empties.state;
         paths = λ y h.
             let was = empties.paths y h in
@@ -159,7 +159,7 @@ module _ (how : Observing) (top : ℕ) (all : List ℕ) (d : DocState) where
   pub empties_on : (i : ℕ) {k : ℕ} {e f : DocState} → Counted e
       → IsItem all i k → AllByRecursion (λ j. (j < length d.names) × (owner_in d j ≡ owner_in d top)) all →
       Empties how top all d (drop i all) e
-      → f ≡ planned (owner_in e k) (removing how (name_in e k)) e → Empties how top all d (drop (i + 1) all) f
+      → f ≡ planned (owner_in e k) (remove_plan how (name_in e k)) e → Empties how top all d (drop (i + 1) all) f
   empties_on i {k} {e} {f} counted at nodes empties made =
       let now : drop i all ≡ k ∷ drop (suc i) all = drop-cons all i k at.below ∙ ap (λ j. j ∷ drop (suc i) all) (sym at.item) in
       let here = (subst (AllByRecursion (λ j. (j < length d.names) × (owner_in d j ≡ owner_in d top))) now

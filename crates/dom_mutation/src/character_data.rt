@@ -23,6 +23,6 @@ pub(crate) fn replacing_data(
 {
     parts.laws();
     let left = parts.text(node).len().saturating_sub(offset);
-    parts.tell_data(node)?;
+    parts.queue_data_record(node)?;
     parts.change_data(node, offset, count.min(left), data)
 }

@@ -5,8 +5,8 @@ ghost use Rattle.dom_base.specs.declared.NodeName.{NodeName as Name};
 ghost use Rattle.std.specs.Option.{option_map, ForSome};
 ghost use Rattle.dom_model.specs.Names.{name_eq};
 ghost use Rattle.dom_model.specs.Tree.{kind_of, is_fragment, children_of, inclusive_ancestors};
-ghost use Rattle.dom_model.specs.Changes.{reference_for, inserting, sibling_before, in_turn, making_room, steps_of, telling};
-ghost use Rattle.dom_model.specs.Changes.{placing, emptying, removing};
+ghost use Rattle.dom_model.specs.Changes.{reference_child, insert_plan, sibling_before, in_turn, making_room, steps_of, telling};
+ghost use Rattle.dom_model.specs.Changes.{placing, emptying, remove_plan};
 ghost use Rattle.dom_model.specs.World.{part_of};
 ghost use Rattle.dom_worlds.specs.Bounds.{HasBounds};
 ghost use Rattle.dom_model.specs.Output.{child_list};
@@ -32,7 +32,7 @@ pub(crate) fn reference_child(
     requires parent_is_node { HoldsNode parts.now parent }
     requires node_is_node { HoldsNode parts.now node }
     requires child_is_child { ForSome child (IsChild parts.now parent) }
-    ensures value { option_map (name_in parts.now) result ≡ reference_for (trees_in parts.now parent) (name_in parts.now node)
+    ensures value { option_map (name_in parts.now) result ≡ reference_child (trees_in parts.now parent) (name_in parts.now node)
         (option_map (name_in parts.now) child) }
     ensures child { ForSome result (IsChild parts.now parent) }
     ensures apart { ForSome result (λ b. name_eq (name_in parts.now node) (name_in parts.now b) ≡ false) }
@@ -58,7 +58,7 @@ pub(crate) fn inserting(
     requires before_is_child { ForSome before (IsChild parts.old parent) }
     requires bounds { HasBounds (part_of parts.old.world (owner_in parts.old parent)) }
     ensures { OnOk result (parts.new ≡ planned (owner_in parts.old parent)
-        (inserting (observing_of how) (name_in parts.old node) (name_in parts.old parent) (option_map (name_in parts.old) before)) parts.old) }
+        (insert_plan (observing_of how) (name_in parts.old node) (name_in parts.old parent) (option_map (name_in parts.old) before)) parts.old) }
 {
     let child = before;
     let prev = sibling_before(parts, parent, child);
@@ -99,7 +99,7 @@ fn insert_children(
     requires prev_is_node { IsNodeIf parts.old prev }
     requires bounds { HasBounds (part_of parts.old.world (owner_in parts.old parent)) }
     ensures { OnOk result (parts.new ≡ planned (owner_in parts.old parent)
-        (inserting (observing_of how) (name_in parts.old fragment) (name_in parts.old parent) (option_map (name_in parts.old) before)) parts.old) }
+        (insert_plan (observing_of how) (name_in parts.old fragment) (name_in parts.old parent) (option_map (name_in parts.old) before)) parts.old) }
 {
     parts.laws();
     if children.is_empty() {
@@ -200,7 +200,7 @@ fn tell_placed(
         (option_map (name_in parts.old) next)))) parts.old) }
 {
     if matches!(how, SuppressObserversFlag::Observed) {
-        parts.tell_children(parent, moved, &[], prev, next)?;
+        parts.queue_tree_record(parent, moved, &[], prev, next)?;
     }
     Ok(())
 }
@@ -237,7 +237,7 @@ fn empty(parts: &mut Parts, fragment: Key, children: &[Key]) -> Result<(), Alloc
 {
     parts.laws();
     take_each(parts, SuppressObserversFlag::Suppressed, fragment, children)?;
-    parts.tell_children(fragment, &[], children, None, None)
+    parts.queue_tree_record(fragment, &[], children, None, None)
 }
 
 /// Some nodes are taken out, one after another, of which observers are told or not; `top` is one of their owner.
@@ -250,7 +250,7 @@ pub(crate) fn take_each(
     requires top_is_node { HoldsNode parts.old top }
     requires children_are_nodes { AllByRecursion (λ k. (HoldsNode parts.old k) × (owner_in parts.old k ≡ owner_in parts.old top)) children.now }
     ensures state { OnOk result (parts.new ≡ planned (owner_in parts.old top)
-        (in_turn (removing (observing_of how)) (map (name_in parts.old) children.now)) parts.old) }
+        (in_turn (remove_plan (observing_of how)) (map (name_in parts.old) children.now)) parts.old) }
     ensures paths { OnOk result ((y : Name) → NoneAbove parts.old top y children.now →
         inclusive_ancestors (trees_in parts.new top) y ≡ inclusive_ancestors (trees_in parts.old top) y) }
 {

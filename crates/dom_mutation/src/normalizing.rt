@@ -5,7 +5,7 @@ ghost use Rattle.std.specs.Option.{option_map, ForSome};
 ghost use Rattle.dom_model.specs.Names.{first_of};
 ghost use Rattle.dom_model.specs.Tree.{kind_of, is_text, node_in, parent_of, descendants, is_inclusive_ancestor};
 ghost use Rattle.dom_model.specs.Changes.{in_turn};
-ghost use Rattle.dom_model.specs.TextChanges.{texts_after, joining, normalizing_text};
+ghost use Rattle.dom_model.specs.TextChanges.{contiguous_texts_after, joining, normalizing_text};
 ghost use Rattle.dom_model.specs.World.{part_of};
 ghost use Rattle.dom_worlds.specs.Bounds.{HasBounds};
 ghost use Rattle.dom_parts.specs.Doc.{planned, name_in, owner_in, trees_in, IsOwnNode, HoldsNode};
@@ -61,7 +61,7 @@ fn joining(parts: &mut Parts, node: Key, parent: Key, nexts: &[Key]) -> Result<(
     requires is_parent { parent_of (trees_in parts.old node) (name_in parts.old node) ≡ Some (name_in parts.old parent) }
     requires parent_is_node { HoldsNode parts.old parent }
     requires parent_owner { owner_in parts.old parent ≡ owner_in parts.old node }
-    requires are_nexts { map (name_in parts.old) nexts.now ≡ texts_after (trees_in parts.old node) (name_in parts.old node) }
+    requires are_nexts { map (name_in parts.old) nexts.now ≡ contiguous_texts_after (trees_in parts.old node) (name_in parts.old node) }
     requires bounds { HasBounds (part_of parts.old.world (owner_in parts.old node)) }
     ensures { OnOk result (parts.new ≡ planned (owner_in parts.old node)
         (joining (name_in parts.old node) (name_in parts.old parent) (map (name_in parts.old) nexts.now)) parts.old) }
@@ -89,7 +89,7 @@ fn data_of(parts: &Parts, top: Key, texts: &[Key]) -> Result<DomStr, AllocError>
 /// The Texts directly after a Text.
 fn texts_after(parts: &Parts, node: Key) -> Result<Vec<Key>, AllocError>
     requires { HoldsNode parts.now node }
-    ensures names { IfOk result (λ keys. map (name_in parts.now) keys.items ≡ texts_after (trees_in parts.now node) (name_in parts.now node)) }
+    ensures names { IfOk result (λ keys. map (name_in parts.now) keys.items ≡ contiguous_texts_after (trees_in parts.now node) (name_in parts.now node)) }
     ensures nodes { IfOk result (λ keys. AllByRecursion (IsOwnNode parts.now node) keys.items) }
 {
     parts.laws();
@@ -105,7 +105,7 @@ fn texts_after(parts: &Parts, node: Key) -> Result<Vec<Key>, AllocError>
 /// The sibling just after a node, where it is a Text.
 fn text_after(parts: &Parts, node: Key) -> Option<Key>
     requires { HoldsNode parts.now node }
-    ensures value { option_map (name_in parts.now) result ≡ first_of (texts_after (trees_in parts.now node) (name_in parts.now node)) }
+    ensures value { option_map (name_in parts.now) result ≡ first_of (contiguous_texts_after (trees_in parts.now node) (name_in parts.now node)) }
     ensures node { ForSome result (IsOwnNode parts.now node) }
 {
     let next = parts.next(node)?;

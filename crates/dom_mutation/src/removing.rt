@@ -1,6 +1,6 @@
 //! Removal and adoption (DOM Standard, concepts: remove, adopt).
 ghost use Rattle.std.specs.Prelude.{◌≡◌, Some, OnOk};
-ghost use Rattle.dom_model.specs.Changes.{removing, adopting};
+ghost use Rattle.dom_model.specs.Changes.{remove_plan, adopt_plan};
 ghost use Rattle.dom_parts.specs.Doc.{planned, name_in, owner_in, HoldsNode};
 ghost use Rattle.dom_mutation.specs.Observing.{observing_of};
 
@@ -24,7 +24,7 @@ pub(crate) fn removing(
     node: Key,
 ) -> Result<(), AllocError>
     requires { HoldsNode parts.old node }
-    ensures { OnOk result (parts.new ≡ planned (owner_in parts.old node) (removing (observing_of how) (name_in parts.old node)) parts.old) }
+    ensures { OnOk result (parts.new ≡ planned (owner_in parts.old node) (remove_plan (observing_of how) (name_in parts.old node)) parts.old) }
 {
     let Some(parent) = parts.parent(node) else {
         return Ok(());
@@ -33,7 +33,7 @@ pub(crate) fn removing(
     let next = parts.next(node);
     parts.take_out(node)?;
     if matches!(how, SuppressObserversFlag::Observed) {
-        parts.tell_children(parent, &[], &[node], prev, next)?;
+        parts.queue_tree_record(parent, &[], &[node], prev, next)?;
     }
     Ok(())
 }
@@ -43,7 +43,7 @@ pub(crate) fn removing(
 pub(crate) fn adopting(parts: &mut Parts, document: Key, node: Key) -> Result<(), AllocError>
     requires document_is_node { HoldsNode parts.old document }
     requires node_is_node { HoldsNode parts.old node }
-    ensures { OnOk result (parts.new ≡ planned (owner_in parts.old node) (adopting (name_in parts.old document) (name_in parts.old node)) parts.old) }
+    ensures { OnOk result (parts.new ≡ planned (owner_in parts.old node) (adopt_plan (name_in parts.old document) (name_in parts.old node)) parts.old) }
 {
     parts.laws();
     removing(parts, SuppressObserversFlag::Observed, node)?;

@@ -1,7 +1,7 @@
 //! Replacement (DOM Standard, concept: replace).
 ghost use Rattle.std.specs.Prelude.{◌≡◌, ◌↔◌, false, map, IfOk, OnOk, Some};
 ghost use Rattle.dom_model.specs.Tree.{is_inclusive_ancestor};
-ghost use Rattle.dom_model.specs.Changes.{placed_nodes, replacing};
+ghost use Rattle.dom_model.specs.Changes.{placed_nodes, replace_plan};
 ghost use Rattle.dom_model.specs.World.{part_of};
 ghost use Rattle.dom_worlds.specs.Bounds.{HasBounds};
 ghost use Rattle.dom_parts.specs.Doc.{AreNodes, made, planned, name_in, owner_in, trees_in, IsChild, HoldsNode};
@@ -28,7 +28,7 @@ pub(crate) fn replacing(
     requires bounds { HasBounds (part_of parts.old.world (owner_in parts.old parent)) }
     ensures names { OnOk result (parts.new.names ≡ parts.old.names) }
     ensures world { OnOk result (parts.new ≡ planned (owner_in parts.old parent)
-        (replacing (name_in parts.old parent) (name_in parts.old node) (name_in parts.old child)) parts.old) }
+        (replace_plan (name_in parts.old parent) (name_in parts.old node) (name_in parts.old child)) parts.old) }
 {
     parts.laws();
     let next = parts.next(child);
@@ -44,7 +44,7 @@ pub(crate) fn replacing(
         parent,
         before,
     )?;
-    parts.tell_children(parent, added.as_slice(), &[child], prev, reference)
+    parts.queue_tree_record(parent, added.as_slice(), &[child], prev, reference)
 }
 
 /// The nodes that an insertion places: a fragment's children, or the node itself.

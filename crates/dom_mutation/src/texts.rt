@@ -66,7 +66,7 @@ fn clear(parts: &mut Parts, node: Key) -> Result<(), AllocError>
     if children.as_slice().is_empty() {
         return Ok(());
     }
-    parts.tell_children(node, &[], children.as_slice(), None, None)
+    parts.queue_tree_record(node, &[], children.as_slice(), None, None)
 }
 
 /// The children of a node give way to a Text that was made, of which observers are told once.
@@ -87,5 +87,5 @@ fn put_text(parts: &mut Parts, node: Key, text: Key) -> Result<(), AllocError>
         children.as_slice(),
     )?;
     inserting(parts, SuppressObserversFlag::Suppressed, text, node, None)?;
-    parts.tell_children(node, &[text], children.as_slice(), None, None)
+    parts.queue_tree_record(node, &[text], children.as_slice(), None, None)
 }

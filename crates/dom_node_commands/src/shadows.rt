@@ -3,7 +3,7 @@ ghost use Rattle.std.specs.Prelude.{◌≡◌, true, IfOk};
 ghost use Rattle.dom_model.specs.Tree.{has_node};
 ghost use Rattle.dom_model.specs.Command.{attach, shadow_root, slot_of, assigned as assigned_command};
 ghost use Rattle.dom_model.specs.CommandNames.{named};
-ghost use Rattle.dom_model.specs.Slots.{assigned};
+ghost use Rattle.dom_model.specs.Slots.{assigned_nodes};
 ghost use Rattle.dom_model.specs.Trace.{is_page};
 ghost use Rattle.dom_model.specs.World.{part_of};
 ghost use Rattle.dom_reader.specs.Views.{word_view};
@@ -83,7 +83,7 @@ pub fn assigned(
 /// The names of the nodes assigned to a slot that is there.
 fn assigned_to(state: &State, owner: Owner, slot: NodeWord) -> Result<Vec<NodeName>, AllocError>
     requires { has_node (part_of state.now.world owner).trees (named (part_of state.now.world owner) (word_view slot)) ≡ true }
-    ensures { IfOk result (λ names. names.items ≡ assigned state.now.world (named (part_of state.now.world owner) (word_view slot))) }
+    ensures { IfOk result (λ names. names.items ≡ assigned_nodes state.now.world (named (part_of state.now.world owner) (word_view slot))) }
 {
     law_slots_are_of_worlds();
     let slot = state.key(owner, slot);

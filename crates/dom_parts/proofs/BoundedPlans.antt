@@ -5,11 +5,11 @@ use Rattle.std.specs.Prelude.{IsTrue, flat_map}
 use Rattle.std.specs.List.{AllByRecursion}
 use Rattle.std.proofs.lemmas.Bool.{cond-false}
 use Rattle.dom_base.specs.declared.NodeName.{NodeName}
-use Rattle.dom_model.specs.Changes.{Observing, suppressed, in_turn, removing, emptying}
+use Rattle.dom_model.specs.Changes.{Observing, suppressed, in_turn, remove_plan, emptying}
 use Rattle.dom_model.specs.Output.{child_list}
 use Rattle.dom_model.specs.Part.{Part}
 use Rattle.dom_model.specs.Steps.{queue_record, after}
-use Rattle.dom_model.specs.TextChanges.{replacing_data, normalizing_text, texts_after}
+use Rattle.dom_model.specs.TextChanges.{replacing_data, normalizing_text, contiguous_texts_after}
 use Rattle.dom_model.specs.Tree.{Trees, node_in, has_node, has_data, is_text, kind_of, children_of, parent_of, index_of, length_of}
 use Rattle.dom_worlds.specs.Bounds.{HasBounds}
 use Rattle.dom_worlds.specs.Worlds.{IsPart}
@@ -35,17 +35,17 @@ index_few p i x parent up =
 -- ---- removals
 
 -- nodes leave their parents, one after another
-pub removals-keep : (how : Observing) (xs : List NodeName) (p : Part) → IsPart p → HasBounds p → HasBounds (after p (in_turn (removing how) xs p))
-removals-keep how xs p i h = bounds-of (after p (in_turn (removing how) xs p)) (leads-removals how xs p i).changed.part
+pub removals-keep : (how : Observing) (xs : List NodeName) (p : Part) → IsPart p → HasBounds p → HasBounds (after p (in_turn (remove_plan how) xs p))
+removals-keep how xs p i h = bounds-of (after p (in_turn (remove_plan how) xs p)) (leads-removals how xs p i).changed.part
     (room-removals nowhere how xs p i (room-of p i h))
 
-pub removals-part : (how : Observing) (xs : List NodeName) (p : Part) → IsPart p → IsPart (after p (in_turn (removing how) xs p))
+pub removals-part : (how : Observing) (xs : List NodeName) (p : Part) → IsPart p → IsPart (after p (in_turn (remove_plan how) xs p))
 removals-part how xs p i = (leads-removals how xs p i).changed.part
 
 -- a fragment loses its children: so room may be made for them
 pub emptying-keeps : (node : NodeName) (moved : List NodeName) (p : Part) → IsPart p → HasBounds p → HasBounds (after p (emptying node moved p))
 emptying-keeps node moved p i h =
-    let gone = in_turn (removing suppressed) moved p in
+    let gone = in_turn (remove_plan suppressed) moved p in
     let told = queue_record (child_list node [] moved None None) in
     subst HasBounds (sym (after-append p gone (told ∷ [])))
     (queue_record-keeps (after p gone) (child_list node [] moved None None) (removals-part suppressed moved p i)
@@ -72,10 +72,10 @@ normalized_text-leaves x y {p} i there there_y text =
 -- where a Text got the data of those directly after it, each of these may be joined to it
 pub joining-joins_fit : (x parent : NodeName) {p : Part} → IsPart p → IsTrue (has_node p.trees x) → is_text (kind_of p.trees x) ≡ true →
     parent_of p.trees x ≡ Some parent →
-    let nexts = texts_after p.trees x in
+    let nexts = contiguous_texts_after p.trees x in
     JoinsFit (after p (replacing_data x (length_of p.trees x) 0 (flat_map (λ y. (node_in p.trees y).text) nexts) p)).trees x (length_of p.trees x) nexts
 joining-joins_fit x parent {p} i there text up =
-    let nexts = texts_after p.trees x in
+    let nexts = contiguous_texts_after p.trees x in
     let q = after p (replacing_data x (length_of p.trees x) 0 (flat_map (λ y. (node_in p.trees y).text) nexts) p) in
     let fits = joining-fits x parent p i (has_node-times p.trees x there) (text-data (kind_of p.trees x) text) up in
     each q.trees (length_of p.trees x) nexts fits.0 fits.1

@@ -11,10 +11,10 @@ use Rattle.dom_model.specs.Tree.{length_of, index_of, next_sibling, parent_of, s
 use Rattle.dom_model.specs.Output.{Change, child_list}
 use Rattle.dom_model.specs.Part.{Part, next_name}
 use Rattle.dom_model.specs.Steps.{Step, make, make_room, place, set_document, queue_record, split_at, part_step, after}
-use Rattle.dom_model.specs.Changes.{Plan, ◌and_then◌, in_turn, doing, steps_of, Observing, observed, suppressed, telling, removing}
-use Rattle.dom_model.specs.Changes.{removing_from, document_below, has_document, changing_document, adopting, placed_nodes, emptying, making_room}
-use Rattle.dom_model.specs.Changes.{placing, sibling_before, inserting_nodes, inserting}
-use Rattle.dom_model.specs.TextChanges.{replacing_data, new_text_node, placing_tail, splitting, joins, joining, texts_after}
+use Rattle.dom_model.specs.Changes.{Plan, ◌and_then◌, in_turn, doing, steps_of, Observing, observed, suppressed, telling, remove_plan}
+use Rattle.dom_model.specs.Changes.{removing_from, document_below, has_document, changing_document, adopt_plan, placed_nodes, emptying, making_room}
+use Rattle.dom_model.specs.Changes.{placing, sibling_before, inserting_nodes, insert_plan}
+use Rattle.dom_model.specs.TextChanges.{replacing_data, new_text_node, placing_tail, splitting, joins, joining, contiguous_texts_after}
 use Rattle.dom_model.specs.TextChanges.{normalizing_text}
 use Rattle.dom_model.proofs.StepLaws.{owner-part_step}
 use Rattle.dom_tree.specs.Owners.{AreOf}
@@ -67,18 +67,18 @@ module _ (o : Owner) where
   plans_telling observed c = (tt, tt)
   plans_telling suppressed c = tt
 
-  pub plans_removing : (how : Observing) (x : NodeName) → PlansOwn o (removing how x)
+  pub plans_removing : (how : Observing) (x : NodeName) → PlansOwn o (remove_plan how x)
   plans_removing how x p own = plans_map (removing_from how x p.trees) (λ parent. (tt, plans_telling how _)) (parent_of p.trees x)
 
   pub plans_document : (d x : NodeName) → x.owner ≡ o → PlansOwn o (changing_document d x)
   plans_document d x is p own = plans_if (not (has_document p.trees d x)) (set_document x d ∷ []) [] (is, tt) tt
 
-  pub plans_adopting : (d x : NodeName) → x.owner ≡ o → PlansOwn o (adopting d x)
-  plans_adopting d x is = plans_then (removing observed x) (changing_document d x) (plans_removing observed x) (plans_document d x is)
+  pub plans_adopting : (d x : NodeName) → x.owner ≡ o → PlansOwn o (adopt_plan d x)
+  plans_adopting d x is = plans_then (remove_plan observed x) (changing_document d x) (plans_removing observed x) (plans_document d x is)
 
   pub plans_placing : (parent : NodeName) (before : Option NodeName) (x : NodeName) → x.owner ≡ o → PlansOwn o (placing parent before x)
   plans_placing parent before x is p own =
-      plans_then (adopting (document_below p.trees parent) x) (doing (place x parent before))
+      plans_then (adopt_plan (document_below p.trees parent) x) (doing (place x parent before))
       (plans_adopting (document_below p.trees parent) x is) (λ q own. (tt, tt)) p own
 
   pub plans_room : (parent : NodeName) (before : Option NodeName) (count : ℕ) → PlansOwn o (making_room parent before count)
@@ -86,8 +86,8 @@ module _ (o : Owner) where
 
   pub plans_emptying : (node : NodeName) (children : List NodeName) → PlansOwn o (emptying node children)
   plans_emptying node children =
-      plans_then (in_turn (removing suppressed) children) (doing (queue_record (child_list node [] children None None)))
-      (plans_each (removing suppressed) (plans_removing suppressed) children) (λ q own. (tt, tt))
+      plans_then (in_turn (remove_plan suppressed) children) (doing (queue_record (child_list node [] children None None)))
+      (plans_each (remove_plan suppressed) (plans_removing suppressed) children) (λ q own. (tt, tt))
 
   -- the children of an owner's node are the owner's
   pub children_own : (ts : Trees) (x : NodeName) → AreOf o ts → AllByRecursion (λ (y : NodeName). y.owner ≡ o) (children_of ts x)
@@ -130,7 +130,7 @@ module _ (o : Owner) where
       empties true = plans_emptying node moved
       empties false = λ q own. tt
 
-  pub plans_inserting : (how : Observing) (node parent : NodeName) (before : Option NodeName) → node.owner ≡ o → PlansOwn o (inserting how node parent before)
+  pub plans_inserting : (how : Observing) (node parent : NodeName) (before : Option NodeName) → node.owner ≡ o → PlansOwn o (insert_plan how node parent before)
   plans_inserting how node parent before is p own =
       let moved = placed_nodes p.trees node in
       plans_if (is_empty moved) [] (inserting_nodes how node moved parent before p) tt
@@ -145,7 +145,7 @@ module _ (o : Owner) where
   plans_tail x offset new None is p own = tt
   plans_tail x offset new (Some parent) is p own =
       let next = next_sibling p.trees x in
-      plans_then (inserting observed new parent next) (doing (split_at x offset new parent (index_of p.trees x)))
+      plans_then (insert_plan observed new parent next) (doing (split_at x offset new parent (index_of p.trees x)))
       (plans_inserting observed new parent next is) (λ q own. (tt, tt)) p own
 
   pub plans_splitting : (x : NodeName) (offset : ℕ) → PlansOwn o (splitting x offset)
@@ -168,13 +168,13 @@ module _ (o : Owner) where
       let all = flat_map (λ y. (node_in p.trees y).text) nexts in
       let data_in = replacing_data x size 0 all in
       let joined = steps_of (joins p.trees x parent size nexts) in
-      plans_then (data_in and_then joined) (in_turn (removing observed) nexts)
+      plans_then (data_in and_then joined) (in_turn (remove_plan observed) nexts)
       (plans_then data_in joined (plans_data x size 0 all) (λ q own. plans_joins p.trees x parent size nexts))
-      (plans_each (removing observed) (plans_removing observed) nexts) p own
+      (plans_each (remove_plan observed) (plans_removing observed) nexts) p own
 
   pub plans_normalizing_text : (x : NodeName) → PlansOwn o (normalizing_text x)
   plans_normalizing_text x p own =
-      let nexts = texts_after p.trees x in
+      let nexts = contiguous_texts_after p.trees x in
       let join : NodeName → List Step = λ parent. if is_empty nexts then [] else joining x parent nexts p in
-      plans_if (length_of p.trees x == 0) (removing observed x p) (option_map_or join (parent_of p.trees x) []) (plans_removing observed x p own)
+      plans_if (length_of p.trees x == 0) (remove_plan observed x p) (option_map_or join (parent_of p.trees x) []) (plans_removing observed x p own)
       (plans_map join (λ parent. plans_if (is_empty nexts) [] (joining x parent nexts p) tt (plans_joining x parent nexts p own)) (parent_of p.trees x))

@@ -22,7 +22,7 @@ use Rattle.dom_model.specs.Command.{Command, effect}
 use Rattle.dom_model.specs.Effects.{Effect}
 use Rattle.dom_model.specs.WorldSteps.{world_step, world_after}
 use Rattle.dom_model.specs.Changes.{Plan, Observing, suppressed, ◌and_then◌, in_turn, doing, steps_of, telling, making_room, placing}
-use Rattle.dom_model.specs.Changes.{removing, inserting}
+use Rattle.dom_model.specs.Changes.{remove_plan, insert_plan}
 use Rattle.dom_model.specs.TextChanges.{placing_tail, replacing_data}
 use Rattle.dom_model.specs.Validity.{first_refusal}
 use Rattle.dom_model.specs.CommandRefusals.{past_end, past_limit, may_be_host}
@@ -248,6 +248,6 @@ texts_made p x new = if has_data (kind_of p.trees x) || is_document (kind_of p.t
 abbrev pub putting_text : NodeName → NodeName → Plan
 putting_text x y p =
     let old = children_of p.trees x in
-    (in_turn (removing suppressed) old
-    and_then inserting suppressed y x None
+    (in_turn (remove_plan suppressed) old
+    and_then insert_plan suppressed y x None
     and_then doing (queue_record (child_list x (y ∷ []) old None None))) p

@@ -82,7 +82,7 @@ abbrev pub items_along : World → NodeName → Option NodeName → Option NodeN
 items_along w target related before [] = []
 items_along w target related before (x ∷ xs) = path_item w target related before x ∷ items_along w target related (Some x) xs
 
--- the items of the path of an event (DOM Standard, concept: dispatch)
+-- the items of the path of an event (DOM Standard, 2.9: dispatch, append to an event path)
 abbrev pub path_items : World → NodeName → Option NodeName → Bool → List PathItem
 path_items w target related composed = items_along w target related None (event_path w target related composed)
 

@@ -4,15 +4,15 @@ use node_arena::Key;
 /// An item of an event path (DOM Standard, 2.2: path: its struct). The default only fills the unused places of a path.
 #[derive(Clone, Copy, Default)]
 pub struct Item {
-    /// The node that is visited.
+    /// The invocation target.
     pub node: Key,
-    /// The node, where it is the event's target as seen from itself.
+    /// The shadow-adjusted target, which is the node itself where there is one.
     pub target: Option<Key>,
-    /// The event's related node as seen from the node, if the event has one.
+    /// The relatedTarget: the event's related node as seen from the node, if the event has one.
     pub related: Option<Key>,
-    /// Whether the node is a shadow root; all are closed.
+    /// The root-of-closed-tree: whether the node is a shadow root; all are closed.
     pub root_of_closed: bool,
-    /// Whether the node is the slot of the node before it.
+    /// The slot-in-closed-tree: whether the node is the slot of the node before it.
     pub slot_in_closed: bool,
     /// The event's target as seen from the node.
     pub event_target: Key,

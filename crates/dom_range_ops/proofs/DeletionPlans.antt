@@ -5,7 +5,7 @@ use Rattle.std.specs.Option.{option_map_or}
 use Rattle.std.proofs.lemmas.Bool.{cond-true, cond-false}
 use Rattle.dom_base.specs.declared.NodeName.{NodeName}
 use Rattle.dom_base.specs.declared.Owner.{Owner}
-use Rattle.dom_model.specs.Changes.{Plan, ◌and_then◌, in_turn, doing, steps_of, removing, observed}
+use Rattle.dom_model.specs.Changes.{Plan, ◌and_then◌, in_turn, doing, steps_of, remove_plan, observed}
 use Rattle.dom_model.specs.Effects.{plan_of_range}
 use Rattle.dom_model.specs.Extract.{is_in_one_data, cut_start, cut_end, new_place, both_at}
 use Rattle.dom_model.specs.Names.{name_eq}
@@ -31,7 +31,7 @@ use Rattle.dom_range_ops.proofs.InsertedRanges.{range-kept}
 module _ (ts : Trees) (r : Range NodeName) where
   -- the plan where both ends are not in one Text or Comment
   abbrev pub apart : Plan
-  apart = cutting_data ts r r.start.node and_then in_turn (removing observed) (outermost_contained ts r) and_then cutting_data ts r r.end.node
+  apart = cutting_data ts r r.start.node and_then in_turn (remove_plan observed) (outermost_contained ts r) and_then cutting_data ts r r.end.node
 
   module _ (o : Owner) where
     plans-if : (b : Bool) (f g : Plan) → PlansOwn o f → PlansOwn o g → PlansOwn o (if b then f else g)
@@ -42,13 +42,13 @@ module _ (ts : Trees) (r : Range NodeName) where
     plans-cut x = plans-if (has_data (kind_of ts x)) (replacing_data x (cut_start r x) (cut_end ts r x - cut_start r x) []) (steps_of [])
         (plans_data o x (cut_start r x) (cut_end ts r x - cut_start r x) []) (λ p own. tt)
 
-    plans-front : PlansOwn o (cutting_data ts r r.start.node and_then in_turn (removing observed) (outermost_contained ts r))
-    plans-front = plans_then o (cutting_data ts r r.start.node) (in_turn (removing observed) (outermost_contained ts r)) (plans-cut r.start.node)
-        (plans_each o (removing observed) (plans_removing o observed) (outermost_contained ts r))
+    plans-front : PlansOwn o (cutting_data ts r r.start.node and_then in_turn (remove_plan observed) (outermost_contained ts r))
+    plans-front = plans_then o (cutting_data ts r r.start.node) (in_turn (remove_plan observed) (outermost_contained ts r)) (plans-cut r.start.node)
+        (plans_each o (remove_plan observed) (plans_removing o observed) (outermost_contained ts r))
 
     pub plans-contents : PlansOwn o (deleting_contents ts r)
     plans-contents = plans-if (is_in_one_data ts r) (cutting_data ts r r.start.node) apart (plans-cut r.start.node)
-        (plans_then o (cutting_data ts r r.start.node and_then in_turn (removing observed) (outermost_contained ts r))
+        (plans_then o (cutting_data ts r r.start.node and_then in_turn (remove_plan observed) (outermost_contained ts r))
         (cutting_data ts r r.end.node) plans-front (plans-cut r.end.node))
 
 -- ---- the steps of a `Doc`
@@ -59,7 +59,7 @@ with_cut k part d = planned (owner_in d k) (cutting (name_in d k) part) d
 
 -- nodes of the owner of a key leave their parents
 abbrev pub without_nodes : ℕ → List ℕ → DocState → DocState
-without_nodes k ks d = planned (owner_in d k) (in_turn (removing observed) (map (name_in d) ks)) d
+without_nodes k ks d = planned (owner_in d k) (in_turn (remove_plan observed) (map (name_in d) ks)) d
 
 -- a range stands at one place
 abbrev pub with_range_at : Owner → ℕ → ℕ × ℕ → DocState → DocState
@@ -89,10 +89,10 @@ module _ (d : DocState) (points : Points) (h : IsRangeIn d points) (alone : IsAl
       planned (owner_in d points.start.0) (deleting_contents ts r) d
   contents-made first_part last_part ks one cuts found =
       let first = cutting_data ts r r.start.node in
-      let removals = in_turn (removing observed) (outermost_contained ts r) in
+      let removals = in_turn (remove_plan observed) (outermost_contained ts r) in
       let last = cutting_data ts r r.end.node in
       ap (λ (f : Plan). with_cut points.end.0 last_part (without_nodes points.start.0 ks (planned o f d))) cuts.0
-      ∙ ap (λ xs. with_cut points.end.0 last_part (planned o (in_turn (removing observed) xs) (planned o first d))) found
+      ∙ ap (λ xs. with_cut points.end.0 last_part (planned o (in_turn (remove_plan observed) xs) (planned o first d))) found
       ∙ ap (λ q. planned q (cutting r.end.node last_part) (planned o removals (planned o first d))) h.owner
       ∙ ap (λ (f : Plan). planned o f (planned o removals (planned o first d))) cuts.1
       ∙ ap (planned o last) (planned_then o first removals d alone (plans-cut ts r o r.start.node))

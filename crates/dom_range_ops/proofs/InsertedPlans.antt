@@ -4,7 +4,7 @@ use Rattle.std.specs.Option.{ForSome}
 use Rattle.std.proofs.lemmas.Bool.{cond-false}
 use Rattle.dom_base.specs.declared.NodeName.{NodeName}
 use Rattle.dom_base.specs.declared.Owner.{Owner}
-use Rattle.dom_model.specs.Changes.{Plan, ◌and_then◌, observed, removing, inserting, reference_for}
+use Rattle.dom_model.specs.Changes.{Plan, ◌and_then◌, observed, remove_plan, insert_plan, reference_child}
 use Rattle.dom_model.specs.Names.{name_eq}
 use Rattle.dom_model.specs.Ranges.{at}
 use Rattle.dom_model.specs.RangeOps.{ending_at, inserting_before, inserting_at}
@@ -28,7 +28,7 @@ state-is d e o f names world = λ j. record { names = names j; world = world j }
 
 -- a reference that is another node is kept
 pub kept-reference : (ts : Trees) (x : NodeName) (name : ℕ → NodeName) (reference : Option ℕ) →
-    ForSome reference (λ b. name_eq x (name b) ≡ false) → reference_for ts x (option_map name reference) ≡ option_map name reference
+    ForSome reference (λ b. name_eq x (name b) ≡ false) → reference_child ts x (option_map name reference) ≡ option_map name reference
 kept-reference ts x name None apart = refl
 kept-reference ts x name (Some b) apart = cond-false (name_eq (name b) x) (next_sibling ts x) (Some (name b)) (name_eq-turned (name b) x ∙ apart b refl)
 
@@ -45,12 +45,12 @@ module _ (d : DocState) (o : Owner) (k : ℕ) (parent node : ℕ) (alone : IsAlo
   -- an insertion before a reference, in the state e, and then an end, in f
   pub inserted-before : {e f : DocState} (reference : Option ℕ) {offset : ℕ} → ForSome reference (λ b. name_eq (name_in d node) (name_in d b) ≡ false)
       → offset ≡ offset_behind (trees_in d parent) (name_in d parent) (name_in d node) (option_map (name_in d) reference)
-      → e ≡ planned (owner_in d parent) (inserting observed (name_in d node) (name_in d parent) (option_map (name_in d) reference)) d
+      → e ≡ planned (owner_in d parent) (insert_plan observed (name_in d node) (name_in d parent) (option_map (name_in d) reference)) d
       → f ≡ planned o (ending_at k (at (name_in e parent) offset)) e
       → f ≡ planned o (inserting_before k (name_in d node) (name_in d parent) (option_map (name_in d) reference)) d
   inserted-before {e} reference {offset} apart behind inserted ended =
       let before = option_map (name_in d) reference in
-      let put : Plan = inserting observed x y before in
+      let put : Plan = insert_plan observed x y before in
       let is : e ≡ planned o put d = inserted ∙ ap (λ w. planned w put d) own in
       let end : ℕ → Plan = λ n. ending_at k (at y n) in
       let n = offset_behind ts y x before in
@@ -58,30 +58,30 @@ module _ (d : DocState) (o : Owner) (k : ℕ) (parent node : ℕ) (alone : IsAlo
       ∙ ap (planned o (end offset)) is
       ∙ planned_then o put (end offset) d alone (plans_inserting o observed x y before node_own)
       ∙ ap (λ m. planned o (put and_then end m) d) (behind ∙ ap (λ w. offset_behind (part_of d.world w).trees y x before) own)
-      ∙ ap (λ b. planned o (inserting observed x y b and_then end n) d) (sym (kept-reference ts x (name_in d) reference apart))
+      ∙ ap (λ b. planned o (insert_plan observed x y b and_then end n) d) (sym (kept-reference ts x (name_in d) reference apart))
 
   -- a removal, in the state e, and then an insertion before the reference, in f
   pub inserted-at : {e f : DocState} (child reference : Option ℕ) →
-      option_map (name_in d) reference ≡ reference_for (trees_in d parent) (name_in d node) (option_map (name_in d) child)
-      → e ≡ planned (owner_in d node) (removing observed (name_in d node)) d
+      option_map (name_in d) reference ≡ reference_child (trees_in d parent) (name_in d node) (option_map (name_in d) child)
+      → e ≡ planned (owner_in d node) (remove_plan observed (name_in d node)) d
       → f ≡ planned o (inserting_before k (name_in e node) (name_in e parent) (option_map (name_in e) reference)) e
       → f ≡ planned o (inserting_at k (name_in d node) (name_in d parent) (option_map (name_in d) child)) d
   inserted-at {e} child reference referred removed inserted =
-      let gone : Plan = removing observed x in
+      let gone : Plan = remove_plan observed x in
       let is : e ≡ planned o gone d = removed ∙ ap (λ w. planned w gone d) node_own in
       inserted ∙ ap (λ (ns : List NodeName). planned o
       (inserting_before k (name_at ns node) (name_at ns parent) (option_map (name_at ns) reference)) e) (ap (λ (s : DocState). s.names) is)
       ∙ ap (planned o (inserting_before k x y (option_map (name_in d) reference))) is
       ∙ planned_then o gone (inserting_before k x y (option_map (name_in d) reference)) d alone (plans_removing o observed x)
       ∙ ap (λ b. planned o (gone and_then inserting_before k x y b) d)
-      (referred ∙ ap (λ w. reference_for (part_of d.world w).trees x (option_map (name_in d) child)) own)
+      (referred ∙ ap (λ w. reference_child (part_of d.world w).trees x (option_map (name_in d) child)) own)
 
 -- A node that another parent and reference do not depend on leaves its parent.
 module _ (d e : DocState) (counted : Counted d) (parent node : ℕ) (reference : Option ℕ) (alone : IsAlone d.world (owner_in d node))
     (owner : owner_in d node ≡ owner_in d parent) where
   -- what was asked of a parent and a reference still holds when another node has left its parent
   pub stays-left : is_inclusive_ancestor (trees_in d parent) (name_in d node) (name_in d parent) ≡ false → ForSome reference (IsChild d parent) →
-      ForSome reference (λ b. name_eq (name_in d node) (name_in d b) ≡ false) → e ≡ planned (owner_in d node) (removing observed (name_in d node)) d →
+      ForSome reference (λ b. name_eq (name_in d node) (name_in d b) ≡ false) → e ≡ planned (owner_in d node) (remove_plan observed (name_in d node)) d →
       Stays parent reference d e
   stays-left off children apart is =
       let x = name_in d node in

@@ -15,7 +15,7 @@ use Rattle.dom_model.specs.Ranges.{Range}
 use Rattle.dom_model.specs.RangeOps.{start_reference, insertion_parent, cannot_take_node, insert_node_refusal, inserting_at, inserting_into_range}
 use Rattle.dom_model.specs.TextChanges.{splitting}
 use Rattle.dom_model.specs.Tree.{Trees, kind_of, is_text, parent_of, is_inclusive_ancestor, child_nodes}
-use Rattle.dom_model.specs.Validity.{may_be_parent, has_parent, placing_tests, insertion_refusal}
+use Rattle.dom_model.specs.Validity.{may_be_parent, has_parent, placing_tests, pre_insert_refusal}
 use Rattle.dom_model.specs.World.{World, part_of}
 use Rattle.dom_model.specs.WorldSteps.{world_after}
 use Rattle.dom_model.proofs.OwnerLaws.{name_eq-true}
@@ -23,7 +23,7 @@ use Rattle.dom_mutation.specs.Doc.{made}
 use Rattle.dom_range_ops.specs.Insertions.{inserting_node, inserting_before_tail, node_refusal, inserting_refusal}
 
 -- a child before which a node may be put is a child
-pub valid-child : (ts : Trees) (parent node c : NodeName) → insertion_refusal ts parent node (Some c) ≡ None → parent_of ts c ≡ Some parent
+pub valid-child : (ts : Trees) (parent node c : NodeName) → pre_insert_refusal ts parent node (Some c) ≡ None → parent_of ts c ≡ Some parent
 valid-child ts parent node c h =
     let tests = placing_tests ts parent node (not (has_parent ts parent c)) (child_nodes ts parent) in
     let a = next-test (not (may_be_parent (kind_of ts parent))) Hierarchy (drop 1 tests) h in
@@ -42,15 +42,15 @@ valid-child ts parent node c h =
 
 -- the tests of the place, where the node can be taken
 pub place-valid : (ts : Trees) (r : Range NodeName) (x : NodeName) → insert_node_refusal ts r x ≡ None →
-    insertion_refusal ts (insertion_parent ts r) x (start_reference ts r) ≡ None
-place-valid ts r x h = not_taken (cannot_take_node ts r x) (insertion_refusal ts (insertion_parent ts r) x (start_reference ts r)) h
+    pre_insert_refusal ts (insertion_parent ts r) x (start_reference ts r) ≡ None
+place-valid ts r x h = not_taken (cannot_take_node ts r x) (pre_insert_refusal ts (insertion_parent ts r) x (start_reference ts r)) h
 
 -- a Text at the start is a child of the parent into which a node may go
 pub text-child : (ts : Trees) (r : Range NodeName) (x : NodeName) → insert_node_refusal ts r x ≡ None → is_text (kind_of ts r.start.node) ≡ true →
     parent_of ts r.start.node ≡ Some (insertion_parent ts r)
 text-child ts r x h text =
     valid-child ts (insertion_parent ts r) x r.start.node
-    (subst (λ o. insertion_refusal ts (insertion_parent ts r) x o ≡ None)
+    (subst (λ o. pre_insert_refusal ts (insertion_parent ts r) x o ≡ None)
     (cond-true (is_text (kind_of ts r.start.node)) (Some r.start.node) _ text) (place-valid ts r x h))
 
 -- ---- the steps

@@ -6,9 +6,9 @@ use Rattle.std.specs.Option.{option_map_or}
 use Rattle.dom_base.specs.declared.NodeName.{NodeName}
 use Rattle.dom_worlds.proofs.ListLemmas.{all-append}
 use Rattle.dom_worlds.proofs.PlanLemmas.{count-step}
-use Rattle.dom_model.specs.Changes.{Plan, ◌and_then◌, in_turn, doing, steps_of, Observing, observed, suppressed, telling, removing, removing_from}
-use Rattle.dom_model.specs.Changes.{has_document, changing_document, adopting, document_below, placed_nodes, emptying, making_room, placing}
-use Rattle.dom_model.specs.Changes.{sibling_before, inserting_nodes, inserting}
+use Rattle.dom_model.specs.Changes.{Plan, ◌and_then◌, in_turn, doing, steps_of, Observing, observed, suppressed, telling, remove_plan, removing_from}
+use Rattle.dom_model.specs.Changes.{has_document, changing_document, adopt_plan, document_below, placed_nodes, emptying, making_room, placing}
+use Rattle.dom_model.specs.Changes.{sibling_before, inserting_nodes, insert_plan}
 use Rattle.dom_model.specs.Extract.{making_below}
 use Rattle.dom_model.specs.Names.{is_empty}
 use Rattle.dom_model.specs.Output.{Change, child_list}
@@ -55,21 +55,21 @@ none-telling : (how : Observing) (c : Change NodeName) → AllByRecursion MakesN
 none-telling observed c = (tt, tt)
 none-telling suppressed c = tt
 
-none-removing : (how : Observing) (x : NodeName) → PlansNone (removing how x)
+none-removing : (how : Observing) (x : NodeName) → PlansNone (remove_plan how x)
 none-removing how x p = none-map (removing_from how x p.trees) (λ parent. (tt, none-telling how _)) (parent_of p.trees x)
 
-none-adopting : (d x : NodeName) → PlansNone (adopting d x)
-none-adopting d x = none-then (removing observed x) (changing_document d x) (none-removing observed x)
+none-adopting : (d x : NodeName) → PlansNone (adopt_plan d x)
+none-adopting d x = none-then (remove_plan observed x) (changing_document d x) (none-removing observed x)
     (λ p. none-if (not (has_document p.trees d x)) (set_document x d ∷ []) [] (tt, tt) tt)
 
 none-placing : (parent : NodeName) (before : Option NodeName) (x : NodeName) → PlansNone (placing parent before x)
 none-placing parent before x p =
     let d = document_below p.trees parent in
-    none-then (adopting d x) (doing (place x parent before)) (none-adopting d x) (λ q. (tt, tt)) p
+    none-then (adopt_plan d x) (doing (place x parent before)) (none-adopting d x) (λ q. (tt, tt)) p
 
 none-emptying : (node : NodeName) (children : List NodeName) → PlansNone (emptying node children)
-none-emptying node children = none-then (in_turn (removing suppressed) children) (doing (queue_record (child_list node [] children None None)))
-    (none-each (removing suppressed) (none-removing suppressed) children) (λ p. (tt, tt))
+none-emptying node children = none-then (in_turn (remove_plan suppressed) children) (doing (queue_record (child_list node [] children None None)))
+    (none-each (remove_plan suppressed) (none-removing suppressed) children) (λ p. (tt, tt))
 
 none-inserting_nodes : (how : Observing) (node : NodeName) (moved : List NodeName) (parent : NodeName) (before : Option NodeName) →
     PlansNone (inserting_nodes how node moved parent before)
@@ -88,15 +88,15 @@ none-inserting_nodes how node moved parent before p =
     empties true = none-emptying node moved
     empties false = λ q. tt
 
-none-inserting : (how : Observing) (node parent : NodeName) (before : Option NodeName) → PlansNone (inserting how node parent before)
+none-inserting : (how : Observing) (node parent : NodeName) (before : Option NodeName) → PlansNone (insert_plan how node parent before)
 none-inserting how node parent before p =
     let moved = placed_nodes p.trees node in
     none-if (is_empty moved) [] (inserting_nodes how node moved parent before p) tt (none-inserting_nodes how node moved parent before p)
 
 -- an insertion
 pub count-inserting : (how : Observing) (node parent : NodeName) (before : Option NodeName) (p : Part) →
-    (after p (inserting how node parent before p)).node_count ≡ p.node_count
-count-inserting how node parent before p = count-none p (inserting how node parent before p) (none-inserting how node parent before p)
+    (after p (insert_plan how node parent before p)).node_count ≡ p.node_count
+count-inserting how node parent before p = count-none p (insert_plan how node parent before p) (none-inserting how node parent before p)
 
 -- a new node below another one
 pub count-making_below : (into : NodeName) (n : Node) (p : Part) → (after p (making_below into n p)).node_count ≡ suc p.node_count

@@ -11,7 +11,7 @@ use Rattle.dom_worlds.proofs.CommandLemmas.{has_node-times}
 use Rattle.dom_worlds.proofs.PlanLemmas.{next-absent, leads-one, new-may}
 use Rattle.dom_worlds.proofs.ListLemmas.{by_cases}
 use Rattle.dom_model.proofs.PartLaws.{owner-part_of}
-use Rattle.dom_model.specs.Changes.{Plan, ◌and_then◌, doing, observed, inserting}
+use Rattle.dom_model.specs.Changes.{Plan, ◌and_then◌, doing, observed, insert_plan}
 use Rattle.dom_model.specs.Extract.{making_below}
 use Rattle.dom_model.specs.Names.{node_of}
 use Rattle.dom_model.specs.Part.{Part, next_name}
@@ -48,7 +48,8 @@ new-node d e y k is key = let a = ap (λ (ns : List NodeName). length ns) is in 
 
 -- a new node below another one stays in its owner's part
 pub plans-below : (o : Owner) (top : NodeName) (n : Node) → n.name.owner ≡ o → PlansOwn o (making_below top n)
-plans-below o top n is = plans_then o (doing (make n)) (inserting observed n.name top None) (λ p own. (tt, tt)) (plans_inserting o observed n.name top None is)
+plans-below o top n is = plans_then o (doing (make n)) (insert_plan observed n.name top None) (λ p own. (tt, tt))
+    (plans_inserting o observed n.name top None is)
 
 -- a node was made, with the next name of the owner of a node `top`
 pub record NewNode : Type 0 where
@@ -121,13 +122,13 @@ module _ (m : NewNode) where
       ∙ ap (λ (a : Node). is_shadow a.kind) (node-new (with_name (next_name p) n) p.trees (next-absent p m.here.part)) ∙ h
 
   -- and both are one plan
-  pub below-made : (f : DocState) → f ≡ planned (owner_in e top) (inserting observed (name_in e new) (name_in e top) None) e →
+  pub below-made : (f : DocState) → f ≡ planned (owner_in e top) (insert_plan observed (name_in e new) (name_in e top) None) e →
       f.world ≡ made o (making_below (name_in d top) n) d.world
   below-made f is =
-      let put : Plan = inserting observed n.name (name_in d top) None in
+      let put : Plan = insert_plan observed n.name (name_in d top) None in
       ap (λ (s : DocState). s.world) is
-      ∙ ap (λ (y : NodeName). made y.owner (inserting observed (name_in e new) y None) e.world) top-name
-      ∙ ap (λ (y : NodeName). made o (inserting observed y (name_in d top) None) e.world) (new_is ∙ sym named)
+      ∙ ap (λ (y : NodeName). made y.owner (insert_plan observed (name_in e new) y None) e.world) top-name
+      ∙ ap (λ (y : NodeName). made o (insert_plan observed y (name_in d top) None) e.world) (new_is ∙ sym named)
       ∙ ap (made o put) world
       ∙ sym (made_then o (doing (make n)) put d.world m.here.alone (λ q own. (tt, tt)))
 

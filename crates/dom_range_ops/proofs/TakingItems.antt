@@ -4,7 +4,7 @@ use Rattle.std.specs.Prelude.{◌-◌, None}
 use Rattle.std.proofs.lemmas.List.{append-nil}
 use Rattle.dom_base.specs.declared.NodeName.{NodeName}
 use Rattle.dom_worlds.proofs.PlanLemmas.{after-append}
-use Rattle.dom_model.specs.Changes.{Plan, ◌and_then◌, doing, observed, inserting}
+use Rattle.dom_model.specs.Changes.{Plan, ◌and_then◌, doing, observed, insert_plan}
 use Rattle.dom_model.specs.Extract.{Pieces, nothing, whole, cut, clone, clone_part, making_below, taking, pieces_of, new_fragment_node, own_document}
 use Rattle.dom_model.specs.Extract.{both_at, new_place, extracting}
 use Rattle.dom_model.specs.Part.{Part, next_name}
@@ -39,7 +39,7 @@ pub items-taking : (into : NodeName) (pieces : Pieces) (clones : List NodeName) 
 items-taking into nothing clones more p = refl
 items-taking into (whole x rest) clones more p =
     let top = top_of into clones in
-    let one : Plan = inserting observed x top None in
+    let one : Plan = insert_plan observed x top None in
     let last = taking_items into clones more in
     then-same one (taking_items into clones (items_of rest ++ more)) (taking top rest and_then last) p (items-taking into rest clones more) ∙
     sym (then-assoc one (taking top rest) last p)

@@ -12,7 +12,7 @@ use Rattle.dom_worlds.proofs.CommandLemmas.{has_node-times}
 use Rattle.dom_worlds.proofs.ListLemmas.{all-then, by_cases}
 use Rattle.dom_worlds.proofs.PlanLemmas.{next-absent, OldIn, old-may, old-still, leads-making_below, Changed, MayGo, Leads, still, after-append, leads-then}
 use Rattle.dom_worlds.proofs.PlanLemmas.{leads-eased, leads-nothing, leads-one, leads-inserting, new-there, new-may, leads-replacing_data, HasNode}
-use Rattle.dom_model.specs.Changes.{observed, inserting}
+use Rattle.dom_model.specs.Changes.{observed, insert_plan}
 use Rattle.dom_model.specs.Extract.{clone_part, making_below}
 use Rattle.dom_model.specs.Part.{Part, next_name}
 use Rattle.dom_model.specs.Steps.{Step, make, part_step, after}
@@ -112,7 +112,7 @@ item-leaves {into} {clones} {p} i h t le (whole_item x) m =
     let taker = top-takes into p.trees clones t in
     let may = old-may top i (old-of into p x i m.0) (has_node-times p.trees top taker.there) taker.new in
     let l = leads-inserting observed x top None i may in
-    let q = after p (inserting observed x top None p) in
+    let q = after p (insert_plan observed x top None p) in
     record {
       leads = l;
       bounds = insertion-keeps observed x top None p (record {

@@ -5,7 +5,7 @@ use Rattle.std.specs.Option.{ForSome}
 use Rattle.dom_base.specs.declared.NodeName.{NodeName}
 use Rattle.dom_base.specs.declared.Owner.{Owner}
 use Rattle.dom_worlds.specs.Bounds.{HasBounds}
-use Rattle.dom_model.specs.Changes.{Plan, ◌and_then◌, observed, inserting}
+use Rattle.dom_model.specs.Changes.{Plan, ◌and_then◌, observed, insert_plan}
 use Rattle.dom_model.specs.Extract.{clone_part, making_below}
 use Rattle.dom_model.specs.Names.{node_of, first_of}
 use Rattle.dom_model.specs.Part.{Part, next_name}
@@ -24,7 +24,7 @@ top_of into clones = unwrap_or (first_of clones) into
 
 -- the steps for one item
 abbrev pub taking_item : NodeName → Item → Plan
-taking_item top (whole_item x) p = inserting observed x top None p
+taking_item top (whole_item x) p = insert_plan observed x top None p
 taking_item top (cut_item x from to) p =
     (making_below top (clone_part (next_name p) from to (node_in p.trees x))
     and_then replacing_data x from (to - from) []) p

@@ -2,7 +2,7 @@
 ghost use Rattle.std.specs.Prelude.{◌≡◌, map, true, is_some, IfOk, IfErr, OnOk};
 ghost use Rattle.std.specs.List.{AllByRecursion};
 ghost use Rattle.dom_base.specs.declared.Fault.TheVariants.{Memory};
-ghost use Rattle.dom_model.specs.Changes.{in_turn, removing, observed};
+ghost use Rattle.dom_model.specs.Changes.{in_turn, remove_plan, observed};
 ghost use Rattle.dom_model.specs.Effects.{plan_of_range};
 ghost use Rattle.dom_model.specs.Extract.{is_in_one_data, new_place};
 ghost use Rattle.dom_model.specs.Part.{range_at};
@@ -117,7 +117,7 @@ fn cut(doc: &mut Doc, key: Key, part: Option<(usize, usize)>) -> Result<(), Allo
 fn remove_each(doc: &mut Doc, first: Key, keys: &[Key]) -> Result<(), AllocError>
     requires first_is_node { HoldsNode doc.old first }
     requires nodes { AllByRecursion (λ k. (HoldsNode doc.old k) × (owner_in doc.old k ≡ owner_in doc.old first)) keys.now }
-    ensures { OnOk result (doc.new ≡ planned (owner_in doc.old first) (in_turn (removing observed) (map (name_in doc.old) keys.now)) doc.old) }
+    ensures { OnOk result (doc.new ≡ planned (owner_in doc.old first) (in_turn (remove_plan observed) (map (name_in doc.old) keys.now)) doc.old) }
 {
     doc.laws();
     for key in keys {

@@ -8,7 +8,7 @@ use Rattle.dom_base.specs.declared.NodeName.{NodeName}
 use Rattle.dom_model.specs.Names.{name_eq, is_in, is_empty, distinct, list_eq}
 use Rattle.dom_model.specs.Tree.{Trees, Node, node_in, parent_of, children_of, root_of, subtree}
 use Rattle.dom_model.specs.World.{World, part_of, component_at, shadow_root_of, shadow_tree, some_if, host_above, parent_at, node_at, root_at, trees_with}
-use Rattle.dom_model.specs.Slots.{slot_of, slot_in, slots_among, assigned, assigned_below, is_assigned_to, is_slot_element, signals}
+use Rattle.dom_model.specs.Slots.{slot_of, slot_in, slots_among, assigned_nodes, slottables_of, is_assigned_to, is_slot_element, signals}
 use Rattle.dom_model.proofs.OwnerLaws.{name_eq-true}
 use Rattle.dom_tree.proofs.Owned.{read_own, stays_own}
 use Rattle.dom_laws.proofs.Lists.{name_eq-from}
@@ -73,10 +73,10 @@ module _ (s : ShadowTrees) (w : World) (shown : IsShownBy s w) where
       ]
 
   -- the nodes assigned to a slot
-  pub assigned-shown : (y : NodeName) → assigned w y ≡ assigned_at s y
+  pub assigned-shown : (y : NodeName) → assigned_nodes w y ≡ assigned_at s y
   assigned-shown y =
       let tests : is_assigned_to w y ≡ is_assigned_at s y = λ j x. is_in name_eq y (option_to_list (slot-shown x j)) in
-      let under : assigned_below w y ≡ assigned_under s y = λ j h. filter (tests j) (children-shown h j) in
+      let under : slottables_of w y ≡ assigned_under s y = λ j h. filter (tests j) (children-shown h j) in
       λ j. option_map_or (under j) (host-shown y j) []
 
 -- the slots that a step signals

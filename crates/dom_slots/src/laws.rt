@@ -3,7 +3,7 @@ ghost use Rattle.std.specs.Prelude.{◌≡◌, ℕ, ◌≤◌, Bool as Truth, fa
 ghost use Rattle.dom_base.specs.declared.NodeName.{NodeName as Name};
 ghost use Rattle.dom_model.specs.World.{World};
 ghost use Rattle.dom_model.specs.Names.{DomString};
-ghost use Rattle.dom_model.specs.Slots.{slot_of, assigned, signals, is_slot_element, slots_among};
+ghost use Rattle.dom_model.specs.Slots.{slot_of, assigned_nodes, signals, is_slot_element, slots_among};
 ghost use Rattle.dom_model.specs.Tree.{Node, subtree};
 ghost use Rattle.dom_model.specs.TreeChanges.{change_node, change_subtree, under_document, with_document, with_text};
 ghost use Rattle.dom_slots.specs.Shadows.{ShadowTrees, IsShownBy, slot_at, assigned_at, signals_at};
@@ -18,7 +18,7 @@ ghost use Rattle.dom_tree.specs.Forest.{NamedTrees, name_at};
 /// and signals are those that are read (DOM Standard, 4.2.2 Shadow tree).
 pub fn law_slots_are_of_worlds()
     ensures slot { (s : ShadowTrees) (w : World) → IsShownBy s w → (x : Name) → slot_of w x ≡ slot_at s x }
-    ensures assigned { (s : ShadowTrees) (w : World) → IsShownBy s w → (y : Name) → assigned w y ≡ assigned_at s y }
+    ensures assigned { (s : ShadowTrees) (w : World) → IsShownBy s w → (y : Name) → assigned_nodes w y ≡ assigned_at s y }
     ensures signals { (s t : ShadowTrees) (was now : World) → IsShownBy s was → IsShownBy t now → (x around : Name) (is_move : Truth) →
         signals was now x around is_move ≡ signals_at s t x around is_move }
 {}

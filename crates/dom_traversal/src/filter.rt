@@ -10,12 +10,14 @@ use dom_base::{Kind, Verdict};
 use dom_tree::Forest;
 use node_arena::Key;
 
-/// Which nodes are shown, and what is answered at an element with a name (DOM Standard, interface NodeFilter). Of `show`
-/// the bits 0 to 4 are elements, Texts, Comments, documents and fragments, shadow roots among them; the others count for
-/// nothing. A node that is not shown is skipped, an element of the name gets the verdict, and all else is accepted.
+/// A whatToShow with a NodeFilter: which nodes are shown, and what is answered at an element with a name (DOM Standard, interface
+/// NodeFilter). A node that is not shown is skipped, an element of the name gets the verdict, and all else is accepted.
 #[derive(Drop)]
 pub struct Filter {
+    /// The whatToShow. Bit 0 is SHOW_ELEMENT, 1 SHOW_TEXT, 2 SHOW_COMMENT, 3 SHOW_DOCUMENT, and 4 SHOW_DOCUMENT_FRAGMENT, shadow roots
+    /// among them; these are not the bits of the Standard. The others count for nothing.
     pub show: u8,
+    /// The name of the elements that get the verdict.
     pub name: Option<(String, Verdict)>,
 }
 

@@ -24,7 +24,7 @@ pub(crate) enum Direction {
     Previous,
 }
 
-/// An iterator over the nodes of the tree of a root, in tree order (DOM Standard, interface NodeIterator). It stands just
+/// A NodeIterator: it goes over the nodes of the tree of a root, in tree order (DOM Standard, interface NodeIterator). It stands just
 /// before or just behind a node, its reference.
 #[derive(Drop)]
 pub struct Iter {
@@ -102,8 +102,8 @@ impl Iter {
         Some(found)
     }
 
-    /// Leaves the tree of a node that is about to be removed, while it is still linked (DOM Standard, NodeIterator
-    /// pre-remove steps).
+    /// The pre-remove steps of a NodeIterator: it leaves the tree of a node that is about to be removed, while it is still linked (DOM
+    /// Standard, NodeIterator pre-remove steps).
     pub fn on_remove(&mut self, forest: &Forest, node: Key)
         requires node_is_node { IsNode forest.now node }
         requires iterator { IsIteratorOf forest.now self.old }

@@ -17,7 +17,7 @@ use dom_tree::Forest;
 use node_arena::Key;
 use std::marker::Model;
 
-/// A node of the tree of a root, from which one moves to others that a filter accepts (DOM Standard, interface TreeWalker).
+/// A TreeWalker: a node of the tree of a root, from which one moves to others that a filter accepts (DOM Standard, interface TreeWalker).
 /// Moves do not look at what is below a node that the filter rejects, and see the children of a node that it skips in
 /// the place of that node. A move that finds no node leaves the walker where it is. Own rule: while the current node does
 /// not stand in the tree of the root, no move finds a node.

@@ -14,7 +14,7 @@ use Rattle.dom_model.specs.Names.{owner_eq, name_eq, is_in, first_of, last_of, i
 use Rattle.dom_model.specs.Tree.{Trees, none, tree, Node, nodes, roots, names_of, node_in, no_node, kind_of, attribute_value, subtree, or_else}
 use Rattle.dom_model.specs.Tree.{trees_below, on_top, inclusive_ancestors, is_inclusive_ancestor, inclusive_descendants, child_nodes, children_of}
 use Rattle.dom_model.specs.Tree.{parent_of, siblings, has_data}
-use Rattle.dom_model.specs.Validity.{first_refusal, placing_tests, has_parent, without_given, breaks_document, insertion_refusal, replacement_refusal}
+use Rattle.dom_model.specs.Validity.{first_refusal, placing_tests, has_parent, without_given, breaks_document, pre_insert_refusal, replace_refusal}
 use Rattle.dom_model.proofs.OwnerLaws.{owner_eq-true, name_eq-true}
 use Rattle.dom_tree.specs.Owners.{trees_of_owner, AreOf, HaveOwners, NoneBefore, AreInOrder, AreOwned, IsReadOwn, StaysOwn}
 use Rattle.dom_tree.proofs.Reach.{reaches, has_node-reaches, subtree-none, inclusive_ancestors-none, find-none}
@@ -280,7 +280,7 @@ module _ (ts : Trees) (owned : AreOwned ts) (o : Owner) (parent : NodeName) wher
   -- the refusal of an insertion among an owner's nodes
   pub insertion_own : (node : NodeName) (child : Option NodeName)
       → parent.owner ≡ o → node.owner ≡ o → ForSome child (λ c. c.owner ≡ o)
-      → insertion_refusal ts parent node child ≡ insertion_refusal (trees_of_owner o ts) parent node child
+      → pre_insert_refusal ts parent node child ≡ pre_insert_refusal (trees_of_owner o ts) parent node child
   insertion_own node child of_parent of_node of_child =
       ap first_refusal (placing-own owned parent node (child_nodes ts parent) of_parent of_node
       ∙ (ap (λ b. placing_tests us parent node b (child_nodes ts parent)) (same_lost child of_child)
@@ -299,7 +299,7 @@ module _ (ts : Trees) (owned : AreOwned ts) (o : Owner) (parent : NodeName) wher
   -- the refusal of a replacement among an owner's nodes
   pub replacement_own : (node child : NodeName)
       → parent.owner ≡ o → node.owner ≡ o → child.owner ≡ o
-      → replacement_refusal ts parent node child ≡ replacement_refusal (trees_of_owner o ts) parent node child
+      → replace_refusal ts parent node child ≡ replace_refusal (trees_of_owner o ts) parent node child
   replacement_own node child of_parent of_node of_child =
       let us = trees_of_owner o ts in
       let others : Trees → List Node = λ vs. without_given (Some child) (child_nodes vs parent) in

@@ -7,7 +7,7 @@ use Rattle.dom_model.specs.Names.{Word, owner_eq, name_eq, name_before, is_in}
 use Rattle.dom_model.specs.Tree.{Trees, none, tree, Node, node_in, has_node, attribute_value, subtree, inclusive_ancestors, inclusive_descendants}
 use Rattle.dom_model.specs.Tree.{parent_of, root_of, child_nodes, children_of, siblings, previous_sibling, next_sibling, index_of, length_of}
 use Rattle.dom_model.specs.TreeChanges.{placed, taken_out, with_node, change_node, change_subtree}
-use Rattle.dom_model.specs.Validity.{insertion_refusal, replacement_refusal}
+use Rattle.dom_model.specs.Validity.{pre_insert_refusal, replace_refusal}
 
 -- an owner's own trees: those whose root is the owner's
 abbrev pub trees_of_owner : Owner → Trees → Trees
@@ -91,13 +91,13 @@ NearLaw = (ts : Trees) → AreOwned ts → (o : Owner) (x : NodeName) → x.owne
 abbrev pub InsertionLaw : Type 0
 InsertionLaw = (ts : Trees) → AreOwned ts → (o : Owner) (parent node : NodeName) (child : Option NodeName)
     → parent.owner ≡ o → node.owner ≡ o → ForSome child (λ c. c.owner ≡ o)
-    → insertion_refusal ts parent node child ≡ insertion_refusal (trees_of_owner o ts) parent node child
+    → pre_insert_refusal ts parent node child ≡ pre_insert_refusal (trees_of_owner o ts) parent node child
 
 -- the validity of replacements among an owner's nodes
 abbrev pub ReplacementLaw : Type 0
 ReplacementLaw = (ts : Trees) → AreOwned ts → (o : Owner) (parent node child : NodeName)
     → parent.owner ≡ o → node.owner ≡ o → child.owner ≡ o
-    → replacement_refusal ts parent node child ≡ replacement_refusal (trees_of_owner o ts) parent node child
+    → replace_refusal ts parent node child ≡ replace_refusal (trees_of_owner o ts) parent node child
 
 -- the elementary changes
 abbrev pub AddedLaw : Type 0

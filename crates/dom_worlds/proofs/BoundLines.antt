@@ -20,7 +20,7 @@ use Rattle.dom_model.specs.Ranges.{Range, at, from_to, with_start, with_end}
 use Rattle.dom_model.specs.Steps.{after}
 use Rattle.dom_model.specs.Traversal.{Walker}
 use Rattle.dom_model.specs.Tree.{Trees, Node, kind_of, has_data, is_text, child_nodes, length_of}
-use Rattle.dom_model.specs.Validity.{first_refusal, has_parent, may_be_parent, placing_tests, insertion_refusal, replacement_refusal}
+use Rattle.dom_model.specs.Validity.{first_refusal, has_parent, may_be_parent, placing_tests, pre_insert_refusal, replace_refusal}
 use Rattle.dom_model.proofs.KindLaws.{parent-open}
 use Rattle.dom_worlds.specs.Worlds.{IsPart}
 use Rattle.dom_worlds.proofs.Effects.{next-test, part-accepted, some-effect}
@@ -44,12 +44,12 @@ tested-open ts parent node is_lost others h =
     (next-test (not (may_be_parent (kind_of ts parent))) Hierarchy (drop 1 (placing_tests ts parent node is_lost others)) h).0)
 
 -- of an insertion
-pub insertion-open : (ts : Trees) (parent node : NodeName) (child : Option NodeName) → insertion_refusal ts parent node child ≡ None →
+pub insertion-open : (ts : Trees) (parent node : NodeName) (child : Option NodeName) → pre_insert_refusal ts parent node child ≡ None →
     has_data (kind_of ts parent) ≡ false
 insertion-open ts parent node child h = tested-open ts parent node (option_map_or (λ c. not (has_parent ts parent c)) child false) (child_nodes ts parent) h
 
 -- of a replacement
-replacement-open : (ts : Trees) (parent node child : NodeName) → replacement_refusal ts parent node child ≡ None → has_data (kind_of ts parent) ≡ false
+replacement-open : (ts : Trees) (parent node child : NodeName) → replace_refusal ts parent node child ≡ None → has_data (kind_of ts parent) ≡ false
 replacement-open ts parent node child h =
     tested-open ts parent node (not (has_parent ts parent child)) (filter (λ (n : Node). not (name_eq n.name child)) (child_nodes ts parent)) h
 

@@ -24,7 +24,7 @@ use Rattle.dom_base.specs.declared.Kind.TheVariants.{Document, Shadow}
 use Rattle.dom_base.specs.declared.Owner.TheVariants.{Page, Component}
 use Rattle.dom_model.specs.CommandNames.{named}
 use Rattle.dom_model.specs.Effects.{Effect, tables, changes}
-use Rattle.dom_model.specs.Listeners.{Visit, Dispatching, begun, visited}
+use Rattle.dom_model.specs.Listeners.{Visit, Dispatching, begun, after_invoke}
 use Rattle.dom_model.specs.Names.{name_eq, max_depth}
 use Rattle.dom_model.specs.Paths.{views}
 use Rattle.dom_model.specs.Extract.{extracting}
@@ -33,7 +33,7 @@ use Rattle.dom_model.specs.Ranges.{Range}
 use Rattle.dom_model.specs.Slots.{signals, with_signal}
 use Rattle.dom_model.specs.Steps.{Step, set_document, part_step, after}
 use Rattle.dom_model.specs.Tree.{node_in}
-use Rattle.dom_model.specs.Validity.{insertion_refusal}
+use Rattle.dom_model.specs.Validity.{pre_insert_refusal}
 use Rattle.dom_model.specs.WorldSteps.{world_step, world_after, stepped, with_shadow_document}
 use Rattle.dom_model.proofs.OwnerLaws.{owner_eq-true, owner_eq-false}
 use Rattle.dom_model.proofs.PartLaws.{owner-part_of}
@@ -167,7 +167,7 @@ rooms-visits e [] w d h = h
 rooms-visits e (v ∷ vs) w d h =
     let o = v.current.owner in
     let p = part_of w o in
-    let heard = visited name_eq e (record d { listeners = p.listeners }) v in
+    let heard = after_invoke name_eq e (record d { listeners = p.listeners }) v in
     let q : Part = record p { listeners = heard.listeners } in
     rooms-visits e vs (with_part w q) heard (rooms-with_part w q o (owner-part_of w o) (room-same p q refl refl (h o)) h)
 
@@ -217,7 +217,7 @@ for-ranges p i t (Command.insert_node k x) n = λ h.
     range-steps (λ steps. HasRoom nowhere (after p steps)) p k h (λ r. inserting_into_range k r (named p x) p)
     (λ r e. let node = named p x in
     let parent = insertion_parent p.trees r in
-    let refused = insertion_refusal p.trees parent node (start_reference p.trees r) in
+    let refused = pre_insert_refusal p.trees parent node (start_reference p.trees r) in
     let valid = insert_node-valid p k x a.own r e in
     room-inserting_into_range k r (record { part = i; room = h }) (range-ends p k t r e).0
     (record {

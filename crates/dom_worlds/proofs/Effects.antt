@@ -21,7 +21,7 @@ use Rattle.dom_model.specs.World.{World, part_of, is_there, MayAttach}
 use Rattle.dom_model.proofs.PartLaws.{owner-part_of}
 use Rattle.dom_base.specs.declared.NodeName.{NodeName}
 use Rattle.dom_base.specs.declared.Action.TheVariants.{Log}
-use Rattle.dom_model.specs.Listeners.{Listener, listened, is_listener}
+use Rattle.dom_model.specs.Listeners.{Listener, with_listener_added, is_listener}
 use Rattle.std.specs.List.{AllByRecursion, list_any}
 use Rattle.dom_worlds.specs.Worlds.{OnlyLogs}
 use Rattle.dom_worlds.proofs.Turns.{IsAlike}
@@ -108,7 +108,7 @@ KeepsLogs p (changes steps v) = ⊤
 
 -- one more listener that only logs
 all-listened : (x : NodeName) (w : ListenerWords) (ls : List (Listener NodeName)) → w.action ≡ Log → AllByRecursion OnlyLogs ls →
-    AllByRecursion OnlyLogs (listened name_eq x w ls)
+    AllByRecursion OnlyLogs (with_listener_added name_eq x w ls)
 all-listened x w ls e h = from (list_any (is_listener name_eq x w.event w.label w.capture) ls)
   where
     from : (b : Bool) → AllByRecursion OnlyLogs (if b then ls else ls ++ record { node = x; words = w } ∷ [])

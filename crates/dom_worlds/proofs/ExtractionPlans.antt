@@ -10,7 +10,7 @@ use Rattle.dom_model.specs.Part.{Part, next_name}
 use Rattle.dom_model.specs.Place.{Boundary, is_before}
 use Rattle.dom_model.specs.Ranges.{Range, at, is_collapsed}
 use Rattle.dom_model.specs.Steps.{make, set_range, part_step, after}
-use Rattle.dom_model.specs.Changes.{observed, inserting}
+use Rattle.dom_model.specs.Changes.{observed, insert_plan}
 use Rattle.dom_model.specs.TextChanges.{replacing_data}
 use Rattle.dom_model.specs.Extract.{Pieces, nothing, cut, tree_holding, pieces_of, common_ancestor, is_in_one_data, clone_part, making_below, taking}
 use Rattle.dom_model.specs.Extract.{new_fragment_node, own_document, new_place, both_at, extracting}
@@ -159,7 +159,7 @@ length-below {p} n into x makes k =
     let put = leads-inserting observed n.name into None first.changed.part may in
     let texts = texts-inserting observed None first.changed.part may x (still first.changed x there) in
     let kq : has_data (kind_of q.trees x) ≡ true = ap has_data (first.changed.kinds x there) ∙ k in
-    length-data (after q (inserting observed n.name into None q)).trees x (ap has_data (put.changed.kinds x (still first.changed x there)) ∙ kq) ∙
+    length-data (after q (insert_plan observed n.name into None q)).trees x (ap has_data (put.changed.kinds x (still first.changed x there)) ∙ kq) ∙
     ap (λ (s : DomString). length s) texts ∙ sym (length-data q.trees x kq) ∙ length-made p n x i k
 
 -- an extraction

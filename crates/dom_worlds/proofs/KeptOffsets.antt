@@ -11,9 +11,9 @@ use Rattle.dom_model.specs.Part.{Part, range_at}
 use Rattle.dom_model.specs.RangeOps.{deleting, insertion_parent, start_reference, cannot_take_node, insert_node_refusal, inserting_into_range}
 use Rattle.dom_model.specs.Ranges.{Range}
 use Rattle.dom_model.specs.Extract.{extracting}
-use Rattle.dom_model.specs.Validity.{insertion_refusal}
+use Rattle.dom_model.specs.Validity.{pre_insert_refusal}
 use Rattle.dom_model.specs.Steps.{make, set_document, join_at, set_range, queue_record, part_step, after}
-use Rattle.dom_model.specs.Changes.{Observing, removing, adopting, inserting, replacing, setting_attribute, unsetting_attribute}
+use Rattle.dom_model.specs.Changes.{Observing, remove_plan, adopt_plan, insert_plan, replace_plan, setting_attribute, unsetting_attribute}
 use Rattle.dom_model.specs.TextChanges.{replacing_data, splitting, normalizing, setting_text}
 use Rattle.dom_worlds.specs.Bounds.{EndsWithin, IsWithin, HasBounds}
 use Rattle.dom_worlds.specs.Tables.{HasEnds, HasTables}
@@ -109,13 +109,13 @@ module _ (p : Part) where
   queue_record-keeps c i h = bounds-of (part_step p (queue_record c)) (part-step p (queue_record c) i) (room-record nowhere p c (room-of p i h))
 
 -- Plans. A removal.
-pub removal-keeps : (how : Observing) (x : NodeName) (p : Part) → IsPart p → HasBounds p → HasBounds (after p (removing how x p))
-removal-keeps how x p i h = bounds-of (after p (removing how x p)) (leads-removing how x p i).changed.part (room-removing nowhere how x p i (room-of p i h))
+pub removal-keeps : (how : Observing) (x : NodeName) (p : Part) → IsPart p → HasBounds p → HasBounds (after p (remove_plan how x p))
+removal-keeps how x p i h = bounds-of (after p (remove_plan how x p)) (leads-removing how x p i).changed.part (room-removing nowhere how x p i (room-of p i h))
 
 -- an adoption
-pub adoption-keeps : (d x : NodeName) (p : Part) → IsPart p → IsTrue (has_node p.trees x) → HasBounds p → HasBounds (after p (adopting d x p))
+pub adoption-keeps : (d x : NodeName) (p : Part) → IsPart p → IsTrue (has_node p.trees x) → HasBounds p → HasBounds (after p (adopt_plan d x p))
 adoption-keeps d x p i t h =
-    bounds-of (after p (adopting d x p)) (leads-adopting d x p i (i.owned x (has_node-times p.trees x t))).changed.part
+    bounds-of (after p (adopt_plan d x p)) (leads-adopting d x p i (i.owned x (has_node-times p.trees x t))).changed.part
     (room-adopting nowhere d x p i (room-of p i h))
 
 -- A node of a part with bounds, and one that may become its parent: that is not below it, and has no data.
@@ -129,17 +129,17 @@ pub record CanGoBelow (x parent : NodeName) (p : Part) : Type 0 where
 
 -- an insertion
 pub insertion-keeps : (how : Observing) (x parent : NodeName) (before : Option NodeName) (p : Part) → CanGoBelow x parent p →
-    HasBounds (after p (inserting how x parent before p))
+    HasBounds (after p (insert_plan how x parent before p))
 insertion-keeps how x parent before p c =
     let m = may-go x parent c.part c.there c.parent_there c.apart in
-    bounds-of (after p (inserting how x parent before p)) (leads-inserting how x parent before c.part m).changed.part
+    bounds-of (after p (insert_plan how x parent before p)) (leads-inserting how x parent before c.part m).changed.part
     (room-inserting how before (record { part = c.part; room = room-of p c.part c.bounds }) (record { go = m; open_parent = c.opened }))
 
 -- a replacement
-pub replacement-keeps : (parent x child : NodeName) (p : Part) → CanGoBelow x parent p → HasBounds (after p (replacing parent x child p))
+pub replacement-keeps : (parent x child : NodeName) (p : Part) → CanGoBelow x parent p → HasBounds (after p (replace_plan parent x child p))
 replacement-keeps parent x child p c =
     let m = may-go x parent c.part c.there c.parent_there c.apart in
-    bounds-of (after p (replacing parent x child p)) (leads-replacing parent x child p c.part m).changed.part
+    bounds-of (after p (replace_plan parent x child p)) (leads-replacing parent x child p c.part m).changed.part
     (room-replacing child (record { part = c.part; room = room-of p c.part c.bounds }) (record { go = m; open_parent = c.opened }))
 
 -- an attribute that is set
@@ -221,7 +221,7 @@ pub range_insertion-keeps : (k : ℕ) (r : Range NodeName) (x : NodeName) (p : P
 range_insertion-keeps k r x p c =
     let i = c.part in
     let parent = insertion_parent p.trees r in
-    let refused = insertion_refusal p.trees parent x (start_reference p.trees r) in
+    let refused = pre_insert_refusal p.trees parent x (start_reference p.trees r) in
     let fits = not_taken (cannot_take_node p.trees r x) refused c.valid in
     let start = (range-ends p k c.tables r c.at_k).0 in
     let m = may-go x parent i c.there (times-has_node p.trees parent (parent-of_range p r start))

@@ -10,7 +10,8 @@ use Rattle.std.proofs.lemmas.Bool.{and_parts}
 use Rattle.dom_model.specs.Names.{name_eq, first_of, is_in, list_eq, max_depth, is_empty}
 use Rattle.dom_model.specs.Tree.{inclusive_descendants, times_in}
 use Rattle.dom_model.specs.Part.{Part}
-use Rattle.dom_model.specs.Slots.{assigned, assigned_below, is_changed, is_bare_slot, is_slot_element, own_slots, other_slots, signals, with_signal, slot_of}
+use Rattle.dom_model.specs.Slots.{assigned_nodes, slottables_of, assigned_nodes_changed, is_bare_slot, is_slot_element, own_slots, other_slots, signals}
+use Rattle.dom_model.specs.Slots.{with_signal, slot_of}
 use Rattle.dom_model.specs.Steps.{Step, set_document, part_step}
 use Rattle.dom_model.specs.World.{World, Task, notify_task, part_of, with_part, node_at, trees_with, root_at, host_of, some_if, is_in_shadow_tree, is_notify_of}
 use Rattle.dom_model.specs.World.{with_notify, component_at, components_below, shadow_root_of, ancestors_at, host_chain}
@@ -27,7 +28,7 @@ use Rattle.dom_worlds.proofs.PartSteps.{rest-step}
 use Rattle.dom_worlds.proofs.WorldSteps.{attached-with_part, kept-world_step}
 use Rattle.dom_model.specs.Command.{EventWords}
 use Rattle.dom_model.specs.Dispatch.{world_visit, visits_of, visit_of, is_at_target, dispatch_in}
-use Rattle.dom_model.specs.Listeners.{Visit, Dispatching, visited, begun}
+use Rattle.dom_model.specs.Listeners.{Visit, Dispatching, after_invoke, begun}
 use Rattle.dom_model.specs.Paths.{View, views, view_at, event_path, whole_path, way_up, with_slots, ends_at, is_node, retarget_related}
 use Rattle.dom_model.specs.Turns.{is_owned_by, without_signals, notified}
 use Rattle.dom_worlds.proofs.Trees.{ancestors-there}
@@ -113,15 +114,15 @@ peopled-each_signal [] w h i = i
 peopled-each_signal (s ∷ ss) w h i = peopled-each_signal ss (with_signal w s) h.1 (peopled-with_signal w s h.0 i)
 
 -- a slot of an owner without host has no assigned nodes
-assigned-none : (w : World) (s : NodeName) → host_of w s.owner ≡ None → assigned w s ≡ []
-assigned-none w s e = ap (λ o. option_map_or (assigned_below w s) (option_and_then (some_if (name_eq (root_at w s) (shadow_root_of s.owner))) o) []) e
+assigned-none : (w : World) (s : NodeName) → host_of w s.owner ≡ None → assigned_nodes w s ≡ []
+assigned-none w s e = ap (λ o. option_map_or (slottables_of w s) (option_and_then (some_if (name_eq (root_at w s) (shadow_root_of s.owner))) o) []) e
 
 -- a slot whose assigned nodes changed
-changed-there : (was now : World) → IsPeopled now → ((o : Owner) → host_of was o ≡ host_of now o) → (s : NodeName) → is_changed was now s ≡ true →
+changed-there : (was now : World) → IsPeopled now → ((o : Owner) → host_of was o ≡ host_of now o) → (s : NodeName) → assigned_nodes_changed was now s ≡ true →
     IsThere now s.owner
 changed-there was now i same s h =
     by_some_is (λ (o : Option NodeName). IsThere now s.owner) (host_of now s.owner)
-    (λ e. absurd (true≢false (sym h ∙ ap (λ xs. not (list_eq name_eq xs (assigned now s))) (assigned-none was s (same s.owner ∙ e)) ∙
+    (λ e. absurd (true≢false (sym h ∙ ap (λ xs. not (list_eq name_eq xs (assigned_nodes now s))) (assigned-none was s (same s.owner ∙ e)) ∙
     ap (λ xs. not (list_eq name_eq [] xs)) (assigned-none now s e))))
     (λ x e. hosted-there now i.owners s.owner (ap is_some e))
 
@@ -129,8 +130,8 @@ changed-there was now i same s h =
 bare-there : (now : World) → IsPeopled now → (s : NodeName) (is_move : Bool) → (is_move && is_bare_slot now s) ≡ true → IsThere now s.owner
 bare-there now i s is_move h =
     let both = and_parts is_move (is_bare_slot now s) h in
-    let inside = and_parts (is_slot_element (node_at now s)) (is_in_shadow_tree now s && is_empty (assigned now s)) both.1 in
-    let in_tree = and_parts (is_in_shadow_tree now s) (is_empty (assigned now s)) inside.1 in
+    let inside = and_parts (is_slot_element (node_at now s)) (is_in_shadow_tree now s && is_empty (assigned_nodes now s)) both.1 in
+    let in_tree = and_parts (is_in_shadow_tree now s) (is_empty (assigned_nodes now s)) inside.1 in
     by_some_is (λ (o : Option NodeName). is_in_shadow_tree now s ≡ true → IsThere now s.owner) (host_of now s.owner)
     (λ e g. absurd (true≢false (sym g ∙ ap (λ o. is_some (option_and_then (some_if (name_eq (root_at now s) (shadow_root_of s.owner))) o)) e)))
     (λ x e g. hosted-there now i.owners s.owner (ap is_some e)) in_tree.0
@@ -141,11 +142,11 @@ signals-there : {now : World} (was : World) → IsPeopled now → ((o : Owner) �
 signals-there {now} was i same x around is_move =
     let P : NodeName → Type 0 = λ s. IsThere now s.owner in
     let bare : List NodeName = if is_move && is_bare_slot now around then around ∷ [] else [] in
-    let own = filter (is_changed was now) (own_slots was now x) in
-    let other = filter (is_changed was now) (other_slots now x around) in
+    let own = filter (assigned_nodes_changed was now) (own_slots was now x) in
+    let other = filter (assigned_nodes_changed was now) (other_slots now x around) in
     let bare-all : AllByRecursion P bare = by_cases (is_move && is_bare_slot now around) (λ e. rw e (bare-there now i around is_move e, tt)) (λ e. rw e tt) in
-    let own-all : AllByRecursion P own = all-passed P (is_changed was now) (changed-there was now i same) (own_slots was now x) in
-    let other-all : AllByRecursion P other = all-passed P (is_changed was now) (changed-there was now i same) (other_slots now x around) in
+    let own-all : AllByRecursion P own = all-passed P (assigned_nodes_changed was now) (changed-there was now i same) (own_slots was now x) in
+    let other-all : AllByRecursion P other = all-passed P (assigned_nodes_changed was now) (changed-there was now i same) (other_slots now x around) in
     all-distinct P name_eq (own ++ bare ++ other) (all-append P (own ++ bare) other (all-append P own bare own-all bare-all) other-all)
 
 -- the signals of a step
@@ -273,7 +274,7 @@ peopled-visits e [] w d h i = i
 peopled-visits e (v ∷ vs) w d h i =
     let o = v.current.owner in
     let p = part_of w o in
-    let heard = visited name_eq e (record d { listeners = p.listeners }) v in
+    let heard = after_invoke name_eq e (record d { listeners = p.listeners }) v in
     let q = record p { listeners = heard.listeners } in
     peopled-visits e vs (with_part w q) heard
     (all-then (λ (v : Visit NodeName). IsThere w v.current.owner) (λ v. IsThere (with_part w q) v.current.owner)
@@ -287,7 +288,7 @@ people-visits e [] w d h = refl
 people-visits e (v ∷ vs) w d h =
     let o = v.current.owner in
     let p = part_of w o in
-    let heard = visited name_eq e (record d { listeners = p.listeners }) v in
+    let heard = after_invoke name_eq e (record d { listeners = p.listeners }) v in
     let q = record p { listeners = heard.listeners } in
     people-visits e vs (with_part w q) heard (all-then (λ (v : Visit NodeName). IsThere w v.current.owner) (λ v. IsThere (with_part w q) v.current.owner)
     (λ u t. there-with_part w q u.current.owner t) vs h.1)

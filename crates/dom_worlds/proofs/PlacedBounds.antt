@@ -12,9 +12,10 @@ use Rattle.dom_model.specs.TreeChanges.{with_document}
 use Rattle.dom_model.specs.Output.{child_list}
 use Rattle.dom_model.specs.Part.{Part}
 use Rattle.dom_model.specs.Steps.{Step, place, take_out, set_document, part_step, after}
-use Rattle.dom_model.specs.Changes.{Plan, in_turn, steps_of, Observing, observed, suppressed, telling, removal_record, removing, removing_from, has_document}
-use Rattle.dom_model.specs.Changes.{changing_document, adopting, document_below, placed_nodes, emptying, making_room, placing, sibling_before, inserting_nodes}
-use Rattle.dom_model.specs.Changes.{inserting}
+use Rattle.dom_model.specs.Changes.{Plan, in_turn, steps_of, Observing, observed, suppressed, telling, removal_record, remove_plan, removing_from, has_document}
+use Rattle.dom_model.specs.Changes.{changing_document, adopt_plan, document_below, placed_nodes, emptying, making_room, placing, sibling_before}
+use Rattle.dom_model.specs.Changes.{inserting_nodes}
+use Rattle.dom_model.specs.Changes.{insert_plan}
 use Rattle.dom_model.proofs.OwnerLaws.{name_eq-same}
 use Rattle.dom_worlds.specs.Worlds.{IsPart}
 use Rattle.dom_worlds.proofs.ChildCounts.{kids, one_at, kids-placed, kids-map_nodes}
@@ -35,7 +36,7 @@ abbrev pub SameTexts : Part → Part → Type 0
 SameTexts p q = (y : NodeName) → HasNode p y → (node_in q.trees y).text ≡ (node_in p.trees y).text
 
 -- of removals
-texts-removing : (how : Observing) (x : NodeName) (p : Part) → IsPart p → SameTexts p (after p (removing how x p))
+texts-removing : (how : Observing) (x : NodeName) (p : Part) → IsPart p → SameTexts p (after p (remove_plan how x p))
 texts-removing how x p i y t = from (parent_of p.trees x) refl
   where
     from : (o : Option NodeName) → parent_of p.trees x ≡ o →
@@ -52,11 +53,11 @@ texts-then : (p : Part) (xs ys : List Step) → ((y : NodeName) → HasNode p y 
 texts-then p xs ys s a b y t = ap (λ (q : Part). (node_in q.trees y).text) (after-append p xs ys) ∙ b y (s y t) ∙ a y t
 
 -- of an adoption
-texts-adopting : (d x : NodeName) (p : Part) → IsPart p → SameTexts p (after p (adopting d x p))
+texts-adopting : (d x : NodeName) (p : Part) → IsPart p → SameTexts p (after p (adopt_plan d x p))
 texts-adopting d x p i =
     let first = leads-removing observed x p i in
-    let q = after p (removing observed x p) in
-    texts-then p (removing observed x p) (changing_document d x q) (λ y. still first.changed y) (texts-removing observed x p i)
+    let q = after p (remove_plan observed x p) in
+    texts-then p (remove_plan observed x p) (changing_document d x q) (λ y. still first.changed y) (texts-removing observed x p i)
     (λ y t. either_way (λ steps. (node_in (after q steps).trees y).text ≡ (node_in q.trees y).text) (not (has_document q.trees d x)) (set_document x d ∷ []) []
     (ap (λ (n : Node). n.text) (node-map_nodes (document_put q.trees x d) (λ n. (document_put-keeps q.trees x d n).0) q.trees y t)
     ∙ either_way (λ (m : Node). m.text ≡ (node_in q.trees y).text) (is_in name_eq (node_in q.trees y).name (inclusive_descendants q.trees x))
@@ -72,16 +73,16 @@ root-parent : (p : Part) (x : NodeName) → IsPart p → HasRoot p.trees x → p
 root-parent p x i h = ap (λ path. Rattle.dom_model.specs.Names.first_of (drop 1 path)) (root-alone p.trees i.unique x h)
 
 -- so nothing is removed
-root-stays : (how : Observing) (x : NodeName) (p : Part) → IsPart p → HasRoot p.trees x → removing how x p ≡ []
+root-stays : (how : Observing) (x : NodeName) (p : Part) → IsPart p → HasRoot p.trees x → remove_plan how x p ≡ []
 root-stays how x p i h = ap (λ o. option_map_or (removing_from how x p.trees) o []) (root-parent p x i h)
 
 -- The adoption of a root.
 module _ (d x : NodeName) (p : Part) (i : IsPart p) (h : HasRoot p.trees x) where
   -- it leaves what a new document leaves
   root-adopted : (P : Trees → Type 0) → P p.trees → P (part_step p (set_document x d)).trees →
-      P (after p (adopting d x p)).trees
+      P (after p (adopt_plan d x p)).trees
   root-adopted P a b =
-      let steps = removing observed x p in
+      let steps = remove_plan observed x p in
       let none_made = root-stays observed x p i h in
       let q = after p steps in
       let same : q ≡ p = ap (after p) none_made in
@@ -90,13 +91,13 @@ module _ (d x : NodeName) (p : Part) (i : IsPart p) (h : HasRoot p.trees x) wher
       (subst (λ (r : Part). P (part_step r (set_document x d)).trees) (sym same) b))
 
   -- children
-  kids-root_adopted : (y : NodeName) → kids (after p (adopting d x p)).trees y ≡ kids p.trees y
+  kids-root_adopted : (y : NodeName) → kids (after p (adopt_plan d x p)).trees y ≡ kids p.trees y
   kids-root_adopted y =
       root-adopted (λ ts. kids ts y ≡ kids p.trees y) refl
       (kids-map_nodes (document_put p.trees x d) (λ n. (document_put-keeps p.trees x d n).0) p.trees y)
 
   -- other roots
-  roots-root_adopted : (y : NodeName) → HasRoot p.trees y → HasRoot (after p (adopting d x p)).trees y
+  roots-root_adopted : (y : NodeName) → HasRoot p.trees y → HasRoot (after p (adopt_plan d x p)).trees y
   roots-root_adopted y r =
       root-adopted (λ ts. HasRoot ts y) r
       (root-map_nodes (document_put p.trees x d) (λ n. (document_put-keeps p.trees x d n).0) p.trees y r)
@@ -110,7 +111,7 @@ module _ (parent : NodeName) (before : Option NodeName) where
         ≡ kids p.trees y + one_at parent y
     kids-root_placed m h y =
         let doc = document_below p.trees parent in
-        let steps = adopting doc x p in
+        let steps = adopt_plan doc x p in
         let q = after p steps in
         let first = leads-eased (Some parent) p steps (leads-adopting doc x p i m.owner) in
         let n = may-still parent p q x first.changed m in
@@ -122,7 +123,7 @@ module _ (parent : NodeName) (before : Option NodeName) where
     roots-root_placed : HasRoot p.trees x → (y : NodeName) → name_eq x y ≡ false → HasRoot p.trees y → HasRoot (after p (placing parent before x p)).trees y
     roots-root_placed h y e r =
         let doc = document_below p.trees parent in
-        let steps = adopting doc x p in
+        let steps = adopt_plan doc x p in
         subst (λ (q : Part). HasRoot q.trees y) (sym (after-append p steps (place x parent before ∷ [])))
         (root-placed parent before x (after p steps).trees y e (roots-root_adopted doc x p i h y r))
 
@@ -146,7 +147,7 @@ module _ (parent : NodeName) (before : Option NodeName) where
 module _ (how : Observing) (node parent : NodeName) (before : Option NodeName) (p : Part) (i : IsPart p) (m : MayGo parent p node) where
   -- An insertion, by what is placed: the children of its parent are that many more.
   pub kids-inserted : let moved = placed_nodes p.trees node in let q = after p (emptied_of p node p) in AllByRecursion (HasRoot q.trees) moved →
-      Distinct moved → kids q.trees parent ≡ kids p.trees parent → kids (after p (inserting how node parent before p)).trees parent
+      Distinct moved → kids q.trees parent ≡ kids p.trees parent → kids (after p (insert_plan how node parent before p)).trees parent
       ≡ kids p.trees parent + length moved
   kids-inserted roots distinct same =
       let spot = Some parent in
@@ -182,7 +183,7 @@ module _ (how : Observing) (node parent : NodeName) (before : Option NodeName) (
       from true (x ∷ moved) e steps h = absurd (true≢false (sym e))
 
   -- of a root that is no fragment
-  pub kids-plain : HasRoot p.trees node → is_fragment (kind_of p.trees node) ≡ false → kids (after p (inserting how node parent before p)).trees parent
+  pub kids-plain : HasRoot p.trees node → is_fragment (kind_of p.trees node) ≡ false → kids (after p (insert_plan how node parent before p)).trees parent
       ≡ kids p.trees parent + 1
   kids-plain h k =
       let moved = placed_nodes p.trees node in
@@ -201,7 +202,7 @@ texts-placing : (parent : NodeName) (before : Option NodeName) (p : Part) (x : N
     SameTexts p (after p (placing parent before x p))
 texts-placing parent before p x i m =
     let doc = document_below p.trees parent in
-    let steps = adopting doc x p in
+    let steps = adopt_plan doc x p in
     let q = after p steps in
     let first = leads-eased (Some parent) p steps (leads-adopting doc x p i m.owner) in
     let n = may-still parent p q x first.changed m in
@@ -214,7 +215,7 @@ texts-joins_on = record { nothing = λ p y t. refl; append = λ p xs ys c a b. t
 
 -- of an insertion
 pub texts-inserting : {node parent : NodeName} {p : Part} (how : Observing) (before : Option NodeName) → IsPart p → MayGo parent p node →
-    SameTexts p (after p (inserting how node parent before p))
+    SameTexts p (after p (insert_plan how node parent before p))
 texts-inserting {node} {parent} {p} how before i m =
     let moved = placed_nodes p.trees node in
     inserting-by texts-joins_on {before = before} i m (record {

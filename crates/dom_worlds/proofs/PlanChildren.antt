@@ -3,9 +3,9 @@ use Rattle.std.proofs.Common.{◌++◌, ◌∷◌, [], Bool, false, length, List
 use Rattle.std.specs.List.{AllByRecursion}
 use Rattle.std.specs.Prelude.{if◌then◌else◌, ⊤, min}
 use Rattle.dom_base.specs.declared.NodeName.{NodeName}
-use Rattle.dom_model.specs.Changes.{emptying, in_turn, inserting, inserting_nodes, making_room, Observing, placed_nodes, placing, Plan, removing}
+use Rattle.dom_model.specs.Changes.{emptying, in_turn, insert_plan, inserting_nodes, making_room, Observing, placed_nodes, placing, Plan, remove_plan}
 use Rattle.dom_model.specs.Changes.{sibling_before, steps_of, suppressed, telling, observed, removal_record, removing_from, has_document, changing_document}
-use Rattle.dom_model.specs.Changes.{adopting, document_below}
+use Rattle.dom_model.specs.Changes.{adopt_plan, document_below}
 use Rattle.dom_model.specs.Names.{is_empty, DomString, name_eq}
 use Rattle.dom_model.specs.Output.{child_list}
 use Rattle.dom_model.specs.Part.{Part, next_name}
@@ -33,7 +33,7 @@ pub record Joins (S : Part → List Step → Type 0) : Type 0 where
 
 -- What has to be shown of an insertion, of each part of its plan where that is made.
 pub record InsertsBy (S : Part → List Step → Type 0) (how : Observing) (node parent : NodeName) (before : Option NodeName) (p : Part) : Type 0 where
-  pub removals : S p (in_turn (removing suppressed) (placed_nodes p.trees node) p)
+  pub removals : S p (in_turn (remove_plan suppressed) (placed_nodes p.trees node) p)
   pub left : (q : Part) → Changed None p q → S q (queue_record (child_list node [] (placed_nodes p.trees node) None None) ∷ [])
   pub room : (q : Part) → S q (making_room parent before (length (placed_nodes p.trees node)) q)
   pub placed : (q : Part) → Changed (Some parent) p q → AllByRecursion (MayGo parent q) (placed_nodes p.trees node) →
@@ -53,11 +53,11 @@ module _ {S : Part → List Step → Type 0} (joins : Joins S) where
       (each-by each holds xs q c.part (all-then (Q p) (Q q) (λ y. each.stays p q y c) xs g.1))
 
   -- of a fragment that is emptied
-  emptied-by : {node : NodeName} {p : Part} → IsPart p → S p (in_turn (removing suppressed) (placed_nodes p.trees node) p) →
+  emptied-by : {node : NodeName} {p : Part} → IsPart p → S p (in_turn (remove_plan suppressed) (placed_nodes p.trees node) p) →
       ((q : Part) → Changed None p q → S q (queue_record (child_list node [] (placed_nodes p.trees node) None None) ∷ [])) → S p (emptied_of p node p)
   emptied-by {node} {p} i removals left =
       let moved = placed_nodes p.trees node in
-      let gone = in_turn (removing suppressed) moved p in
+      let gone = in_turn (remove_plan suppressed) moved p in
       let c = (leads-each (removing-each suppressed) moved p i (all-from (λ y. ⊤) (λ y. tt) moved)).changed in
       from (is_fragment (kind_of p.trees node))
       (joins.append p gone (queue_record (child_list node [] moved None None) ∷ []) c removals (left (after p gone) c))
@@ -68,7 +68,7 @@ module _ {S : Part → List Step → Type 0} (joins : Joins S) where
 
   -- of an insertion
   pub inserting-by : {how : Observing} {node parent : NodeName} {before : Option NodeName} {p : Part} → IsPart p → MayGo parent p node →
-      InsertsBy S how node parent before p → S p (inserting how node parent before p)
+      InsertsBy S how node parent before p → S p (insert_plan how node parent before p)
   inserting-by {how} {node} {parent} {before} {p} i m by =
       let spot = Some parent in
       let moved = placed_nodes p.trees node in
@@ -105,7 +105,7 @@ pub record IsChildIn (x y : NodeName) (p : Part) : Type 0 where
   pub child : IsChild x y p
 
 -- It stays a child where others leave.
-pub child-removing : {x y : NodeName} {p : Part} (how : Observing) (z : NodeName) → IsChildIn x y p → IsNot x z → IsChild x y (after p (removing how z p))
+pub child-removing : {x y : NodeName} {p : Part} (how : Observing) (z : NodeName) → IsChildIn x y p → IsNot x z → IsChild x y (after p (remove_plan how z p))
 child-removing {x} {y} {p} how z c d =
     by_some_is (λ (o : Option NodeName). IsChild x y (after p (option_map_or (removing_from how z p.trees) o []))) (parent_of p.trees z) (λ e. c.child)
     (λ parent e. subst (λ ts. 1 ≤ childs ts x y) (sym
@@ -118,19 +118,19 @@ child-then x y p xs ys h = subst (IsChild x y) (sym (after-append p xs ys)) h
 
 -- many that leave
 pub child-removals : {x y : NodeName} (how : Observing) (zs : List NodeName) {p : Part} → IsChildIn x y p → AllByRecursion (IsNot x) zs →
-    IsChild x y (after p (in_turn (removing how) zs p))
+    IsChild x y (after p (in_turn (remove_plan how) zs p))
 child-removals how [] c d = c.child
 child-removals {x} {y} how (z ∷ zs) {p} c d =
-    let q = after p (removing how z p) in
-    child-then x y p (removing how z p) (in_turn (removing how) zs q)
+    let q = after p (remove_plan how z p) in
+    child-then x y p (remove_plan how z p) (in_turn (remove_plan how) zs q)
     (child-removals how zs (record { part = (leads-removing how z p c.part).changed.part; child = child-removing how z c d.0 }) d.1)
 
 -- an adoption
-child-adopting : {x y : NodeName} {p : Part} (d z : NodeName) → IsChildIn x y p → IsNot x z → IsChild x y (after p (adopting d z p))
+child-adopting : {x y : NodeName} {p : Part} (d z : NodeName) → IsChildIn x y p → IsNot x z → IsChild x y (after p (adopt_plan d z p))
 child-adopting {x} {y} {p} d z c n =
-    let q = after p (removing observed z p) in
+    let q = after p (remove_plan observed z p) in
     let g = child-removing observed z c n in
-    child-then x y p (removing observed z p) (changing_document d z q)
+    child-then x y p (remove_plan observed z p) (changing_document d z q)
     (documented d z q (λ ts. 1 ≤ childs ts x y) g
     (let s = childs-map_nodes (document_put q.trees z d) (λ n. (document_put-keeps q.trees z d n).0) q.trees x y in omega arith))
 
@@ -139,7 +139,7 @@ child-placing : {x y parent : NodeName} {p : Part} {z : NodeName} (before : Opti
     IsChild x y (after p (placing parent before z p))
 child-placing {x} {y} {parent} {p} {z} before c m n =
     let doc = document_below p.trees parent in
-    let steps = adopting doc z p in
+    let steps = adopt_plan doc z p in
     let q = after p steps in
     let first = leads-eased (Some parent) p steps (leads-adopting doc z p c.part m.owner) in
     let k = may-still parent p q z first.changed m in
@@ -180,7 +180,7 @@ others-placed x y node p i other =
 
 -- an insertion
 pub child-inserting : {x y node parent : NodeName} {p : Part} (how : Observing) (before : Option NodeName) → IsPart p → MayGo parent p node →
-    IsOtherChild x y node p → IsChild x y (after p (inserting how node parent before p))
+    IsOtherChild x y node p → IsChild x y (after p (insert_plan how node parent before p))
 child-inserting {x} {y} {node} {parent} {p} how before i m other =
     let S : Part → List Step → Type 0 = λ q steps. IsChild x y q → IsChild x y (after q steps) in
     let joins : Joins S = record { nothing = λ q h. h; append = λ q xs ys c a b h. child-then x y q xs ys (b (a h)) } in
@@ -225,7 +225,7 @@ child-parent p x y i h = childs-parent p.trees x y i.unique h
 child-placing_it : (x parent : NodeName) (before : Option NodeName) (p : Part) → IsPart p → MayGo parent p x →
     IsChild x parent (after p (placing parent before x p))
 child-placing_it x parent before p i m =
-    let steps = adopting (document_below p.trees parent) x p in
+    let steps = adopt_plan (document_below p.trees parent) x p in
     let q = after p steps in
     let first = leads-eased (Some parent) p steps (leads-adopting (document_below p.trees parent) x p i m.owner) in
     let k = may-still parent p q x first.changed m in
@@ -233,7 +233,7 @@ child-placing_it x parent before p i m =
 
 -- by an insertion of a node that is no fragment
 pub child-inserted : {node parent : NodeName} {p : Part} (how : Observing) (before : Option NodeName) → IsPart p → MayGo parent p node →
-    is_fragment (kind_of p.trees node) ≡ false → IsChild node parent (after p (inserting how node parent before p))
+    is_fragment (kind_of p.trees node) ≡ false → IsChild node parent (after p (insert_plan how node parent before p))
 child-inserted {node} {parent} {p} how before i m k =
     from (is_fragment (kind_of p.trees node)) k
   where

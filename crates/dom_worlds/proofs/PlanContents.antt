@@ -13,7 +13,7 @@ use Rattle.dom_model.specs.Part.{Part, next_name, range_at}
 use Rattle.dom_model.specs.Place.{Boundary}
 use Rattle.dom_model.specs.Ranges.{Range, at, from_to, is_collapsed}
 use Rattle.dom_model.specs.Steps.{Step, make, set_range, part_step, after}
-use Rattle.dom_model.specs.Changes.{◌and_then◌, in_turn, doing, steps_of, observed, removing, inserting, reference_for, pre_inserting}
+use Rattle.dom_model.specs.Changes.{◌and_then◌, in_turn, doing, steps_of, observed, remove_plan, insert_plan, reference_child, pre_insert_plan}
 use Rattle.dom_model.specs.TextChanges.{replacing_data, splitting}
 use Rattle.dom_model.specs.Extract.{Pieces, nothing, whole, cut, clone, cut_start, cut_end, pieces_of, common_ancestor, is_in_one_data, clone_part}
 use Rattle.dom_model.specs.Extract.{making_below, taking, new_fragment_node, own_document, new_place, behind_node, both_at, extracting}
@@ -76,7 +76,7 @@ pub leads-making_below : (into : NodeName) (n : Node) (p : Part) → n.name ≡ 
 leads-making_below into n p e i t =
     let spot = Some into in
     let first = leads-one p (make n) i tt in
-    leads-then spot p (make n ∷ []) (inserting observed n.name into None (part_step p (make n))) (leads-eased spot p (make n ∷ []) first)
+    leads-then spot p (make n ∷ []) (insert_plan observed n.name into None (part_step p (make n))) (leads-eased spot p (make n ∷ []) first)
     (leads-inserting observed n.name into None first.changed.part
     (subst (MayGo into (part_step p (make n))) (sym e) (new-may p n into i t)))
 
@@ -111,7 +111,7 @@ pub leads-taking : {count : ℕ} (pieces : Pieces) {into : NodeName} {p : Part} 
 leads-taking nothing {into} {p} t = leads-nothing (Some into) p t.part
 leads-taking (whole x rest) {into} {p} t =
     let o = t.old in
-    leads-plan (Some into) (inserting observed x into None) (taking into rest) p
+    leads-plan (Some into) (insert_plan observed x into None) (taking into rest) p
     (leads-inserting observed x into None t.part (old-may into t.part o.0 t.there t.new))
     (λ q c. leads-taking rest (take-still rest t o.1 c))
 leads-taking (cut x from to rest) {into} {p} t =
@@ -230,13 +230,13 @@ pub leads-contents : (ts : Trees) (range : Range NodeName) (p : Part) → IsPart
 leads-contents ts range p i = from (is_in_one_data ts range)
   where
     from : (b : Bool) → Leads None p ((if b then cutting_data ts range range.start.node else
-        (cutting_data ts range range.start.node and_then in_turn (removing observed) (outermost_contained ts range) and_then cutting_data ts range
+        (cutting_data ts range range.start.node and_then in_turn (remove_plan observed) (outermost_contained ts range) and_then cutting_data ts range
         range.end.node)) p)
     from true = leads-cutting ts range range.start.node p i
     from false =
-        leads-plan None (cutting_data ts range range.start.node and_then in_turn (removing observed) (outermost_contained ts range))
+        leads-plan None (cutting_data ts range range.start.node and_then in_turn (remove_plan observed) (outermost_contained ts range))
         (cutting_data ts range range.end.node) p
-        (leads-plan None (cutting_data ts range range.start.node) (in_turn (removing observed) (outermost_contained ts range)) p
+        (leads-plan None (cutting_data ts range range.start.node) (in_turn (remove_plan observed) (outermost_contained ts range)) p
         (leads-cutting ts range range.start.node p i) (λ q c. leads-removals observed (outermost_contained ts range) q c.part))
         (λ q c. leads-cutting ts range range.end.node q c.part)
 
@@ -272,23 +272,23 @@ leads-inserting_before {node} {parent} {p} k reference s m =
     let i = s.part in
     let ts = p.trees in
     let end = at parent (option_map_or (index_of ts) reference (length_of ts parent) + (if is_fragment (kind_of ts node) then length_of ts node else 1)) in
-    let first = leads-inserting observed node parent (reference_for ts node reference) i m in
-    let q = after p (pre_inserting node parent reference p) in
-    leads-then (Some parent) p (pre_inserting node parent reference p) (ending_at k end q) first
+    let first = leads-inserting observed node parent (reference_child ts node reference) i m in
+    let q = after p (pre_insert_plan node parent reference p) in
+    leads-then (Some parent) p (pre_insert_plan node parent reference p) (ending_at k end q) first
     (leads-eased (Some parent) q (ending_at k end q)
     (leads-ending_at k end
-    (starts-after (pre_inserting node parent reference p) first.made (spares-inserting observed (reference_for ts node reference) i m) s)))
+    (starts-after (pre_insert_plan node parent reference p) first.made (spares-inserting observed (reference_child ts node reference) i m) s)))
 
 -- a node that left its parent first
 leads-inserting_at : {node parent : NodeName} {p : Part} (k : ℕ) (child : Option NodeName) → IsStart k parent p → MayGo parent p node →
     Leads (Some parent) p (inserting_at k node parent child p)
 leads-inserting_at {node} {parent} {p} k child s m =
     let spot = Some parent in
-    let first = leads-eased spot p (removing observed node p) (leads-removing observed node p s.part) in
-    let q = after p (removing observed node p) in
-    leads-then spot p (removing observed node p) (inserting_before k node parent (reference_for p.trees node child) q) first
-    (leads-inserting_before k (reference_for p.trees node child)
-    (starts-after (removing observed node p) first.made (spares-removing parent observed node p m.apart) s)
+    let first = leads-eased spot p (remove_plan observed node p) (leads-removing observed node p s.part) in
+    let q = after p (remove_plan observed node p) in
+    leads-then spot p (remove_plan observed node p) (inserting_before k node parent (reference_child p.trees node child) q) first
+    (leads-inserting_before k (reference_child p.trees node child)
+    (starts-after (remove_plan observed node p) first.made (spares-removing parent observed node p m.apart) s)
     (may-still parent p q node first.changed m))
 
 -- the parent of an insertion into a range has the root of its start

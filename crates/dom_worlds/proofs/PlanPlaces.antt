@@ -10,8 +10,8 @@ use Rattle.dom_model.specs.TreeChanges.{without, map_nodes, with_name}
 use Rattle.dom_model.specs.Output.{Change, child_list}
 use Rattle.dom_model.specs.Part.{Part, next_name}
 use Rattle.dom_model.specs.Steps.{Step, make, make_room, place, take_out, set_document, set_attribute, replace_data, queue_record, part_step, leave, after}
-use Rattle.dom_model.specs.Changes.{Plan, in_turn, steps_of, Observing, observed, suppressed, telling, removal_record, removing, removing_from, has_document}
-use Rattle.dom_model.specs.Changes.{changing_document, adopting, document_below, placed_nodes, emptying, making_room, placing, sibling_before, inserting}
+use Rattle.dom_model.specs.Changes.{Plan, in_turn, steps_of, Observing, observed, suppressed, telling, removal_record, remove_plan, removing_from, has_document}
+use Rattle.dom_model.specs.Changes.{changing_document, adopt_plan, document_below, placed_nodes, emptying, making_room, placing, sibling_before, insert_plan}
 use Rattle.dom_model.proofs.StepLaws.{owner-part_step}
 use Rattle.dom_model.proofs.OwnerLaws.{name_eq-true}
 use Rattle.dom_worlds.specs.Worlds.{IsPart}
@@ -195,7 +195,7 @@ leads-telling observed c p i = leads-one p (queue_record c) i tt
 leads-telling suppressed c p i = leads-nothing None p i
 
 -- a removal
-pub leads-removing : (how : Observing) (x : NodeName) (p : Part) → IsPart p → Leads None p (removing how x p)
+pub leads-removing : (how : Observing) (x : NodeName) (p : Part) → IsPart p → Leads None p (remove_plan how x p)
 leads-removing how x p i =
     by_some (λ (o : Option NodeName). Leads None p (option_map_or (removing_from how x p.trees) o [])) (parent_of p.trees x) (leads-nothing None p i)
     (λ parent. let first = leads-one p (take_out x) i tt in
@@ -203,11 +203,11 @@ leads-removing how x p i =
     (leads-telling how (removal_record p.trees parent x) (part_step p (take_out x)) first.changed.part))
 
 -- an adoption
-pub leads-adopting : (d x : NodeName) (p : Part) → IsPart p → x.owner ≡ p.owner → Leads None p (adopting d x p)
+pub leads-adopting : (d x : NodeName) (p : Part) → IsPart p → x.owner ≡ p.owner → Leads None p (adopt_plan d x p)
 leads-adopting d x p i e =
     let first = leads-removing observed x p i in
-    let q = after p (removing observed x p) in
-    leads-then None p (removing observed x p) (changing_document d x q) first
+    let q = after p (remove_plan observed x p) in
+    leads-then None p (remove_plan observed x p) (changing_document d x q) first
     (leads-if (not (has_document q.trees d x))
     (leads-one q (set_document x d) first.changed.part (e ∙ sym first.changed.owner)) (leads-nothing None q first.changed.part))
 
@@ -237,7 +237,7 @@ telling-trees observed c p = refl
 telling-trees suppressed c p = refl
 
 -- one that leaves its parent becomes one
-pub root-removing : (how : Observing) (x : NodeName) (p : Part) → HasNode p x → HasRoot (after p (removing how x p)).trees x
+pub root-removing : (how : Observing) (x : NodeName) (p : Part) → HasNode p x → HasRoot (after p (remove_plan how x p)).trees x
 root-removing how x p t =
     by_some_is (λ (o : Option NodeName). HasRoot (after p (option_map_or (removing_from how x p.trees) o [])).trees x) (parent_of p.trees x)
     (λ e. no_parent-root p.trees x t e)
@@ -246,11 +246,11 @@ root-removing how x p t =
     (root-put_root_new x (subtree p.trees x) (without x p.trees) x (root-subtree p.trees x t)))
 
 -- and stays one under another node document
-pub root-adopting : (d x : NodeName) (p : Part) → HasNode p x → HasRoot (after p (adopting d x p)).trees x
+pub root-adopting : (d x : NodeName) (p : Part) → HasNode p x → HasRoot (after p (adopt_plan d x p)).trees x
 root-adopting d x p t =
-    let q = after p (removing observed x p) in
+    let q = after p (remove_plan observed x p) in
     let rooted = root-removing observed x p t in
-    subst (λ (r : Part). HasRoot r.trees x) (sym (after-append p (removing observed x p) (changing_document d x q)))
+    subst (λ (r : Part). HasRoot r.trees x) (sym (after-append p (remove_plan observed x p) (changing_document d x q)))
     (either_way (λ steps. HasRoot (after q steps).trees x) (not (has_document q.trees d x)) (set_document x d ∷ []) []
     (root-map_nodes (document_put q.trees x d) (λ n. (document_put-keeps q.trees x d n).0) q.trees x rooted) rooted)
 
@@ -259,14 +259,14 @@ pub leads-placing : (parent : NodeName) (before : Option NodeName) (p : Part) (x
     Leads (Some parent) p (placing parent before x p)
 leads-placing parent before p x i m =
     let d = document_below p.trees parent in
-    let q = after p (adopting d x p) in
-    let first = leads-eased (Some parent) p (adopting d x p) (leads-adopting d x p i m.owner) in
+    let q = after p (adopt_plan d x p) in
+    let first = leads-eased (Some parent) p (adopt_plan d x p) (leads-adopting d x p i m.owner) in
     let n = may-still parent p q x first.changed m in
-    leads-then (Some parent) p (adopting d x p) (place x parent before ∷ []) first
+    leads-then (Some parent) p (adopt_plan d x p) (place x parent before ∷ []) first
     (leads-one q (place x parent before) first.changed.part (n.below, n.apart, root-adopting d x p m.there))
 
 -- removals
-pub removing-each : (how : Observing) → LeadsEach None (λ p (x : NodeName). ⊤) (removing how)
+pub removing-each : (how : Observing) → LeadsEach None (λ p (x : NodeName). ⊤) (remove_plan how)
 removing-each how = record { leads = λ p x i t. leads-removing how x p i; stays = λ p q x c t. tt }
 
 -- placings
@@ -277,8 +277,8 @@ placing-each parent before = record { leads = leads-placing parent before; stays
 leads-emptying : (node : NodeName) (children : List NodeName) (p : Part) → IsPart p → Leads None p (emptying node children p)
 leads-emptying node children p i =
     let first = leads-each (removing-each suppressed) children p i (all-from (λ y. ⊤) (λ y. tt) children) in
-    leads-then None p (in_turn (removing suppressed) children p) (queue_record (child_list node [] children None None) ∷ []) first
-    (leads-one (after p (in_turn (removing suppressed) children p)) (queue_record (child_list node [] children None None)) first.changed.part tt)
+    leads-then None p (in_turn (remove_plan suppressed) children p) (queue_record (child_list node [] children None None) ∷ []) first
+    (leads-one (after p (in_turn (remove_plan suppressed) children p)) (queue_record (child_list node [] children None None)) first.changed.part tt)
 
 -- offsets that grow
 pub leads-making_room : (parent : NodeName) (before : Option NodeName) (count : ℕ) (p : Part) → IsPart p → Leads None p (making_room parent before count p)
@@ -317,7 +317,7 @@ leads-emptied node p i = from (is_fragment (kind_of p.trees node))
 
 -- an insertion
 pub leads-inserting : {p : Part} (how : Observing) (node parent : NodeName) (before : Option NodeName) → IsPart p → MayGo parent p node →
-    Leads (Some parent) p (inserting how node parent before p)
+    Leads (Some parent) p (insert_plan how node parent before p)
 leads-inserting {p = p} how node parent before i m =
     let spot = Some parent in
     let moved = placed_nodes p.trees node in
@@ -340,5 +340,5 @@ leads-inserting {p = p} how node parent before i m =
     (leads-then spot p ((one ++ two) ++ three) told abc d)
 
 -- insertions of nodes behind the children of one
-pub inserting-each : (x : NodeName) → LeadsEach (Some x) (MayGo x) (λ y. inserting suppressed y x None)
+pub inserting-each : (x : NodeName) → LeadsEach (Some x) (MayGo x) (λ y. insert_plan suppressed y x None)
 inserting-each x = record { leads = λ p y i m. leads-inserting suppressed y x None i m; stays = may-still x }

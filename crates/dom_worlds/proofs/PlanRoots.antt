@@ -13,8 +13,8 @@ use Rattle.dom_model.specs.Place.{Boundary}
 use Rattle.dom_model.specs.Ranges.{Range, map_ends, after_insert, after_removal, after_replace_data, after_split, after_join}
 use Rattle.dom_model.specs.Steps.{Step, make, make_room, place, take_out, set_document, set_attribute, replace_data, split_at, join_at, set_range, queue_record}
 use Rattle.dom_model.specs.Steps.{part_step, leave, with_ends, after}
-use Rattle.dom_model.specs.Changes.{Observing, observed, suppressed, telling, removing, removing_from, has_document, changing_document, adopting}
-use Rattle.dom_model.specs.Changes.{document_below, placed_nodes, making_room, placing, sibling_before, inserting}
+use Rattle.dom_model.specs.Changes.{Observing, observed, suppressed, telling, remove_plan, removing_from, has_document, changing_document, adopt_plan}
+use Rattle.dom_model.specs.Changes.{document_below, placed_nodes, making_room, placing, sibling_before, insert_plan}
 use Rattle.dom_model.specs.TextChanges.{replacing_data, new_text_node, placing_tail, splitting}
 use Rattle.dom_worlds.specs.Worlds.{IsPart}
 use Rattle.dom_worlds.specs.Tables.{IsNodeIn, EndsIn, HasTables}
@@ -162,7 +162,7 @@ spares-append y p [] ys h g = g
 spares-append y p (x ∷ xs) ys h g = (h.0, spares-append y (part_step p x) xs ys h.1 g)
 
 -- a removal
-pub spares-removing : (y : NodeName) (how : Observing) (x : NodeName) (p : Part) → inside p.trees x y ≡ 0 → SparesAll y p (removing how x p)
+pub spares-removing : (y : NodeName) (how : Observing) (x : NodeName) (p : Part) → inside p.trees x y ≡ 0 → SparesAll y p (remove_plan how x p)
 spares-removing y how x p h = from (parent_of p.trees x) how
   where
     from : (o : Option NodeName) (how : Observing) → SparesAll y p (option_map_or (removing_from how x p.trees) o [])
@@ -174,9 +174,9 @@ spares-removing y how x p h = from (parent_of p.trees x) how
 spares-placing : (parent : NodeName) (before : Option NodeName) (p : Part) (x : NodeName) → MayGo parent p x → SparesAll parent p (placing parent before x p)
 spares-placing parent before p x m =
     let d = document_below p.trees parent in
-    let q = after p (removing observed x p) in
-    spares-append parent p (adopting d x p) (place x parent before ∷ [])
-    (spares-append parent p (removing observed x p) (changing_document d x q) (spares-removing parent observed x p m.apart)
+    let q = after p (remove_plan observed x p) in
+    spares-append parent p (adopt_plan d x p) (place x parent before ∷ [])
+    (spares-append parent p (remove_plan observed x p) (changing_document d x q) (spares-removing parent observed x p m.apart)
     (either_way (SparesAll parent q) (not (has_document q.trees d x)) (set_document x d ∷ []) [] (tt, tt) tt)) (tt, tt)
 
 -- as other plans need it
@@ -185,10 +185,10 @@ spares-joins_on y = record { nothing = λ p. tt; append = λ p xs ys c. spares-a
 
 -- an insertion
 pub spares-inserting : {node parent : NodeName} {p : Part} (how : Observing) (before : Option NodeName) → IsPart p → MayGo parent p node →
-    SparesAll parent p (inserting how node parent before p)
+    SparesAll parent p (insert_plan how node parent before p)
 spares-inserting {node} {parent} {p} how before i m =
-    let each : LeadsEach (Some parent) (MayGo parent) (removing suppressed) = record {
-      leads = λ q x j n. leads-eased (Some parent) q (removing suppressed x q) (leads-removing suppressed x q j);
+    let each : LeadsEach (Some parent) (MayGo parent) (remove_plan suppressed) = record {
+      leads = λ q x j n. leads-eased (Some parent) q (remove_plan suppressed x q) (leads-removing suppressed x q j);
       stays = may-still parent;
     } in
     inserting-by (spares-joins_on parent) i m (record {
@@ -220,7 +220,7 @@ spares-splitting x offset p i =
     let q = part_step p (make tail) in
     let one = make tail ∷ placing_tail x offset new spot q in
     let put = by_some_is (λ (o : Option NodeName). SparesAll (unwrap_or o x) q (placing_tail x offset new o q)) spot (λ e. tt)
-    (λ parent e. spares-append parent q (inserting observed new parent (next_sibling q.trees x) q) _
+    (λ parent e. spares-append parent q (insert_plan observed new parent (next_sibling q.trees x) q) _
     (spares-inserting observed (next_sibling q.trees x) (leads-one p (make tail) i tt).changed.part
     (new-may p tail parent i (parent-there p.trees x parent e))) (tt, tt)) in
     spares-append (unwrap_or spot x) p one (replacing_data x offset (length old.text - offset) [] (after p one)) (tt, put) (tt, (tt, tt))

@@ -13,9 +13,9 @@ use Rattle.dom_model.specs.TreeChanges.{with_name}
 use Rattle.dom_model.specs.Output.{child_list, attributes, character_data}
 use Rattle.dom_model.specs.Part.{Part, next_name}
 use Rattle.dom_model.specs.Steps.{Step, make, set_attribute, replace_data, split_at, join_at, queue_record, part_step, after}
-use Rattle.dom_model.specs.Changes.{Plan, ◌and_then◌, in_turn, doing, steps_of, only_if, Observing, observed, suppressed, removing, document_below}
-use Rattle.dom_model.specs.Changes.{placed_nodes, inserting, reference_for, replacing, setting_attribute, unsetting_attribute}
-use Rattle.dom_model.specs.TextChanges.{replacing_data, new_text_node, replacing_all_data, placing_tail, splitting, texts_after, joins, joining}
+use Rattle.dom_model.specs.Changes.{Plan, ◌and_then◌, in_turn, doing, steps_of, only_if, Observing, observed, suppressed, remove_plan, document_below}
+use Rattle.dom_model.specs.Changes.{placed_nodes, insert_plan, reference_child, replace_plan, setting_attribute, unsetting_attribute}
+use Rattle.dom_model.specs.TextChanges.{replacing_data, new_text_node, replacing_all_data, placing_tail, splitting, contiguous_texts_after, joins, joining}
 use Rattle.dom_model.specs.TextChanges.{normalizing_text, normalizing, replacing_children, setting_text}
 use Rattle.dom_model.proofs.OwnerLaws.{name_eq-same, name_eq-true}
 use Rattle.dom_worlds.specs.Worlds.{IsPart}
@@ -40,14 +40,14 @@ pub leads-plan : (spot : Option NodeName) (f g : Plan) (p : Part) → Leads spot
 leads-plan spot f g p a b = leads-then spot p (f p) (g (after p (f p))) a (b (after p (f p)) a.changed)
 
 -- Replacements, attributes and data.
-pub leads-replacing : (parent node child : NodeName) (p : Part) → IsPart p → MayGo parent p node → Leads (Some parent) p (replacing parent node child p)
+pub leads-replacing : (parent node child : NodeName) (p : Part) → IsPart p → MayGo parent p node → Leads (Some parent) p (replace_plan parent node child p)
 leads-replacing parent node child p i m =
     let spot = Some parent in
-    let reference = reference_for p.trees node (next_sibling p.trees child) in
+    let reference = reference_child p.trees node (next_sibling p.trees child) in
     let told = queue_record (child_list parent (placed_nodes p.trees node) (child ∷ []) (previous_sibling p.trees child) reference) in
-    leads-plan spot (removing suppressed child and_then inserting suppressed node parent reference) (doing told) p
-    (leads-plan spot (removing suppressed child) (inserting suppressed node parent reference) p
-    (leads-eased spot p (removing suppressed child p) (leads-removing suppressed child p i))
+    leads-plan spot (remove_plan suppressed child and_then insert_plan suppressed node parent reference) (doing told) p
+    (leads-plan spot (remove_plan suppressed child) (insert_plan suppressed node parent reference) p
+    (leads-eased spot p (remove_plan suppressed child p) (leads-removing suppressed child p i))
     (λ q c. leads-inserting suppressed node parent reference c.part (may-still parent p q node c m)))
     (λ q c. leads-eased spot q (told ∷ []) (leads-one q told c.part tt))
 
@@ -112,10 +112,10 @@ pub record MayFollow (x parent : NodeName) (q : Part) (new : NodeName) : Type 0 
 
 -- it does
 follows : {x parent : NodeName} {q : Part} {new : NodeName} (before : Option NodeName) → IsPart q → MayFollow x parent q new →
-    let r = after q (inserting observed new parent before q) in root_of r.trees new ≡ root_of r.trees x
+    let r = after q (insert_plan observed new parent before q) in root_of r.trees new ≡ root_of r.trees x
 follows {x} {parent} {q} {new} before i f =
     let put = leads-inserting observed new parent before i f.may in
-    let r = after q (inserting observed new parent before q) in
+    let r = after q (insert_plan observed new parent before q) in
     let u = put.changed.part.unique in
     let a = child-parent r new parent put.changed.part (child-inserted observed before i f.may f.plain) in
     let b = child-parent r x parent put.changed.part (child-inserting observed before i f.may f.others) in
@@ -146,7 +146,7 @@ leads-tail {x} {new} {q} offset (Some parent) i t m =
     let last = split_at x offset new parent (index_of q.trees x) in
     let before = next_sibling q.trees x in
     let f = m parent refl in
-    let steps = inserting observed new parent before q in
+    let steps = insert_plan observed new parent before q in
     let put = leads-inserting observed new parent before i f.may in
     let r = after q steps in
     leads-then spot q steps (last ∷ []) put
@@ -190,7 +190,7 @@ leads-joins ts x parent size (y ∷ ys) {p} can =
 
 -- those after a Text are beside it, whatever data it got
 pub texts-beside : {parent : NodeName} {p : Part} (x : NodeName) (size : ℕ) (all : DomString) → IsPart p → parent_of p.trees x ≡ Some parent →
-    AreBeside x parent (texts_after p.trees x) (after p (replacing_data x size 0 all p)).trees
+    AreBeside x parent (contiguous_texts_after p.trees x) (after p (replacing_data x size 0 all p)).trees
 texts-beside {parent} {p} x size all i e =
     let ts = p.trees in
     let q = after p (replacing_data x size 0 all p) in
@@ -199,24 +199,24 @@ texts-beside {parent} {p} x size all i e =
     λ y c. root-parent_of q.trees j.unique y parent (child-parent q y parent j (child-replacing_data y parent x size 0 all p c)) in
     let mine = sym (up x (parent-child p x parent i e)) in (
       mine,
-      all-then (λ y. IsChild y parent p) (λ y. root_of q.trees x ≡ root_of q.trees y) (λ y c. mine ∙ up y c) (texts_after ts x)
+      all-then (λ y. IsChild y parent p) (λ y. root_of q.trees x ≡ root_of q.trees y) (λ y c. mine ∙ up y c) (contiguous_texts_after ts x)
           (all-take_while (λ y. IsChild y parent p) (λ y. is_text (kind_of ts y)) (items_after name_eq x (siblings ts x))
           (subst (λ (o : Option NodeName). AllByRecursion (λ y. IsChild y parent p) (items_after name_eq x (option_map_or (children_of ts) o (x ∷ [])))) (sym e)
           (after-all (λ y. IsChild y parent p) x (children_of ts parent) (children-childs ts parent)))),
     )
 
 -- removals
-pub leads-removals : (how : Observing) (xs : List NodeName) (p : Part) → IsPart p → Leads None p (in_turn (removing how) xs p)
+pub leads-removals : (how : Observing) (xs : List NodeName) (p : Part) → IsPart p → Leads None p (in_turn (remove_plan how) xs p)
 leads-removals how xs p i = leads-each (removing-each how) xs p i (all-from (λ y. ⊤) (λ y. tt) xs)
 
 -- Texts that are joined
 leads-joining : (x parent : NodeName) (p : Part) → IsPart p → HasNode p x → parent_of p.trees x ≡ Some parent →
-    Leads None p (joining x parent (texts_after p.trees x) p)
+    Leads None p (joining x parent (contiguous_texts_after p.trees x) p)
 leads-joining x parent p i t e =
-    let nexts = texts_after p.trees x in
+    let nexts = contiguous_texts_after p.trees x in
     let size = length_of p.trees x in
     let all = flat_map (λ y. (node_in p.trees y).text) nexts in
-    leads-plan None (replacing_data x size 0 all and_then steps_of (joins p.trees x parent size nexts)) (in_turn (removing observed) nexts) p
+    leads-plan None (replacing_data x size 0 all and_then steps_of (joins p.trees x parent size nexts)) (in_turn (remove_plan observed) nexts) p
     (let first = leads-replacing_data x size 0 all p i in
     leads-then None p (replacing_data x size 0 all p) (joins p.trees x parent size nexts) first
     (leads-joins p.trees x parent size nexts (record { part = first.changed.part; there = still first.changed x t; beside = texts-beside x size all i e })))
@@ -229,9 +229,10 @@ leads-normalizing_text p x i t =
     (leads-removing observed x p i) (from (parent_of p.trees x) refl)
   where
     from : (a : Option NodeName) → parent_of p.trees x ≡ a →
-        Leads None p (option_map_or (λ parent. if is_empty (texts_after p.trees x) then [] else joining x parent (texts_after p.trees x) p) a [])
+        Leads None p (option_map_or (λ parent. if is_empty (contiguous_texts_after p.trees x) then [] else joining x parent
+        (contiguous_texts_after p.trees x) p) a [])
     from None e = leads-nothing None p i
-    from (Some parent) e = leads-if (is_empty (texts_after p.trees x))
+    from (Some parent) e = leads-if (is_empty (contiguous_texts_after p.trees x))
         (leads-nothing None p i) (leads-joining x parent p i t e)
 
 -- the nodes of a tree are there
@@ -273,21 +274,22 @@ replaced-by x node p i t false =
 -- what was below it goes, and they come
 leads-replaced : {x : NodeName} {made : List Step} {added : List NodeName} {p : Part} (told : List Step) (old : List NodeName) → IsReplaced x made added p →
     ((q : Part) → IsPart q → Leads None q told) →
-    Leads (Some x) p ((steps_of made and_then in_turn (removing suppressed) old and_then in_turn (λ y. inserting suppressed y x None) added
+    Leads (Some x) p ((steps_of made and_then in_turn (remove_plan suppressed) old and_then in_turn (λ y. insert_plan suppressed y x None) added
     and_then steps_of told) p)
 leads-replaced {x} {made} {added} {p} told old m t =
     let a = m.leads in
     let spot = Some x in
     let q = after p made in
-    leads-plan spot (steps_of made and_then in_turn (removing suppressed) old and_then in_turn (λ y. inserting suppressed y x None) added) (steps_of told) p
-    (leads-then spot p (made ++ in_turn (removing suppressed) old q)
-    (in_turn (λ y. inserting suppressed y x None) added (after p (made ++ in_turn (removing suppressed) old q)))
-    (leads-then spot p made (in_turn (removing suppressed) old q) a
-    (leads-eased spot q (in_turn (removing suppressed) old q) (leads-removals suppressed old q a.changed.part)))
+    leads-plan spot (steps_of made and_then in_turn (remove_plan suppressed) old and_then in_turn (λ y. insert_plan suppressed y x None) added)
+    (steps_of told) p
+    (leads-then spot p (made ++ in_turn (remove_plan suppressed) old q)
+    (in_turn (λ y. insert_plan suppressed y x None) added (after p (made ++ in_turn (remove_plan suppressed) old q)))
+    (leads-then spot p made (in_turn (remove_plan suppressed) old q) a
+    (leads-eased spot q (in_turn (remove_plan suppressed) old q) (leads-removals suppressed old q a.changed.part)))
     (let b = leads-removals suppressed old q a.changed.part in
-    let r = after p (made ++ in_turn (removing suppressed) old q) in
-    let same : r ≡ after q (in_turn (removing suppressed) old q) = after-append p made (in_turn (removing suppressed) old q) in
-    let c : Changed spot q r = subst (Changed spot q) (sym same) (leads-eased spot q (in_turn (removing suppressed) old q) b).changed in
+    let r = after p (made ++ in_turn (remove_plan suppressed) old q) in
+    let same : r ≡ after q (in_turn (remove_plan suppressed) old q) = after-append p made (in_turn (remove_plan suppressed) old q) in
+    let c : Changed spot q r = subst (Changed spot q) (sym same) (leads-eased spot q (in_turn (remove_plan suppressed) old q) b).changed in
     leads-each (inserting-each x) added r c.part (all-then (MayGo x q) (MayGo x r) (λ y. may-still x q r y c) added m.may)))
     (λ q c. leads-eased spot q told (t q c.part))
 

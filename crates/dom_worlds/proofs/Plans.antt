@@ -14,10 +14,11 @@ use Rattle.dom_model.specs.Place.{Boundary}
 use Rattle.dom_model.specs.Ranges.{Range, from_to, is_collapsed}
 use Rattle.dom_model.specs.Steps.{Step, make, make_room, place, take_out, set_document, set_attribute, replace_data, split_at, join_at, set_range, queue_record}
 use Rattle.dom_model.specs.Steps.{part_step, after}
-use Rattle.dom_model.specs.Changes.{Plan, ◌and_then◌, in_turn, doing, steps_of, only_if, Observing, observed, suppressed, telling, removal_record, removing}
-use Rattle.dom_model.specs.Changes.{removing_from, has_document, changing_document, adopting, document_below, placed_nodes, emptying, making_room, placing}
-use Rattle.dom_model.specs.Changes.{sibling_before, inserting_nodes, inserting, reference_for, pre_inserting, replacing, setting_attribute, unsetting_attribute}
-use Rattle.dom_model.specs.TextChanges.{replacing_data, new_text_node, replacing_all_data, placing_tail, splitting, texts_after, joins, joining}
+use Rattle.dom_model.specs.Changes.{Plan, ◌and_then◌, in_turn, doing, steps_of, only_if, Observing, observed, suppressed, telling, removal_record, remove_plan}
+use Rattle.dom_model.specs.Changes.{removing_from, has_document, changing_document, adopt_plan, document_below, placed_nodes, emptying, making_room, placing}
+use Rattle.dom_model.specs.Changes.{sibling_before, inserting_nodes, insert_plan, reference_child, pre_insert_plan, replace_plan, setting_attribute}
+use Rattle.dom_model.specs.Changes.{unsetting_attribute}
+use Rattle.dom_model.specs.TextChanges.{replacing_data, new_text_node, replacing_all_data, placing_tail, splitting, contiguous_texts_after, joins, joining}
 use Rattle.dom_model.specs.TextChanges.{normalizing_text, normalizing, replacing_children, setting_text}
 use Rattle.dom_model.specs.Extract.{Pieces, nothing, whole, cut, clone, cut_start, cut_end, pieces_of, is_in_one_data, clone_part, making_below, taking}
 use Rattle.dom_model.specs.Extract.{new_fragment_node, own_document, new_place, both_at, extracting}
@@ -103,7 +104,7 @@ module _ {Inv : Part → Type 0} {May : Step → Type 0} {MayPlace : NodeName �
   made-only_if b s h = made-if b (s ∷ []) [] (h, tt) tt
 
   -- a removal
-  pub keeps-removing : (how : Observing) (x : NodeName) → Keeps (removing how x)
+  pub keeps-removing : (how : Observing) (x : NodeName) → Keeps (remove_plan how x)
   keeps-removing how x p o =
       by_some (λ (a : Option NodeName). AllByRecursion May (option_map_or (removing_from how x p.trees) a [])) (parent_of p.trees x) tt
       (λ parent. (
@@ -117,20 +118,20 @@ module _ {Inv : Part → Type 0} {May : Step → Type 0} {MayPlace : NodeName �
   keeps-changing_document d x p o = made-only_if (not (has_document p.trees d x)) (set_document x d) (rules.document x d)
 
   -- an adoption
-  pub keeps-adopting : (d x : NodeName) → Keeps (adopting d x)
-  keeps-adopting d x = keeps-and_then (removing observed x) (changing_document d x) (keeps-removing observed x) (keeps-changing_document d x)
+  pub keeps-adopting : (d x : NodeName) → Keeps (adopt_plan d x)
+  keeps-adopting d x = keeps-and_then (remove_plan observed x) (changing_document d x) (keeps-removing observed x) (keeps-changing_document d x)
 
   -- An insertion places its node or the node's children, and no root is a child.
   keeps-placing : (parent : NodeName) (before : Option NodeName) (x : NodeName) → MayPlace x → Keeps (placing parent before x)
   keeps-placing parent before x h p o =
-      keeps-and_then (adopting (document_below p.trees parent) x) (doing (place x parent before))
+      keeps-and_then (adopt_plan (document_below p.trees parent) x) (doing (place x parent before))
       (keeps-adopting (document_below p.trees parent) x) (λ q own. (rules.placing x parent before h, tt)) p o
 
   -- a fragment that is emptied
   keeps-emptying : (node : NodeName) (children : List NodeName) → Keeps (emptying node children)
   keeps-emptying node children =
-      keeps-and_then (in_turn (removing suppressed) children) (doing (queue_record (child_list node [] children None None)))
-      (keeps-each (removing suppressed) (keeps-removing suppressed) children) (λ q o. (rules.children_told node [] children None None, tt))
+      keeps-and_then (in_turn (remove_plan suppressed) children) (doing (queue_record (child_list node [] children None None)))
+      (keeps-each (remove_plan suppressed) (keeps-removing suppressed) children) (λ q o. (rules.children_told node [] children None None, tt))
 
   -- offsets that grow
   keeps-making_room : (parent : NodeName) (before : Option NodeName) (count : ℕ) → Keeps (making_room parent before count)
@@ -146,7 +147,7 @@ module _ {Inv : Part → Type 0} {May : Step → Type 0} {MayPlace : NodeName �
       from false = (h, tt)
 
   -- an insertion
-  pub keeps-inserting : (how : Observing) (node parent : NodeName) (before : Option NodeName) → MayPlace node → Keeps (inserting how node parent before)
+  pub keeps-inserting : (how : Observing) (node parent : NodeName) (before : Option NodeName) → MayPlace node → Keeps (insert_plan how node parent before)
   keeps-inserting how node parent before h p o =
       let moved = placed_nodes p.trees node in
       let emptied : Plan = if is_fragment (kind_of p.trees node) then emptying node moved else steps_of [] in
@@ -163,15 +164,15 @@ module _ {Inv : Part → Type 0} {May : Step → Type 0} {MayPlace : NodeName �
       (rules.children_told parent moved [] (sibling_before p.trees parent before) before)) p o)
 
   -- with its reference
-  pub keeps-pre_inserting : (node parent : NodeName) (child : Option NodeName) → MayPlace node → Keeps (pre_inserting node parent child)
-  keeps-pre_inserting node parent child h p o = keeps-inserting observed node parent (reference_for p.trees node child) h p o
+  pub keeps-pre_inserting : (node parent : NodeName) (child : Option NodeName) → MayPlace node → Keeps (pre_insert_plan node parent child)
+  keeps-pre_inserting node parent child h p o = keeps-inserting observed node parent (reference_child p.trees node child) h p o
 
   -- a child that is replaced
-  pub keeps-replacing : (parent node child : NodeName) → MayPlace node → Keeps (replacing parent node child)
+  pub keeps-replacing : (parent node child : NodeName) → MayPlace node → Keeps (replace_plan parent node child)
   keeps-replacing parent node child h p o =
-      let reference = reference_for p.trees node (next_sibling p.trees child) in
-      keeps-and_then (removing suppressed child and_then inserting suppressed node parent reference) (doing (queue_record _))
-      (keeps-and_then (removing suppressed child) (inserting suppressed node parent reference) (keeps-removing suppressed child)
+      let reference = reference_child p.trees node (next_sibling p.trees child) in
+      keeps-and_then (remove_plan suppressed child and_then insert_plan suppressed node parent reference) (doing (queue_record _))
+      (keeps-and_then (remove_plan suppressed child) (insert_plan suppressed node parent reference) (keeps-removing suppressed child)
       (keeps-inserting suppressed node parent reference h))
       (λ q own. (rules.children_told parent (placed_nodes p.trees node) (child ∷ []) (previous_sibling p.trees child) reference, tt)) p o
 
@@ -203,7 +204,7 @@ module _ {Inv : Part → Type 0} {May : Step → Type 0} {MayPlace : NodeName �
   keeps-placing_tail : (x : NodeName) (offset : ℕ) (new : NodeName) (parent : Option NodeName) → MayPlace new → Keeps (placing_tail x offset new parent)
   keeps-placing_tail x offset new None h p o = tt
   keeps-placing_tail x offset new (Some parent) h p o =
-      keeps-and_then (inserting observed new parent (next_sibling p.trees x)) (doing _)
+      keeps-and_then (insert_plan observed new parent (next_sibling p.trees x)) (doing _)
       (keeps-inserting observed new parent (next_sibling p.trees x) h) (λ q own. (rules.split x offset new parent (index_of p.trees x), tt)) p o
 
   -- a split
@@ -228,24 +229,24 @@ module _ {Inv : Part → Type 0} {May : Step → Type 0} {MayPlace : NodeName �
   keeps-joining x parent nexts p o =
       let size = length_of p.trees x in
       let all = flat_map (λ y. (node_in p.trees y).text) nexts in
-      keeps-and_then (replacing_data x size 0 all and_then steps_of (joins p.trees x parent size nexts)) (in_turn (removing observed) nexts)
+      keeps-and_then (replacing_data x size 0 all and_then steps_of (joins p.trees x parent size nexts)) (in_turn (remove_plan observed) nexts)
       (keeps-and_then (replacing_data x size 0 all) (steps_of (joins p.trees x parent size nexts)) (keeps-replacing_data x size 0 all)
       (λ q own. made-joins p.trees x parent size nexts))
-      (keeps-each (removing observed) (keeps-removing observed) nexts) p o
+      (keeps-each (remove_plan observed) (keeps-removing observed) nexts) p o
 
   -- a Text that is normalized
   keeps-normalizing_text : (x : NodeName) → Keeps (normalizing_text x)
   keeps-normalizing_text x p o =
-      made-if (length_of p.trees x == 0) (removing observed x p)
-      (option_map_or (λ parent. if is_empty (texts_after p.trees x) then [] else joining x parent (texts_after p.trees x) p)
+      made-if (length_of p.trees x == 0) (remove_plan observed x p)
+      (option_map_or (λ parent. if is_empty (contiguous_texts_after p.trees x) then [] else joining x parent (contiguous_texts_after p.trees x) p)
       (parent_of p.trees x) [])
       (keeps-removing observed x p o) (from (parent_of p.trees x))
     where
       from : (a : Option NodeName) → AllByRecursion May
-          (option_map_or (λ parent. if is_empty (texts_after p.trees x) then [] else joining x parent (texts_after p.trees x) p) a [])
+          (option_map_or (λ parent. if is_empty (contiguous_texts_after p.trees x) then [] else joining x parent (contiguous_texts_after p.trees x) p) a [])
       from None = tt
-      from (Some parent) = made-if (is_empty (texts_after p.trees x)) [] (joining x parent (texts_after p.trees x) p) tt
-          (keeps-joining x parent (texts_after p.trees x) p o)
+      from (Some parent) = made-if (is_empty (contiguous_texts_after p.trees x)) [] (joining x parent (contiguous_texts_after p.trees x) p) tt
+          (keeps-joining x parent (contiguous_texts_after p.trees x) p o)
 
   -- all Texts below a node
   pub keeps-normalizing : (x : NodeName) → Keeps (normalizing x)
@@ -264,13 +265,13 @@ module _ {Inv : Part → Type 0} {May : Step → Type 0} {MayPlace : NodeName �
       let made = map (λ y. make (new_text_node y (Some (document_below p.trees x)) new)) added in
       let told = only_if (not (is_empty old && is_empty new)) (queue_record (child_list x added old None None)) in
       let others : AllByRecursion MayPlace added = from (is_empty new) in
-      keeps-and_then (steps_of made and_then in_turn (removing suppressed) old and_then in_turn (λ y. inserting suppressed y x None) added) (steps_of told)
-      (keeps-and_then (steps_of made and_then in_turn (removing suppressed) old) (in_turn (λ y. inserting suppressed y x None) added)
-      (keeps-and_then (steps_of made) (in_turn (removing suppressed) old)
+      keeps-and_then (steps_of made and_then in_turn (remove_plan suppressed) old and_then in_turn (λ y. insert_plan suppressed y x None) added) (steps_of told)
+      (keeps-and_then (steps_of made and_then in_turn (remove_plan suppressed) old) (in_turn (λ y. insert_plan suppressed y x None) added)
+      (keeps-and_then (steps_of made) (in_turn (remove_plan suppressed) old)
       (λ q own. made-makes (λ y. new_text_node y (Some (document_below p.trees x)) new)
-      (λ y. rules.new_text y (Some (document_below p.trees x)) new) added) (keeps-each (removing suppressed) (keeps-removing suppressed) old))
-      (keeps-in_turn (λ y. inserting suppressed y x None) added
-      (all-then MayPlace (λ y. Keeps (inserting suppressed y x None)) (λ y h. keeps-inserting suppressed y x None h) added others)))
+      (λ y. rules.new_text y (Some (document_below p.trees x)) new) added) (keeps-each (remove_plan suppressed) (keeps-removing suppressed) old))
+      (keeps-in_turn (λ y. insert_plan suppressed y x None) added
+      (all-then MayPlace (λ y. Keeps (insert_plan suppressed y x None)) (λ y h. keeps-inserting suppressed y x None h) added others)))
       (λ q own. made-only_if (not (is_empty old && is_empty new)) (queue_record (child_list x added old None None))
       (rules.children_told x added old None None)) p o
     where
@@ -286,14 +287,14 @@ module _ {Inv : Part → Type 0} {May : Step → Type 0} {MayPlace : NodeName �
 
   -- Contents of ranges.
   keeps-making_below : (into : NodeName) (n : Node) → May (make n) → MayPlace n.name → Keeps (making_below into n)
-  keeps-making_below into n m h = keeps-and_then (doing (make n)) (inserting observed n.name into None) (λ p o. (m, tt))
+  keeps-making_below into n m h = keeps-and_then (doing (make n)) (insert_plan observed n.name into None) (λ p o. (m, tt))
       (keeps-inserting observed n.name into None h)
 
   -- pieces that are taken into a node
   keeps-taking : (into : NodeName) (pieces : Pieces) → AllWhole MayPlace pieces → Keeps (taking into pieces)
   keeps-taking into nothing h p o = tt
   keeps-taking into (whole x rest) h p o =
-      keeps-and_then (inserting observed x into None) (taking into rest) (keeps-inserting observed x into None h.0) (keeps-taking into rest h.1) p o
+      keeps-and_then (insert_plan observed x into None) (taking into rest) (keeps-inserting observed x into None h.0) (keeps-taking into rest h.1) p o
   keeps-taking into (cut x from to rest) h p o =
       let n = clone_part (next_name p) from to (node_in p.trees x) in
       keeps-and_then (making_below into n and_then replacing_data x from (to - from) []) (taking into rest)
@@ -327,12 +328,12 @@ module _ {Inv : Part → Type 0} {May : Step → Type 0} {MayPlace : NodeName �
   keeps-deleting_contents : (ts : Trees) (range : Range NodeName) → Keeps (deleting_contents ts range)
   keeps-deleting_contents ts range =
       let first = cutting_data ts range range.start.node in
-      let nodes = in_turn (removing observed) (outermost_contained ts range) in
+      let nodes = in_turn (remove_plan observed) (outermost_contained ts range) in
       keeps-if (is_in_one_data ts range) first (first and_then nodes and_then cutting_data ts range range.end.node)
       (keeps-cutting_data ts range range.start.node)
       (keeps-and_then (first and_then nodes) (cutting_data ts range range.end.node)
       (keeps-and_then first nodes (keeps-cutting_data ts range range.start.node)
-      (keeps-each (removing observed) (keeps-removing observed) (outermost_contained ts range))) (keeps-cutting_data ts range range.end.node))
+      (keeps-each (remove_plan observed) (keeps-removing observed) (outermost_contained ts range))) (keeps-cutting_data ts range range.end.node))
 
   -- a deletion
   pub keeps-deleting : (k : ℕ) (range : Range NodeName) → Keeps (deleting k range)
@@ -354,13 +355,13 @@ module _ {Inv : Part → Type 0} {May : Step → Type 0} {MayPlace : NodeName �
   -- a node before the reference
   keeps-inserting_before : (k : ℕ) (node parent : NodeName) (reference : Option NodeName) → MayPlace node → Keeps (inserting_before k node parent reference)
   keeps-inserting_before k node parent reference h p o =
-      keeps-and_then (pre_inserting node parent reference) (ending_at k _) (keeps-pre_inserting node parent reference h) (keeps-ending_at k _) p o
+      keeps-and_then (pre_insert_plan node parent reference) (ending_at k _) (keeps-pre_inserting node parent reference h) (keeps-ending_at k _) p o
 
   -- a node that left its parent first
   keeps-inserting_at : (k : ℕ) (node parent : NodeName) (child : Option NodeName) → MayPlace node → Keeps (inserting_at k node parent child)
   keeps-inserting_at k node parent child h p o =
-      keeps-and_then (removing observed node) (inserting_before k node parent (reference_for p.trees node child)) (keeps-removing observed node)
-      (keeps-inserting_before k node parent (reference_for p.trees node child) h) p o
+      keeps-and_then (remove_plan observed node) (inserting_before k node parent (reference_child p.trees node child)) (keeps-removing observed node)
+      (keeps-inserting_before k node parent (reference_child p.trees node child) h) p o
 
   -- an insertion into a range
   pub keeps-inserting_into_range : (k : ℕ) (range : Range NodeName) (node : NodeName) → MayPlace node → Keeps (inserting_into_range k range node)

@@ -10,9 +10,9 @@ use Rattle.dom_model.specs.Tree.{node_in, kind_of, is_fragment, has_data, parent
 use Rattle.dom_model.specs.Output.{Change, child_list, attributes, character_data}
 use Rattle.dom_model.specs.Part.{Part, next_name}
 use Rattle.dom_model.specs.Steps.{Step, place, take_out, set_document, set_attribute, queue_record, part_step, after, make}
-use Rattle.dom_model.specs.Changes.{Plan, ◌and_then◌, in_turn, steps_of, Observing, observed, suppressed, telling, removal_record, removing, removing_from}
-use Rattle.dom_model.specs.Changes.{has_document, changing_document, adopting, document_below, placed_nodes, emptying, making_room, placing, sibling_before}
-use Rattle.dom_model.specs.Changes.{inserting_nodes, inserting, reference_for, replacing, setting_attribute, unsetting_attribute}
+use Rattle.dom_model.specs.Changes.{Plan, ◌and_then◌, in_turn, steps_of, Observing, observed, suppressed, telling, removal_record, remove_plan, removing_from}
+use Rattle.dom_model.specs.Changes.{has_document, changing_document, adopt_plan, document_below, placed_nodes, emptying, making_room, placing, sibling_before}
+use Rattle.dom_model.specs.Changes.{inserting_nodes, insert_plan, reference_child, replace_plan, setting_attribute, unsetting_attribute}
 use Rattle.dom_model.specs.TextChanges.{replacing_data}
 use Rattle.dom_worlds.specs.Worlds.{IsPart}
 use Rattle.dom_worlds.proofs.Bounds.{IsRoomy, nowhere, at_node, HasRoom, room-more, room-place, room-document, room-attribute, room-record, room-made}
@@ -50,27 +50,27 @@ room-telling e observed c p h = room-record e p c h
 room-telling e suppressed c p h = h
 
 -- a removal
-pub room-removing : (e : NodeName → ℕ) (how : Observing) (x : NodeName) (p : Part) → IsPart p → HasRoom e p → HasRoom e (after p (removing how x p))
+pub room-removing : (e : NodeName → ℕ) (how : Observing) (x : NodeName) (p : Part) → IsPart p → HasRoom e p → HasRoom e (after p (remove_plan how x p))
 room-removing e how x p i h =
     by_some (λ (o : Option NodeName). HasRoom e (after p (option_map_or (removing_from how x p.trees) o []))) (parent_of p.trees x) h
     (λ parent. room-telling e how (removal_record p.trees parent x) (part_step p (take_out x)) (room-take e p x i h))
 
 -- an adoption
-pub room-adopting : (e : NodeName → ℕ) (d x : NodeName) (p : Part) → IsPart p → HasRoom e p → HasRoom e (after p (adopting d x p))
+pub room-adopting : (e : NodeName → ℕ) (d x : NodeName) (p : Part) → IsPart p → HasRoom e p → HasRoom e (after p (adopt_plan d x p))
 room-adopting e d x p i h =
-    let q = after p (removing observed x p) in
+    let q = after p (remove_plan observed x p) in
     let g = room-removing e observed x p i h in
     let j = (leads-removing observed x p i).changed.part in
-    room-then e p (removing observed x p) (changing_document d x q)
+    room-then e p (remove_plan observed x p) (changing_document d x q)
     (either_way (λ steps. HasRoom e (after q steps)) (not (has_document q.trees d x)) (set_document x d ∷ []) [] (room-document e q x d j g) g)
 
 -- removals
 pub room-removals : (e : NodeName → ℕ) (how : Observing) (xs : List NodeName) (p : Part) → IsPart p → HasRoom e p →
-    HasRoom e (after p (in_turn (removing how) xs p))
+    HasRoom e (after p (in_turn (remove_plan how) xs p))
 room-removals e how [] p i h = h
 room-removals e how (x ∷ xs) p i h =
-    let q = after p (removing how x p) in
-    room-then e p (removing how x p) (in_turn (removing how) xs q)
+    let q = after p (remove_plan how x p) in
+    room-then e p (remove_plan how x p) (in_turn (remove_plan how) xs q)
     (room-removals e how xs q (leads-removing how x p i).changed.part (room-removing e how x p i h))
 
 -- What is known of a node below which others are placed.
@@ -91,10 +91,10 @@ room-placing : {d : NodeName → ℕ} {parent : NodeName} {p : Part} {x : NodeNa
     MayEnter parent p x → ((y : NodeName) → d y ≤ e y + one_at parent y) → HasRoom e (after p (placing parent before x p))
 room-placing {d} {parent} {p} {x} e before w m more =
     let doc = document_below p.trees parent in
-    let q = after p (adopting doc x p) in
-    let first = leads-eased (Some parent) p (adopting doc x p) (leads-adopting doc x p w.part m.go.owner) in
+    let q = after p (adopt_plan doc x p) in
+    let first = leads-eased (Some parent) p (adopt_plan doc x p) (leads-adopting doc x p w.part m.go.owner) in
     let n = may-still parent p q x first.changed m.go in
-    room-then e p (adopting doc x p) (place x parent before ∷ [])
+    room-then e p (adopt_plan doc x p) (place x parent before ∷ [])
     (room-place before (record { part = first.changed.part; room = room-adopting d doc x p w.part w.room }) (may-place first.changed.part n)
     (root-adopting doc x p m.go.there) (open-still first.changed parent m.go.below m.open_parent) more)
 
@@ -128,7 +128,7 @@ room-emptied e node p i h = from (is_fragment (kind_of p.trees node))
 
     from : (b : Bool) → HasRoom e (after p ((if b then emptying node (placed_nodes p.trees node) else steps_of []) p))
     from true =
-        let steps = in_turn (removing suppressed) (placed_nodes p.trees node) p in
+        let steps = in_turn (remove_plan suppressed) (placed_nodes p.trees node) p in
         room-then e p steps (queue_record (child_list node [] (placed_nodes p.trees node) None None) ∷ [])
         (room-record e (after p steps) (child_list node [] (placed_nodes p.trees node) None None)
         (room-removals e suppressed (placed_nodes p.trees node) p i h))
@@ -142,7 +142,7 @@ room-making parent (Some child) count p h = room-made (at_node parent count) par
 
 -- an insertion
 pub room-inserting : {node parent : NodeName} {p : Part} (how : Observing) (before : Option NodeName) → IsRoomy nowhere p → MayEnter parent p node →
-    HasRoom nowhere (after p (inserting how node parent before p))
+    HasRoom nowhere (after p (insert_plan how node parent before p))
 room-inserting {node} {parent} {p} how before w m =
     let spot = Some parent in
     let moved = placed_nodes p.trees node in
@@ -167,20 +167,20 @@ room-inserting {node} {parent} {p} how before w m =
 
 -- Replacements, attributes and data.
 pub room-replacing : {parent node : NodeName} {p : Part} (child : NodeName) → IsRoomy nowhere p → MayEnter parent p node →
-    HasRoom nowhere (after p (replacing parent node child p))
+    HasRoom nowhere (after p (replace_plan parent node child p))
 room-replacing {parent} {node} {p} child w m =
     let spot = Some parent in
-    let reference = reference_for p.trees node (next_sibling p.trees child) in
+    let reference = reference_child p.trees node (next_sibling p.trees child) in
     let told = child_list parent (placed_nodes p.trees node) (child ∷ []) (previous_sibling p.trees child) reference in
-    let first = leads-eased spot p (removing suppressed child p) (leads-removing suppressed child p w.part) in
-    let q = after p (removing suppressed child p) in
+    let first = leads-eased spot p (remove_plan suppressed child p) (leads-removing suppressed child p w.part) in
+    let q = after p (remove_plan suppressed child p) in
     let put = room-inserting suppressed reference (record { part = first.changed.part; room = room-removing nowhere suppressed child p w.part w.room })
     (record { go = may-still parent p q node first.changed m.go; open_parent = open-still first.changed parent m.go.below m.open_parent })
     in
-    let both = removing suppressed child p ++ inserting suppressed node parent reference q in
+    let both = remove_plan suppressed child p ++ insert_plan suppressed node parent reference q in
     room-then nowhere p both (queue_record told ∷ [])
     (room-record nowhere (after p both) told
-    (room-then nowhere p (removing suppressed child p) (inserting suppressed node parent reference q) put))
+    (room-then nowhere p (remove_plan suppressed child p) (insert_plan suppressed node parent reference q) put))
 
 -- an attribute
 pub room-setting_attribute : (x : NodeName) (a : Word) (v : DomString) (p : Part) → IsPart p → HasRoom nowhere p →
@@ -293,7 +293,7 @@ module _ (xs : List NodeName) (y : NodeName) (count : ℕ) where
       }
     where
       each : (xs : List NodeName) → AllByRecursion (λ x. IsChild x y p) xs → {q : Part} → IsPart q → MayGo into q n.name → IsNot y n.name →
-          AllByRecursion (λ x. IsChild x y q) xs → AllByRecursion (λ x. IsChild x y (after q (inserting observed n.name into None q))) xs
+          AllByRecursion (λ x. IsChild x y q) xs → AllByRecursion (λ x. IsChild x y (after q (insert_plan observed n.name into None q))) xs
       each [] g j m d h = tt
       each (x ∷ xs) g {q} j m d h =
           let not_x : IsNot x n.name = ap (λ z. name_eq z x) e ∙ next-not p may.take.part x (child-there_in p x y may.take.part g.0) in
@@ -306,7 +306,7 @@ module _ (xs : List NodeName) (y : NodeName) (count : ℕ) where
   room-taking (whole x rest) into p may =
       let i = may.take.part in
       let goes = old-may into i may.take.old.0 may.take.there may.take.new in
-      let one = inserting observed x into None p in
+      let one = insert_plan observed x into None p in
       let l = leads-inserting observed x into None i goes in
       let f = may.fit in
       let f0 = f.0 in

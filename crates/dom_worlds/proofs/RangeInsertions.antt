@@ -17,8 +17,9 @@ use Rattle.dom_model.specs.Part.{Part, next_name, range_at}
 use Rattle.dom_model.specs.Place.{Boundary}
 use Rattle.dom_model.specs.Ranges.{Range, at, from_to, is_collapsed}
 use Rattle.dom_model.specs.Steps.{make, take_out, split_at, set_range, queue_record, part_step, after}
-use Rattle.dom_model.specs.Changes.{Plan, ◌and_then◌, in_turn, steps_of, Observing, observed, suppressed, removal_record, removing, removing_from, placed_nodes}
-use Rattle.dom_model.specs.Changes.{emptying, inserting, reference_for}
+use Rattle.dom_model.specs.Changes.{Plan, ◌and_then◌, in_turn, steps_of, Observing, observed, suppressed, removal_record, remove_plan, removing_from}
+use Rattle.dom_model.specs.Changes.{placed_nodes}
+use Rattle.dom_model.specs.Changes.{emptying, insert_plan, reference_child}
 use Rattle.dom_model.specs.TextChanges.{replacing_data, new_text_node, placing_tail, splitting}
 use Rattle.dom_model.specs.RangeOps.{start_reference, insertion_parent, is_comment, cannot_take_node, ending_at, inserting_before, inserting_at}
 use Rattle.dom_model.specs.RangeOps.{inserting_into_range}
@@ -53,40 +54,41 @@ distinct-among (x ∷ xs) h =
 
 -- what a removal does to the trees
 trees-removing : (how : Observing) (x parent : NodeName) (p : Part) → parent_of p.trees x ≡ Some parent →
-    (after p (removing how x p)).trees ≡ taken_out x p.trees
+    (after p (remove_plan how x p)).trees ≡ taken_out x p.trees
 trees-removing how x parent p e =
     ap (λ o. (after p (option_map_or (removing_from how x p.trees) o [])).trees) e ∙ telling-trees how (removal_record p.trees parent x)
     (part_step p (take_out x)) ∙ ap (λ (q : Part). q.trees) (taken-step p x parent e)
 
 -- a root stays one
-root-left : (how : Observing) (x y : NodeName) (p : Part) → HasRoot p.trees y → HasRoot (after p (removing how x p)).trees y
+root-left : (how : Observing) (x y : NodeName) (p : Part) → HasRoot p.trees y → HasRoot (after p (remove_plan how x p)).trees y
 root-left how x y p h =
     by_some_is (λ (o : Option NodeName). HasRoot (after p (option_map_or (removing_from how x p.trees) o [])).trees y) (parent_of p.trees x) (λ e. h)
     (λ parent e. subst (λ ts. HasRoot ts y) (sym (telling-trees how (removal_record p.trees parent x) (part_step p (take_out x)) ∙
     ap (λ (q : Part). q.trees) (taken-step p x parent e))) (root-taken_out x p.trees y h))
 
 -- through many removals
-root-removals : (how : Observing) (xs : List NodeName) (y : NodeName) (p : Part) → HasRoot p.trees y → HasRoot (after p (in_turn (removing how) xs p)).trees y
+root-removals : (how : Observing) (xs : List NodeName) (y : NodeName) (p : Part) → HasRoot p.trees y → HasRoot (after p (in_turn
+    (remove_plan how) xs p)).trees y
 root-removals how [] y p h = h
 root-removals how (x ∷ xs) y p h =
-    let q = after p (removing how x p) in
-    subst (λ (s : Part). HasRoot s.trees y) (sym (after-append p (removing how x p) (in_turn (removing how) xs q)))
+    let q = after p (remove_plan how x p) in
+    subst (λ (s : Part). HasRoot s.trees y) (sym (after-append p (remove_plan how x p) (in_turn (remove_plan how) xs q)))
     (root-removals how xs y q (root-left how x y p h))
 
 -- those that are removed are roots
 removed-roots : (how : Observing) (xs : List NodeName) (p : Part) → IsPart p → AllByRecursion (HasNode p) xs →
-    AllByRecursion (HasRoot (after p (in_turn (removing how) xs p)).trees) xs
+    AllByRecursion (HasRoot (after p (in_turn (remove_plan how) xs p)).trees) xs
 removed-roots how [] p i t = tt
 removed-roots how (x ∷ xs) p i t =
-    let q = after p (removing how x p) in
+    let q = after p (remove_plan how x p) in
     let c = (leads-removing how x p i).changed in
-    subst (λ (s : Part). AllByRecursion (HasRoot s.trees) (x ∷ xs)) (sym (after-append p (removing how x p) (in_turn (removing how) xs q)))
+    subst (λ (s : Part). AllByRecursion (HasRoot s.trees) (x ∷ xs)) (sym (after-append p (remove_plan how x p) (in_turn (remove_plan how) xs q)))
     (root-removals how xs x q (root-removing how x p t.0), removed-roots how xs q c.part (all-then (HasNode p) (HasNode q) (λ y. still c y) xs t.1))
 
 -- A parent, and another one, which keeps its children.
 module _ (how : Observing) (parent y : NodeName) (apart : name_eq parent y ≡ false) where
   -- where a child of the one leaves it
-  kids-removing : {p : Part} (x : NodeName) → IsPart p → parent_of p.trees x ≡ Some parent → kids (after p (removing how x p)).trees y ≡ kids p.trees y
+  kids-removing : {p : Part} (x : NodeName) → IsPart p → parent_of p.trees x ≡ Some parent → kids (after p (remove_plan how x p)).trees y ≡ kids p.trees y
   kids-removing {p} x i e =
       let s = ap (λ ts. kids ts y) (trees-removing how x parent p e) in
       let k = kids-taken_out p.trees x parent y i.unique e in
@@ -94,27 +96,27 @@ module _ (how : Observing) (parent y : NodeName) (apart : name_eq parent y ≡ f
 
   -- where all children of one leave it
   kids-removals : (xs : List NodeName) {p : Part} → IsPart p → AllByRecursion (λ x. IsChild x parent p) xs → Distinct xs →
-      kids (after p (in_turn (removing how) xs p)).trees y ≡ kids p.trees y
+      kids (after p (in_turn (remove_plan how) xs p)).trees y ≡ kids p.trees y
   kids-removals [] i c d = refl
   kids-removals (x ∷ xs) {p} i c d =
-      let q = after p (removing how x p) in
+      let q = after p (remove_plan how x p) in
       let j = (leads-removing how x p i).changed.part in
       let rest = all-then (λ z. IsChild z parent p × (name_eq x z ≡ false)) (λ z. IsChild z parent q)
       (λ z h. let h0 = h.0 in child-removing how x (record { part = i; child = h.0 }) h.1) xs
       (all-both (λ z. IsChild z parent p) (λ z. name_eq x z ≡ false) xs c.1 d.0) in
       let a = kids-removing x i (child-parent p x parent i c.0) in
       let b = kids-removals xs j rest d.1 in
-      let s = ap (λ (r : Part). kids r.trees y) (after-append p (removing how x p) (in_turn (removing how) xs q)) in omega arith
+      let s = ap (λ (r : Part). kids r.trees y) (after-append p (remove_plan how x p) (in_turn (remove_plan how) xs q)) in omega arith
 
 -- An insertion of a fragment: the parent has its children more.
 kids-fragment : {node parent : NodeName} {p : Part} (how : Observing) (before : Option NodeName) → IsPart p → MayGo parent p node →
     is_fragment (kind_of p.trees node) ≡ true →
-    kids (after p (inserting how node parent before p)).trees parent ≡ kids p.trees parent + length (children_of p.trees node)
+    kids (after p (insert_plan how node parent before p)).trees parent ≡ kids p.trees parent + length (children_of p.trees node)
 kids-fragment {node} {parent} {p} how before i m k =
     let ts = p.trees in
     let moved = placed_nodes ts node in
     let is : moved ≡ children_of ts node = cond-true (is_fragment (kind_of ts node)) (children_of ts node) (node ∷ []) k in
-    let gone = in_turn (removing suppressed) moved p in
+    let gone = in_turn (remove_plan suppressed) moved p in
     let emptied : emptied_of p node p ≡ emptying node moved p =
     ap (λ (f : Plan). f p) (cond-true (is_fragment (kind_of ts node)) (emptying node moved) (steps_of []) k) in
     let q_trees : (after p (emptied_of p node p)).trees ≡ (after p gone).trees =
@@ -143,7 +145,7 @@ fragment-open Comment h = absurd (true≢false (sym h))
 
 -- so many children more: those of a fragment, or one
 kids-more : {node parent : NodeName} {p : Part} (before : Option NodeName) → IsPart p → MayGo parent p node → HasRoot p.trees node →
-    kids (after p (inserting observed node parent before p)).trees parent ≡ kids p.trees
+    kids (after p (insert_plan observed node parent before p)).trees parent ≡ kids p.trees
     parent + (if is_fragment (kind_of p.trees node) then length_of p.trees node else 1)
 kids-more {node} {parent} {p} before i m h =
     let ts = p.trees in
@@ -174,8 +176,8 @@ room-inserting_before {node} {parent} {p} k reference w m root c =
     let ts = p.trees in
     let place = option_map_or (index_of ts) reference (length_of ts parent) in
     let size = if is_fragment (kind_of ts node) then length_of ts node else 1 in
-    let before = reference_for ts node reference in
-    let steps = inserting observed node parent before p in
+    let before = reference_child ts node reference in
+    let steps = insert_plan observed node parent before p in
     let l = leads-inserting observed node parent before w.part m.go in
     let q = after p steps in
     let more = kids-more before w.part m.go root in
@@ -191,11 +193,11 @@ room-inserting_before {node} {parent} {p} k reference w m root c =
 
 -- where the node leaves its parent first, the reference is still a child
 reference-stays : (node parent : NodeName) (p : Part) → IsPart p → (o : Option NodeName) → IfSome (λ c. IsChild c parent p) o →
-    IfSome (λ c. IsChild c parent (after p (removing observed node p))) (reference_for p.trees node o)
+    IfSome (λ c. IsChild c parent (after p (remove_plan observed node p))) (reference_child p.trees node o)
 reference-stays node parent p i None h = tt
 reference-stays node parent p i (Some c) h =
     let ts = p.trees in
-    let q = after p (removing observed node p) in
+    let q = after p (remove_plan observed node p) in
     let C : NodeName → Type 0 = λ z. IsChild z parent q in
     which_way (IfSome C) (name_eq c node) (next_sibling ts node) (Some c)
     (λ e. let up = child-parent p node parent i (subst (λ z. IsChild z parent p) (name_eq-true c node e) h) in
@@ -215,11 +217,11 @@ reference-stays node parent p i (Some c) h =
 room-inserting_at : {node parent : NodeName} {p : Part} (k : ℕ) (child : Option NodeName) → IsRoomy nowhere p → MayEnter parent p node →
     IfSome (λ c. IsChild c parent p) child → HasRoom nowhere (after p (inserting_at k node parent child p))
 room-inserting_at {node} {parent} {p} k child w m c =
-    let steps = removing observed node p in
+    let steps = remove_plan observed node p in
     let q = after p steps in
     let l = leads-eased (Some parent) p steps (leads-removing observed node p w.part) in
-    room-then nowhere p steps (inserting_before k node parent (reference_for p.trees node child) q)
-    (room-inserting_before k (reference_for p.trees node child) (record { part = l.changed.part; room = room-removing nowhere observed node p w.part w.room })
+    room-then nowhere p steps (inserting_before k node parent (reference_child p.trees node child) q)
+    (room-inserting_before k (reference_child p.trees node child) (record { part = l.changed.part; room = room-removing nowhere observed node p w.part w.room })
     (record { go = may-still parent p q node l.changed m.go; open_parent = open-still l.changed parent m.go.below m.open_parent })
     (root-removing observed node p m.go.there) (reference-stays node parent p w.part child c))
 
@@ -229,7 +231,7 @@ pub tail-child : (x : NodeName) (offset : ℕ) (p : Part) (y : NodeName) → IsP
 tail-child x offset p y i e =
     let one = make tail ∷ placing_tail x offset (next_name p) (Some y) q in
     let count = length (node_in p.trees x).text - offset in
-    let put = inserting observed (next_name p) y (next_sibling q.trees x) q in
+    let put = insert_plan observed (next_name p) y (next_sibling q.trees x) q in
     let f = may-follow tail x i refl e in
     let j = (leads-one p (make tail) i tt).changed.part in
     let child = child-inserted observed (next_sibling q.trees x) j f.may f.plain in

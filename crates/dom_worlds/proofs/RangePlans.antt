@@ -32,7 +32,7 @@ use Rattle.dom_worlds.proofs.Trees.{ancestors-root, ancestors-there, all-in}
 use Rattle.std.specs.Prelude.{if◌then◌else◌, min}
 use Rattle.dom_model.specs.Output.{character_data}
 use Rattle.dom_model.specs.Steps.{Step, set_range, queue_record, part_step, after}
-use Rattle.dom_model.specs.Changes.{Plan, ◌and_then◌, in_turn, doing, steps_of, observed, removing}
+use Rattle.dom_model.specs.Changes.{Plan, ◌and_then◌, in_turn, doing, steps_of, observed, remove_plan}
 use Rattle.dom_model.specs.TextChanges.{replacing_data}
 use Rattle.dom_model.specs.RangeOps.{cutting_data, outermost_contained, deleting_contents, deleting}
 use Rattle.dom_worlds.proofs.PlanPlaces.{Changed, still, after-append, leads-nothing}
@@ -257,7 +257,7 @@ cut-end {xs} {y} {q} ts r x w c k = from (has_data (kind_of ts x)) k
 
 -- children stay where contained nodes leave
 children-left : {q : Part} (xs : List NodeName) (y : NodeName) (zs : List NodeName) → IsPart q → AllByRecursion (λ z. AllByRecursion (λ x. IsNot x z) xs) zs →
-    AreChildren xs y q → AreChildren xs y (after q (in_turn (removing observed) zs q))
+    AreChildren xs y q → AreChildren xs y (after q (in_turn (remove_plan observed) zs q))
 children-left {q} xs y zs i d c = (each xs d c.0, still (leads-removals observed zs q i).changed y c.1)
   where
     heads : (x : NodeName) (xs zs : List NodeName) → AllByRecursion (λ z. AllByRecursion (λ a. IsNot a z) (x ∷ xs)) zs →
@@ -266,7 +266,7 @@ children-left {q} xs y zs i d c = (each xs d c.0, still (leads-removals observed
     heads x xs (z ∷ zs) d = let m = heads x xs zs d.1 in ((d.0.0, m.0), (d.0.1, m.1))
 
     each : (xs : List NodeName) → AllByRecursion (λ z. AllByRecursion (λ x. IsNot x z) xs) zs → AllByRecursion (λ x. IsChild x y q) xs →
-        AllByRecursion (λ x. IsChild x y (after q (in_turn (removing observed) zs q))) xs
+        AllByRecursion (λ x. IsChild x y (after q (in_turn (remove_plan observed) zs q))) xs
     each [] d h = tt
     each (x ∷ xs) d h = let m = heads x xs zs d in (child-removals observed zs (record { part = i; child = h.0 }) m.0, each xs m.1 h.1)
 
@@ -298,7 +298,8 @@ room-deleting k r p i g h =
     first_cut = cutting_data p.trees r r.start.node
 
     others : Plan
-    others = cutting_data p.trees r r.start.node and_then in_turn (removing observed) (outermost_contained p.trees r) and_then cutting_data p.trees r r.end.node
+    others = cutting_data p.trees r r.start.node and_then in_turn (remove_plan observed)
+        (outermost_contained p.trees r) and_then cutting_data p.trees r r.end.node
 
     Done : List Step → Type 0
     Done steps = HasRoom nowhere (after p steps) × ((new_place p.trees r).offset ≤ length_of (after p steps).trees (new_place p.trees r).node)
@@ -312,7 +313,7 @@ room-deleting k r p i g h =
         let count = cut_end ts r x - cut_start r x in
         let plan : deleting_contents ts r p ≡ replacing_data x (cut_start r x) count [] p =
         ap (λ (f : Plan). f p) (cond-true (is_in_one_data ts r) (cutting_data ts r x)
-        (cutting_data ts r x and_then in_turn (removing observed) (outermost_contained ts r) and_then cutting_data ts r r.end.node) e ∙
+        (cutting_data ts r x and_then in_turn (remove_plan observed) (outermost_contained ts r) and_then cutting_data ts r r.end.node) e ∙
         cond-true (has_data (kind_of ts x)) (replacing_data x (cut_start r x) count []) (steps_of []) both.1) in
         let begins : cut_start r x ≡ r.start.offset = cond-true (name_eq x x) r.start.offset 0 (name_eq-same x) in
         let place : new_place ts r ≡ r.start =
@@ -337,7 +338,7 @@ room-deleting k r p i g h =
         let a = cut-end ts r r.start.node (record { part = i; room = h }) room.children (λ d. d) in
         let q = after p one in
         let gone = outermost_contained ts r in
-        let two = in_turn (removing observed) gone q in
+        let two = in_turn (remove_plan observed) gone q in
         let lq = leads-removals observed gone q a.part in
         let s = after q two in
         let missing = all-then (λ z. is_contained ts r z ≡ true) (λ z. AllByRecursion (λ x. IsNot x z) xs)
@@ -358,7 +359,7 @@ room-deleting k r p i g h =
         lq.changed.kinds y (still a.changed y room.children.1) ∙ a.changed.kinds y room.children.1) ∙ room.opened in
         let plan : deleting_contents ts r p ≡ (one ++ two) ++ three =
         ap (λ (f : Plan). f p) (cond-false (is_in_one_data ts r) (cutting_data ts r r.start.node)
-        (cutting_data ts r r.start.node and_then in_turn (removing observed) gone and_then cutting_data ts r r.end.node) e) in
+        (cutting_data ts r r.start.node and_then in_turn (remove_plan observed) gone and_then cutting_data ts r r.end.node) e) in
         let end = after-append p (one ++ two) three in
         subst (λ steps. HasRoom nowhere (after p steps) × (b.offset ≤ length_of (after p steps).trees b.node)) (sym plan)
         (subst (λ (v : Part). HasRoom nowhere v × (b.offset ≤ length_of v.trees b.node)) (sym end)

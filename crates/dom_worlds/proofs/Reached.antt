@@ -37,7 +37,7 @@ use Rattle.dom_worlds.proofs.Owners.{has_owner, there-listed, owners-put, owners
 use Rattle.dom_worlds.proofs.Owners.{hosted-owned, hosted-maker, hosted-there, there-hosted}
 use Rattle.std.specs.List.{AllByRecursion, position_or_len}
 use Rattle.dom_model.specs.Command.{Line, effect}
-use Rattle.dom_model.specs.Slots.{assigned_below, is_assigned_to}
+use Rattle.dom_model.specs.Slots.{slottables_of, is_assigned_to}
 use Rattle.dom_model.specs.Trace.{line_may_stop, no_component_stops_from}
 use Rattle.dom_model.specs.Turns.{ending_turn, ending_other_turn}
 use Rattle.dom_worlds.proofs.ShadowTrees.{owned-in}
@@ -225,10 +225,10 @@ children-owned w i x =
 pub assigned-are_siblings : AssignedAreSiblings
 assigned-are_siblings b w r s host e =
     subst (λ o. AllByRecursion (IsOf host.owner)
-    (option_map_or (assigned_below w s) (option_and_then (some_if (name_eq (root_at w s) (shadow_root_of s.owner))) o) [])) (sym e)
+    (option_map_or (slottables_of w s) (option_and_then (some_if (name_eq (root_at w s) (shadow_root_of s.owner))) o) [])) (sym e)
     (if_so (name_eq (root_at w s) (shadow_root_of s.owner)))
   where
-    if_so : (t : Bool) → AllByRecursion (IsOf host.owner) (option_map_or (assigned_below w s) (some_if t host) [])
+    if_so : (t : Bool) → AllByRecursion (IsOf host.owner) (option_map_or (slottables_of w s) (some_if t host) [])
     if_so true = all-filter (IsOf host.owner) (is_assigned_to w s) (children_of (trees_with w host) host) (children-owned w r.world host)
     if_so false = tt
 

@@ -12,9 +12,10 @@ use Rattle.dom_model.specs.Output.{Change, child_list, attributes, character_dat
 use Rattle.dom_model.specs.Part.{Part, queue_of}
 use Rattle.dom_model.specs.Steps.{Step, make, place, take_out, set_document, set_attribute, replace_data, queue_record, part_step, leave, interested_in}
 use Rattle.dom_model.specs.Steps.{record_in, after}
-use Rattle.dom_model.specs.Changes.{Plan, ◌and_then◌, in_turn, doing, Observing, observed, suppressed, telling, removal_record, removing, removing_from}
-use Rattle.dom_model.specs.Changes.{has_document, changing_document, adopting, document_below, placed_nodes, making_room, placing, sibling_before, inserting}
-use Rattle.dom_model.specs.Changes.{reference_for, replacing, setting_attribute, unsetting_attribute}
+use Rattle.dom_model.specs.Changes.{Plan, ◌and_then◌, in_turn, doing, Observing, observed, suppressed, telling, removal_record, remove_plan, removing_from}
+use Rattle.dom_model.specs.Changes.{has_document, changing_document, adopt_plan, document_below, placed_nodes, making_room, placing, sibling_before}
+use Rattle.dom_model.specs.Changes.{insert_plan}
+use Rattle.dom_model.specs.Changes.{reference_child, replace_plan, setting_attribute, unsetting_attribute}
 use Rattle.dom_model.specs.TextChanges.{replacing_data}
 use Rattle.dom_worlds.specs.Worlds.{IsPart}
 use Rattle.dom_worlds.specs.Tables.{IsNodeIn, IsNodeIf, IsRecordIn, HasRecords}
@@ -176,7 +177,7 @@ next-there p x t = first-all (HasNode p) (items_after name_eq x (siblings p.tree
 
 -- a reference
 pub reference-there : (p : Part) (node : NodeName) (o : Option NodeName) → HasNode p node → IfSome (HasNode p) o →
-    IfSome (HasNode p) (reference_for p.trees node o)
+    IfSome (HasNode p) (reference_child p.trees node o)
 reference-there p node None t h = tt
 reference-there p node (Some c) t h = either_way (IfSome (HasNode p)) (name_eq c node) (next_sibling p.trees node) (Some c) (next-there p node t) h
 
@@ -191,7 +192,7 @@ tells-telling observed c p h = (h, tt)
 tells-telling suppressed c p h = tt
 
 -- a removal
-pub tells-removing : (how : Observing) (x : NodeName) (p : Part) → IsPart p → TellsIn p (removing how x p)
+pub tells-removing : (how : Observing) (x : NodeName) (p : Part) → IsPart p → TellsIn p (remove_plan how x p)
 tells-removing how x p i =
     by_some_is (λ (o : Option NodeName). TellsIn p (option_map_or (removing_from how x p.trees) o [])) (parent_of p.trees x) (λ e. tt)
     (λ parent e. let q = part_step p (take_out x) in
@@ -211,19 +212,19 @@ tells-removing how x p i =
     ))
 
 -- an adoption
-pub tells-adopting : (d x : NodeName) (p : Part) → IsPart p → TellsIn p (adopting d x p)
+pub tells-adopting : (d x : NodeName) (p : Part) → IsPart p → TellsIn p (adopt_plan d x p)
 tells-adopting d x p i =
-    let q = after p (removing observed x p) in
-    tells-append p (removing observed x p) (changing_document d x q) (tells-removing observed x p i)
+    let q = after p (remove_plan observed x p) in
+    tells-append p (remove_plan observed x p) (changing_document d x q) (tells-removing observed x p i)
     (either_way (TellsIn q) (not (has_document q.trees d x)) (set_document x d ∷ []) [] (tt, tt) tt)
 
 -- a node that is placed
 tells-placing : (parent : NodeName) (before : Option NodeName) (p : Part) (x : NodeName) → IsPart p → MayGo parent p x → TellsIn p (placing parent before x p)
 tells-placing parent before p x i m = let d =
-    document_below p.trees parent in tells-append p (adopting d x p) (place x parent before ∷ []) (tells-adopting d x p i) (tt, tt)
+    document_below p.trees parent in tells-append p (adopt_plan d x p) (place x parent before ∷ []) (tells-adopting d x p i) (tt, tt)
 
 -- removals
-pub tells-removals : (how : Observing) (xs : List NodeName) (p : Part) → IsPart p → TellsIn p (in_turn (removing how) xs p)
+pub tells-removals : (how : Observing) (xs : List NodeName) (p : Part) → IsPart p → TellsIn p (in_turn (remove_plan how) xs p)
 tells-removals how xs p i = each-by tells-joins_on (removing-each how) (λ q y j t. tells-removing how y q j) xs p i
     (all-from (λ y. ⊤) (λ y. tt) xs)
 
@@ -234,7 +235,7 @@ placed-there p node t = either_way (AllByRecursion (HasNode p)) (is_fragment (ki
 
 -- An insertion, before a node that is there.
 pub tells-inserting : {node parent : NodeName} {p : Part} (how : Observing) (before : Option NodeName) → IsPart p → MayGo parent p node →
-    IfSome (HasNode p) before → TellsIn p (inserting how node parent before p)
+    IfSome (HasNode p) before → TellsIn p (insert_plan how node parent before p)
 tells-inserting {node} {parent} {p} how before i m b =
     let moved = placed_nodes p.trees node in
     let there = placed-there p node m.there in
@@ -259,19 +260,19 @@ tells-inserting {node} {parent} {p} how before i m b =
 
 -- a replacement
 pub tells-replacing : {parent node : NodeName} {p : Part} (child : NodeName) → IsPart p → MayGo parent p node → HasNode p child →
-    TellsIn p (replacing parent node child p)
+    TellsIn p (replace_plan parent node child p)
 tells-replacing {parent} {node} {p} child i m t =
     let spot = Some parent in
-    let reference = reference_for p.trees node (next_sibling p.trees child) in
+    let reference = reference_child p.trees node (next_sibling p.trees child) in
     let there = reference-there p node (next_sibling p.trees child) m.there (next-there p child t) in
     let front = previous_sibling p.trees child in
     let moved = placed_nodes p.trees node in
-    let gone = leads-eased spot p (removing suppressed child p) (leads-removing suppressed child p i) in
-    tells-plan (removing suppressed child and_then inserting suppressed node parent reference)
+    let gone = leads-eased spot p (remove_plan suppressed child p) (leads-removing suppressed child p i) in
+    tells-plan (remove_plan suppressed child and_then insert_plan suppressed node parent reference)
     (doing (queue_record (child_list parent moved (child ∷ []) front reference)))
-    (leads-plan spot (removing suppressed child) (inserting suppressed node parent reference) p gone
+    (leads-plan spot (remove_plan suppressed child) (insert_plan suppressed node parent reference) p gone
     (λ q c. leads-inserting suppressed node parent reference c.part (may-still parent p q node c m)))
-    (tells-plan (removing suppressed child) (inserting suppressed node parent reference) gone (tells-removing suppressed child p i)
+    (tells-plan (remove_plan suppressed child) (insert_plan suppressed node parent reference) gone (tells-removing suppressed child p i)
     (λ q c. tells-inserting suppressed reference c.part (may-still parent p q node c m) (still-if c reference there)))
     (λ q c. (
       recorded q (child_list parent moved (child ∷ []) front reference) (

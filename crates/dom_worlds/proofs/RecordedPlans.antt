@@ -11,9 +11,9 @@ use Rattle.dom_model.specs.Tree.{descendants, inclusive_descendants, is_fragment
 use Rattle.dom_model.specs.Output.{child_list}
 use Rattle.dom_model.specs.Part.{Part, next_name, range_at}
 use Rattle.dom_model.specs.Steps.{Step, make, join_at, queue_record, part_step, after, set_range}
-use Rattle.dom_model.specs.Changes.{Plan, ◌and_then◌, in_turn, steps_of, only_if, observed, suppressed, removing, document_below, inserting, doing}
-use Rattle.dom_model.specs.Changes.{reference_for, pre_inserting}
-use Rattle.dom_model.specs.TextChanges.{replacing_data, new_text_node, replacing_all_data, placing_tail, splitting, texts_after, joins, joining}
+use Rattle.dom_model.specs.Changes.{Plan, ◌and_then◌, in_turn, steps_of, only_if, observed, suppressed, remove_plan, document_below, insert_plan, doing}
+use Rattle.dom_model.specs.Changes.{reference_child, pre_insert_plan}
+use Rattle.dom_model.specs.TextChanges.{replacing_data, new_text_node, replacing_all_data, placing_tail, splitting, contiguous_texts_after, joins, joining}
 use Rattle.dom_model.specs.TextChanges.{normalizing_text, normalizing, replacing_children, setting_text}
 use Rattle.dom_worlds.specs.Worlds.{IsPart}
 use Rattle.dom_worlds.proofs.Lists.{all-dropped, all-then, all-filter, either_way, which_way, by_some_is}
@@ -52,7 +52,7 @@ tells-splitting x offset p i t =
     let cut = replacing_data x offset (length old.text - offset) [] in
     let l = leads-tail {x = x} offset spot c.part (new-there p tail) (λ parent e. may-follow tail x i refl e) in
     let told = by_some_is (λ (o : Option NodeName). TellsIn q (placing_tail x offset new o q)) spot (λ e. tt)
-    (λ parent e. tells-append q (inserting observed new parent (next_sibling q.trees x) q) _
+    (λ parent e. tells-append q (insert_plan observed new parent (next_sibling q.trees x) q) _
     (tells-inserting observed (next_sibling q.trees x) c.part (may-follow tail x i refl e).may (next-there q x (still c x t))) (tt, tt)) in (
       (tt, tells-plan put cut l told (λ r d. tells-replacing_data x offset (length old.text - offset) [] r (still d x (still c x t)))),
       still (leads-plan spot put cut q l
@@ -66,16 +66,16 @@ tells-joins ts x parent size (y ∷ ys) p = (tt, tells-joins ts x parent (size +
 
 -- Texts that are joined
 tells-joining : (x parent : NodeName) (p : Part) → IsPart p → HasNode p x → parent_of p.trees x ≡ Some parent →
-    TellsIn p (joining x parent (texts_after p.trees x) p)
+    TellsIn p (joining x parent (contiguous_texts_after p.trees x) p)
 tells-joining x parent p i t e =
-    let nexts = texts_after p.trees x in
+    let nexts = contiguous_texts_after p.trees x in
     let size = length_of p.trees x in
     let all = flat_map (λ y. (node_in p.trees y).text) nexts in
     let one = replacing_data x size 0 all p in
     let first = leads-replacing_data x size 0 all p i in
     let q = after p one in
     let two = joins p.trees x parent size nexts in
-    tells-plan (replacing_data x size 0 all and_then steps_of two) (in_turn (removing observed) nexts)
+    tells-plan (replacing_data x size 0 all and_then steps_of two) (in_turn (remove_plan observed) nexts)
     (leads-then None p one two first (leads-joins p.trees x parent size nexts (record {
       part = first.changed.part;
       there = still first.changed x t;
@@ -86,15 +86,16 @@ tells-joining x parent p i t e =
 -- a Text that is normalized
 tells-normalizing_text : (p : Part) (x : NodeName) → IsPart p → HasNode p x → TellsIn p (normalizing_text x p)
 tells-normalizing_text p x i t =
-    either_way (TellsIn p) (length_of p.trees x == 0) (removing observed x p)
-    (option_map_or (λ parent. if is_empty (texts_after p.trees x) then [] else joining x parent (texts_after p.trees x) p)
+    either_way (TellsIn p) (length_of p.trees x == 0) (remove_plan observed x p)
+    (option_map_or (λ parent. if is_empty (contiguous_texts_after p.trees x) then [] else joining x parent (contiguous_texts_after p.trees x) p)
     (parent_of p.trees x) [])
     (tells-removing observed x p i) (from (parent_of p.trees x) refl)
   where
     from : (a : Option NodeName) → parent_of p.trees x ≡ a →
-        TellsIn p (option_map_or (λ parent. if is_empty (texts_after p.trees x) then [] else joining x parent (texts_after p.trees x) p) a [])
+        TellsIn p (option_map_or (λ parent. if is_empty (contiguous_texts_after p.trees x) then [] else joining x parent
+        (contiguous_texts_after p.trees x) p) a [])
     from None e = tt
-    from (Some parent) e = either_way (TellsIn p) (is_empty (texts_after p.trees x)) [] (joining x parent (texts_after p.trees x) p) tt
+    from (Some parent) e = either_way (TellsIn p) (is_empty (contiguous_texts_after p.trees x)) [] (joining x parent (contiguous_texts_after p.trees x) p) tt
         (tells-joining x parent p i t e)
 
 -- all Texts below a node
@@ -108,19 +109,19 @@ tells-normalizing x p i =
 -- Text content.
 tells-replaced : {x : NodeName} {made : List Step} {added : List NodeName} {p : Part} (old : List NodeName) (b : Bool) → IsReplaced x made added p →
     TellsIn p made → AllByRecursion (HasNode p) old →
-    TellsIn p ((steps_of made and_then in_turn (removing suppressed) old and_then in_turn (λ y. inserting suppressed y x None) added and_then
+    TellsIn p ((steps_of made and_then in_turn (remove_plan suppressed) old and_then in_turn (λ y. insert_plan suppressed y x None) added and_then
     steps_of (only_if b (queue_record (child_list x added old None None)))) p)
 tells-replaced {x} {made} {added} {p} old b m tm o =
     let a = m.leads in
     let spot = Some x in
     let q = after p made in
-    let gone = in_turn (removing suppressed) old q in
+    let gone = in_turn (remove_plan suppressed) old q in
     let ab = leads-then spot p made gone a (leads-eased spot q gone (leads-removals suppressed old q a.changed.part)) in
     let r = after p (made ++ gone) in
     let c : Changed spot q r = subst (Changed spot q) (sym (Rattle.dom_worlds.proofs.PlanPlaces.after-append p made gone))
     (leads-eased spot q gone (leads-removals suppressed old q a.changed.part)).changed in
     let may = all-then (MayGo x q) (MayGo x r) (λ y. may-still x q r y c) added m.may in
-    let put : NodeName → Plan = λ y. inserting suppressed y x None in
+    let put : NodeName → Plan = λ y. insert_plan suppressed y x None in
     let d = leads-each (inserting-each x) added r c.part may in
     let three = in_turn put added r in
     let all = leads-then spot p (made ++ gone) three ab d in
@@ -174,7 +175,7 @@ tells-taking (whole x rest) {into} {p} t =
     let i = t.part in
     let o = t.old in
     let may = old-may into i o.0 t.there t.new in
-    tells-plan (inserting observed x into None) (taking into rest) (leads-inserting observed x into None i may)
+    tells-plan (insert_plan observed x into None) (taking into rest) (leads-inserting observed x into None i may)
     (tells-inserting observed None i may tt) (λ q c. tells-taking rest (take-still rest t o.1 c))
 tells-taking (cut x from to rest) {into} {p} t =
     let i = t.part in
@@ -237,12 +238,12 @@ tells-contents : (ts : Trees) (range : Range NodeName) (p : Part) → IsPart p �
 tells-contents ts range p i t u = from (is_in_one_data ts range)
   where
     from : (b : Bool) → TellsIn p ((if b then cutting_data ts range range.start.node else
-        (cutting_data ts range range.start.node and_then in_turn (removing observed) (outermost_contained ts range) and_then cutting_data ts range
+        (cutting_data ts range range.start.node and_then in_turn (remove_plan observed) (outermost_contained ts range) and_then cutting_data ts range
         range.end.node)) p)
     from true = tells-cutting ts range range.start.node p t
     from false =
         let one = cutting_data ts range range.start.node in
-        let two = in_turn (removing observed) (outermost_contained ts range) in
+        let two = in_turn (remove_plan observed) (outermost_contained ts range) in
         let l = leads-cutting ts range range.start.node p i in
         tells-plan (one and_then two) (cutting_data ts range range.end.node)
         (leads-plan None one two p l (λ q c. leads-removals observed (outermost_contained ts range) q c.part))
@@ -273,19 +274,19 @@ tells-inserting_before : {node parent : NodeName} {p : Part} (k : ℕ) (referenc
 tells-inserting_before {node} {parent} {p} k reference i m r =
     let ts = p.trees in
     let end = at parent (option_map_or (index_of ts) reference (length_of ts parent) + (if is_fragment (kind_of ts node) then length_of ts node else 1)) in
-    let steps = pre_inserting node parent reference p in
+    let steps = pre_insert_plan node parent reference p in
     tells-append p steps (ending_at k end (after p steps))
-    (tells-inserting observed (reference_for ts node reference) i m (reference-there p node reference m.there r))
+    (tells-inserting observed (reference_child ts node reference) i m (reference-there p node reference m.there r))
     (tells-ending_at k end (after p steps))
 
 -- that left its parent first
 tells-inserting_at : {node parent : NodeName} {p : Part} (k : ℕ) (child : Option NodeName) → IsPart p → MayGo parent p node → IfSome (HasNode p) child →
     TellsIn p (inserting_at k node parent child p)
 tells-inserting_at {node} {parent} {p} k child i m r =
-    let steps = removing observed node p in
+    let steps = remove_plan observed node p in
     let q = after p steps in
     let l = leads-eased (Some parent) p steps (leads-removing observed node p i) in
-    let reference = reference_for p.trees node child in
+    let reference = reference_child p.trees node child in
     tells-append p steps (inserting_before k node parent reference q) (tells-removing observed node p i)
     (tells-inserting_before k reference l.changed.part (may-still parent p q node l.changed m)
     (still-if l.changed reference (reference-there p node child m.there r)))

@@ -22,7 +22,7 @@ use Rattle.dom_base.specs.declared.Refusal.{Refusal}
 use Rattle.dom_base.specs.declared.Refusal.TheVariants.{Hierarchy, NotFound}
 use Rattle.dom_model.specs.Command.{Command, NodeWord, own_refusal, effect}
 use Rattle.dom_model.specs.Part.{Part, range_at}
-use Rattle.dom_model.specs.Validity.{first_refusal, has_parent, may_be_parent, may_be_inserted, placing_tests, insertion_refusal, replacement_refusal}
+use Rattle.dom_model.specs.Validity.{first_refusal, has_parent, may_be_parent, may_be_inserted, placing_tests, pre_insert_refusal, replace_refusal}
 use Rattle.dom_model.specs.CommandNames.{named}
 use Rattle.dom_model.specs.CommandRefusals.{limit_on, made_by_insert_node}
 use Rattle.dom_model.specs.RangeOps.{cannot_take_node, insert_node_refusal, insertion_parent, start_reference}
@@ -211,12 +211,12 @@ tested ts parent node is_lost others h =
     not-false (may_be_inserted (kind_of ts node)) (next-test (not (may_be_inserted (kind_of ts node))) Hierarchy (drop 4 tests) c.1).0
 
 -- of an insertion
-insertion-tested : (ts : Trees) (parent node : NodeName) (child : Option NodeName) → insertion_refusal ts parent node child ≡ None →
+insertion-tested : (ts : Trees) (parent node : NodeName) (child : Option NodeName) → pre_insert_refusal ts parent node child ≡ None →
     may_be_inserted (kind_of ts node) ≡ true
 insertion-tested ts parent node child h = tested ts parent node (option_map_or (λ c. not (has_parent ts parent c)) child false) (child_nodes ts parent) h
 
 -- of a replacement
-replacement-tested : (ts : Trees) (parent node child : NodeName) → replacement_refusal ts parent node child ≡ None → may_be_inserted (kind_of ts node) ≡ true
+replacement-tested : (ts : Trees) (parent node child : NodeName) → replace_refusal ts parent node child ≡ None → may_be_inserted (kind_of ts node) ≡ true
 replacement-tested ts parent node child h =
     tested ts parent node (not (has_parent ts parent child)) (filter (λ (n : Node). not (name_eq n.name child)) (child_nodes ts parent)) h
 
@@ -233,7 +233,7 @@ insert_node-other {r} {p} o k x h range e =
     let here : tests range ≡ None = sym (ap (λ a. option_map_or tests a None) e) ∙ h in
     let first = or-none (insert_node_refusal p.trees range (named p x)) (limit_on p.node_count (made_by_insert_node p range)) here in
     let valid = not_taken (cannot_take_node p.trees range (named p x))
-    (insertion_refusal p.trees (insertion_parent p.trees range) (named p x) (start_reference p.trees range)) first.0 in
+    (pre_insert_refusal p.trees (insertion_parent p.trees range) (named p x) (start_reference p.trees range)) first.0 in
     inserted-other r p o (named p x) (insertion-tested p.trees (insertion_parent p.trees range) (named p x) (start_reference p.trees range) valid)
 
 -- both ends of a range are in one Text or Comment

@@ -12,7 +12,8 @@ use Rattle.dom_model.specs.Names.{DomString, name_eq, is_in, is_empty}
 use Rattle.dom_model.specs.Tree.{Trees, Node, nodes, root_of, times_in}
 use Rattle.dom_model.specs.World.{World, part_of, node_at, trees_with, root_at, parent_at, ancestors_at, component_at, host_of, some_if, shadow_root_of}
 use Rattle.dom_model.specs.World.{shadow_tree, is_in_shadow_tree, Task, notify_task, is_notify_of, queued_notify}
-use Rattle.dom_model.specs.Slots.{slot_of, slot_in, has_slot_name, slottable_name, signals, assigned, is_slot_element, is_bare_slot, is_changed, own_slots}
+use Rattle.dom_model.specs.Slots.{slot_of, slot_in, has_slot_name, slottable_name, signals, assigned_nodes, is_slot_element, is_bare_slot}
+use Rattle.dom_model.specs.Slots.{assigned_nodes_changed, own_slots}
 use Rattle.dom_model.specs.Slots.{other_slots}
 use Rattle.dom_model.proofs.OwnerLaws.{ne-owner_eq, name_eq-same}
 use Rattle.dom_model.proofs.PartLaws.{owner-part_of}
@@ -142,11 +143,11 @@ page_tasks-queued_other o h ts =
     (λ e. rw e (filter-append is_page_task ts (notify_task o ∷ []) ∙ rw (ne-owner_eq o Page h) (append-nil (filter is_page_task ts))))
 
 -- Signals are of components' slots alone.
-assigned-page : (w : World) (s : NodeName) → s.owner ≡ Page → assigned w s ≡ []
+assigned-page : (w : World) (s : NodeName) → s.owner ≡ Page → assigned_nodes w s ≡ []
 assigned-page w s e = rw e refl
 
 -- a slot whose assigned nodes changed is no page node
-changed-foreign : (was now : World) (s : NodeName) → is_changed was now s ≡ true → IsForeignTo Page s
+changed-foreign : (was now : World) (s : NodeName) → assigned_nodes_changed was now s ≡ true → IsForeignTo Page s
 changed-foreign was now s h e = true≢false (sym h ∙ rw (assigned-page was s e, assigned-page now s e) refl)
 
 -- a page node is in no shadow tree
@@ -157,8 +158,8 @@ page_in_no_tree w x e = rw e refl
 bare-foreign : (w : World) (s : NodeName) (is_move : Bool) → (is_move && is_bare_slot w s) ≡ true → IsForeignTo Page s
 bare-foreign w s is_move h e =
     let both = and_parts is_move (is_bare_slot w s) h in
-    let inside = and_parts (is_slot_element (node_at w s)) (is_in_shadow_tree w s && is_empty (assigned w s)) both.1 in
-    let in_tree = and_parts (is_in_shadow_tree w s) (is_empty (assigned w s)) inside.1 in
+    let inside = and_parts (is_slot_element (node_at w s)) (is_in_shadow_tree w s && is_empty (assigned_nodes w s)) both.1 in
+    let in_tree = and_parts (is_in_shadow_tree w s) (is_empty (assigned_nodes w s)) inside.1 in
     true≢false (sym in_tree.0 ∙ page_in_no_tree w s e)
 
 -- all that is signalled
@@ -166,9 +167,9 @@ pub signals-foreign : (was now : World) (x around : NodeName) (is_move : Bool) �
 signals-foreign was now x around is_move =
     let P = IsForeignTo Page in
     let bare : List NodeName = if is_move && is_bare_slot now around then around ∷ [] else [] in
-    let own = filter (is_changed was now) (own_slots was now x) in
-    let other = filter (is_changed was now) (other_slots now x around) in
+    let own = filter (assigned_nodes_changed was now) (own_slots was now x) in
+    let other = filter (assigned_nodes_changed was now) (other_slots now x around) in
     let bare-all : AllByRecursion P bare = by_cases (is_move && is_bare_slot now around) (λ e. rw e (bare-foreign now around is_move e, tt)) (λ e. rw e tt) in
-    let own-all : AllByRecursion P own = all-passed P (is_changed was now) (changed-foreign was now) (own_slots was now x) in
-    let other-all : AllByRecursion P other = all-passed P (is_changed was now) (changed-foreign was now) (other_slots now x around) in
+    let own-all : AllByRecursion P own = all-passed P (assigned_nodes_changed was now) (changed-foreign was now) (own_slots was now x) in
+    let other-all : AllByRecursion P other = all-passed P (assigned_nodes_changed was now) (changed-foreign was now) (other_slots now x around) in
     all-distinct P name_eq (own ++ bare ++ other) (all-append P (own ++ bare) other (all-append P own bare own-all bare-all) other-all)

@@ -13,7 +13,7 @@ use Rattle.dom_model.specs.Place.{Boundary, same_root, is_before}
 use Rattle.dom_model.specs.Ranges.{Range, from_to, with_start, with_end}
 use Rattle.dom_model.specs.Tree.{Trees, Node, has_node, kind_of, is_inclusive_ancestor, child_nodes, ancestors, inclusive_ancestors, inclusive_descendants}
 use Rattle.dom_model.specs.Tree.{times_in}
-use Rattle.dom_model.specs.Validity.{first_refusal, has_parent, may_be_parent, placing_tests, insertion_refusal, replacement_refusal}
+use Rattle.dom_model.specs.Validity.{first_refusal, has_parent, may_be_parent, placing_tests, pre_insert_refusal, replace_refusal}
 use Rattle.dom_worlds.specs.Worlds.{IsPart}
 use Rattle.dom_worlds.specs.Tables.{IsNodeIn, HasEnds, EndsIn, HasTables, IsIteratorIn, IsWalkerIn}
 use Rattle.dom_worlds.proofs.Effects.{next-test}
@@ -48,12 +48,12 @@ tested-apart ts parent node is_lost others h =
     (next-test (is_inclusive_ancestor ts node parent) Hierarchy (drop 2 tests) a.1).0
 
 -- of an insertion
-pub insertion-apart : (ts : Trees) (parent node : NodeName) (child : Option NodeName) → insertion_refusal ts parent node child ≡ None →
+pub insertion-apart : (ts : Trees) (parent node : NodeName) (child : Option NodeName) → pre_insert_refusal ts parent node child ≡ None →
     is_inclusive_ancestor ts node parent ≡ false
 insertion-apart ts parent node child h = tested-apart ts parent node (option_map_or (λ c. not (has_parent ts parent c)) child false) (child_nodes ts parent) h
 
 -- of a replacement
-pub replacement-apart : (ts : Trees) (parent node child : NodeName) → replacement_refusal ts parent node child ≡ None →
+pub replacement-apart : (ts : Trees) (parent node child : NodeName) → replace_refusal ts parent node child ≡ None →
     is_inclusive_ancestor ts node parent ≡ false
 replacement-apart ts parent node child h =
     tested-apart ts parent node (not (has_parent ts parent child)) (filter (λ (n : Node). not (name_eq n.name child)) (child_nodes ts parent)) h

@@ -5,7 +5,7 @@ use Rattle.std.proofs.Common.{arith, true≢false}
 use Rattle.std.specs.Prelude.{nat_eq}
 use Rattle.std.specs.List.{AllByRecursion}
 use Rattle.dom_base.specs.declared.NodeName.{NodeName}
-use Rattle.dom_model.specs.Changes.{observed, reference_for}
+use Rattle.dom_model.specs.Changes.{observed, reference_child}
 use Rattle.dom_model.specs.Command.{Command, Line, EventWords, part_refusal, effect}
 use Rattle.dom_model.specs.CommandNames.{named}
 use Rattle.dom_model.specs.Effects.{Effect, tables, changes, answers, sets_walker}
@@ -33,7 +33,8 @@ use Rattle.dom_base.specs.declared.Owner.{Owner}
 use Rattle.dom_base.specs.declared.Owner.TheVariants.{Page, Component}
 use Rattle.dom_model.specs.Dispatch.{dispatch_in, world_visit, visits_of}
 use Rattle.dom_model.specs.DocumentMachine.{first_world, part_with_root, effect_in, attaching, step, run_lines, finish}
-use Rattle.dom_model.specs.Listeners.{Listener, Visit, Dispatching, begun, after_action, may_cancel, line_of, is_listener, kept_after, called, hears, visited}
+use Rattle.dom_model.specs.Listeners.{Listener, Visit, Dispatching, begun, after_action, may_cancel, line_of, is_listener, kept_after, after_inner_invoke}
+use Rattle.dom_model.specs.Listeners.{hears, after_invoke}
 use Rattle.dom_model.specs.Names.{name_eq, node_of, is_in}
 use Rattle.dom_model.specs.Observers.{Registration, is_transient}
 use Rattle.dom_model.specs.Paths.{views}
@@ -81,7 +82,7 @@ records-effect p i t h (Command.insert a x c) r =
     let k = part-accepted p (Command.insert a x c) r in
     let rest = has_node p.trees (named p c) && true in
     let there = exists-second p a x rest true k.exist in
-    tells-inserting observed (reference_for p.trees (named p x) (Some (named p c))) i
+    tells-inserting observed (reference_child p.trees (named p x) (Some (named p c))) i
     (named-may x (named p a) i there (exists-first p a (has_node p.trees (named p x) && rest) true k.exist)
     (insertion-apart p.trees (named p a) (named p x) (Some (named p c)) k.own))
     (reference-there p (named p x) (Some (named p c)) there (exists-third p a x c k.exist))
@@ -126,7 +127,7 @@ after-action P Cancel c d h = h
 
 -- a call
 after-called : (P : Listener NodeName → Type 0) (e : EventWords) (v : Visit NodeName) (d : Dispatching NodeName) (l : Listener NodeName) →
-    AllByRecursion P d.listeners → AllByRecursion P (called name_eq e v d l).listeners
+    AllByRecursion P d.listeners → AllByRecursion P (after_inner_invoke name_eq e v d l).listeners
 after-called P e v d l h =
     let left = kept_after name_eq l d.listeners in
     let next : Dispatching NodeName = record d { listeners = left; lines = d.lines ++ line_of v l.words ∷ [] } in
@@ -137,16 +138,17 @@ after-called P e v d l h =
 
 -- calls
 after-calls : (P : Listener NodeName → Type 0) (e : EventWords) (v : Visit NodeName) (ls : List (Listener NodeName)) (d : Dispatching NodeName) →
-    AllByRecursion P d.listeners → AllByRecursion P (fold (called name_eq e v) d ls).listeners
+    AllByRecursion P d.listeners → AllByRecursion P (fold (after_inner_invoke name_eq e v) d ls).listeners
 after-calls P e v [] d h = h
-after-calls P e v (l ∷ ls) d h = after-calls P e v ls (called name_eq e v d l) (after-called P e v d l h)
+after-calls P e v (l ∷ ls) d h = after-calls P e v ls (after_inner_invoke name_eq e v d l) (after-called P e v d l h)
 
 -- a visit
 after-visit : (P : Listener NodeName → Type 0) (e : EventWords) (v : Visit NodeName) (d : Dispatching NodeName) → AllByRecursion P d.listeners →
-    AllByRecursion P (visited name_eq e d v).listeners
+    AllByRecursion P (after_invoke name_eq e d v).listeners
 after-visit P e v d h =
     let hearing = filter (hears name_eq e v) d.listeners in
-    either_way (λ (s : Dispatching NodeName). AllByRecursion P s.listeners) d.stopped d (fold (called name_eq e v) d hearing) h (after-calls P e v hearing d h)
+    either_way (λ (s : Dispatching NodeName). AllByRecursion P s.listeners) d.stopped d (fold (after_inner_invoke name_eq e v) d hearing) h
+    (after-calls P e v hearing d h)
 
 -- visits in the world
 frame-visits : (e : EventWords) (vs : List (Visit NodeName)) (w : World) (d : Dispatching NodeName) → Frame w → Frame (fold (world_visit e) (w, d) vs).0
@@ -154,7 +156,7 @@ frame-visits e [] w d f = f
 frame-visits e (v ∷ vs) w d f =
     let o = v.current.owner in
     let p = part_of w o in
-    let heard = visited name_eq e (record d { listeners = p.listeners }) v in
+    let heard = after_invoke name_eq e (record d { listeners = p.listeners }) v in
     let t = tables-listeners p heard.listeners (f.tables o)
     (after-visit (IsListenerIn p.trees) e v (record d { listeners = p.listeners }) (f.tables o).listeners) in
     frame-visits e vs (with_part w (record p { listeners = heard.listeners })) heard

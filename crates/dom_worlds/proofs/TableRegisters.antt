@@ -13,7 +13,7 @@ use Rattle.dom_model.specs.CommandNames.{named, has_range}
 use Rattle.dom_model.specs.CommandRefusals.{limit_on, made_by_insert_node}
 use Rattle.dom_model.specs.Effects.{answers, moves_iterator, sets_walker, node_or_null, collapsed_to, new_iterator, new_walker}
 use Rattle.dom_model.specs.Extract.{both_at, extracting}
-use Rattle.dom_model.specs.Listeners.{Listener, listened, is_listener}
+use Rattle.dom_model.specs.Listeners.{Listener, with_listener_added, is_listener}
 use Rattle.dom_model.specs.Names.{name_eq}
 use Rattle.dom_model.specs.Observers.{Registration, asked_for, with_registration, with_options, is_asked_for, stems_from, options_of}
 use Rattle.dom_model.specs.Output.{nothing, a_node, a_string, boundaries, reference}
@@ -22,7 +22,7 @@ use Rattle.dom_model.specs.RangeOps.{cannot_take_node, insert_node_refusal, inse
 use Rattle.dom_model.specs.Ranges.{Range, at, with_start, with_end}
 use Rattle.dom_model.specs.Traversal.{Iterator, Walker, iterator_next_node, iterator_previous_node, walker_move}
 use Rattle.dom_model.specs.Tree.{Trees, has_node, parent_of, length_of}
-use Rattle.dom_model.specs.Validity.{insertion_refusal}
+use Rattle.dom_model.specs.Validity.{pre_insert_refusal}
 use Rattle.dom_worlds.specs.Worlds.{IsPart}
 use Rattle.dom_worlds.specs.Tables.{IsNodeIn, EndsIn, IsIteratorIn, IsWalkerIn, IsRegistrationIn, IsListenerIn, HasTables}
 use Rattle.dom_worlds.proofs.Effects.{IsPartAccepted, or-none, part-accepted, range-steps}
@@ -47,7 +47,7 @@ use Rattle.dom_worlds.proofs.TableCommands.{walker-moved, tables-walker}
 
 -- Listeners.
 pub all-heard : (P : Listener NodeName → Type 0) (x : NodeName) (w : ListenerWords) (ls : List (Listener NodeName)) →
-    P (record { node = x; words = w }) → AllByRecursion P ls → AllByRecursion P (listened name_eq x w ls)
+    P (record { node = x; words = w }) → AllByRecursion P ls → AllByRecursion P (with_listener_added name_eq x w ls)
 all-heard P x w ls g h =
     let one : Listener NodeName = record { node = x; words = w } in
     either_way (AllByRecursion P) (list_any (is_listener name_eq x w.event w.label w.capture) ls) ls (ls ++ one ∷ []) h (all-append P ls (one ∷ []) h (g, tt))
@@ -137,7 +137,7 @@ pub insert_node-may : {p : Part} {k : ℕ} {x : NodeWord} {range : Range NodeNam
 insert_node-may {p} {k} {x} {range} i h a e =
     let t = exists-first p x true (has_range p k) a.exist in
     let valid = not_taken (cannot_take_node p.trees range (named p x))
-    (insertion_refusal p.trees (insertion_parent p.trees range) (named p x) (start_reference p.trees range))
+    (pre_insert_refusal p.trees (insertion_parent p.trees range) (named p x) (start_reference p.trees range))
     (insert_node-valid p k x a.own range e) in
     named-may x (insertion_parent p.trees range) i t (parent-of_range p range (range-ends p k h range e).0)
     (insertion-apart p.trees (insertion_parent p.trees range) (named p x) (start_reference p.trees range) valid)

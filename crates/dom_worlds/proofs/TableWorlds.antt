@@ -11,7 +11,8 @@ use Rattle.dom_base.specs.declared.Owner.TheVariants.{Page}
 use Rattle.dom_model.specs.Names.{DomString, name_eq, owner_eq, owner_depth, node_of, max_depth, is_empty, is_in}
 use Rattle.dom_model.specs.Tree.{Trees, Node, nodes, node_in, no_node, subtree, inclusive_descendants, is_element, times_in}
 use Rattle.dom_model.specs.Part.{Part}
-use Rattle.dom_model.specs.Slots.{is_slot_element, slottable_name, slot_in, slot_of, has_slot_name, assigned, is_changed, is_bare_slot, own_slots, slots_among}
+use Rattle.dom_model.specs.Slots.{is_slot_element, slottable_name, slot_in, slot_of, has_slot_name, assigned_nodes, assigned_nodes_changed, is_bare_slot}
+use Rattle.dom_model.specs.Slots.{own_slots, slots_among}
 use Rattle.dom_model.specs.Slots.{other_slots, signals, with_signal}
 use Rattle.dom_model.specs.Steps.{Step, set_document, part_step}
 use Rattle.dom_model.specs.World.{World, part_of, with_part, trees_with, node_at, root_at, parent_at, component_at, components_below, shadow_root_of}
@@ -178,7 +179,7 @@ element-there ts x h = times-has_node ts x
 bare-at : (w : World) (s : NodeName) (is_move : Bool) → (is_move && is_bare_slot w s) ≡ true → IsNodeAt w s
 bare-at w s is_move h =
     let both = and_parts is_move (is_bare_slot w s) h in
-    let slot = and_parts (is_slot_element (node_at w s)) (is_in_shadow_tree w s && is_empty (assigned w s)) both.1 in
+    let slot = and_parts (is_slot_element (node_at w s)) (is_in_shadow_tree w s && is_empty (assigned_nodes w s)) both.1 in
     element-there (trees_with w s) s (and_parts (is_element (node_at w s).kind) _ slot.0).0
 
 -- all that is signalled
@@ -187,14 +188,14 @@ signals-at : {was now : World} → Ground was → Ground now → AllGrow was now
 signals-at {was} {now} g h grow x around is_move =
     let P = IsNodeAt now in
     let bare : List NodeName = if is_move && is_bare_slot now around then around ∷ [] else [] in
-    let own = filter (is_changed was now) (own_slots was now x) in
-    let other = filter (is_changed was now) (other_slots now x around) in
+    let own = filter (assigned_nodes_changed was now) (own_slots was now x) in
+    let other = filter (assigned_nodes_changed was now) (other_slots now x around) in
     let bare-all : AllByRecursion P bare = by_cases (is_move && is_bare_slot now around) (λ e. rw e (bare-at now around is_move e, tt)) (λ e. rw e tt) in
-    let own-all = all-filter P (is_changed was now) (own_slots was now x)
+    let own-all = all-filter P (assigned_nodes_changed was now) (own_slots was now x)
     (all-append P (option_to_list (slot_of was x)) (option_to_list (slot_of now x))
     (all-if P (slot_of was x) (if-then (IsNodeAt was) P (slot_of was x) (λ y. grow y.owner y) (slot-at was g x)))
     (all-if P (slot_of now x) (slot-at now h x))) in
-    let other-all = all-filter P (is_changed was now) (other_slots now x around)
+    let other-all = all-filter P (assigned_nodes_changed was now) (other_slots now x around)
     (all-append P (slots_among (subtree (trees_with now around) (root_at now around))) (slots_among (subtree (trees_with now x) x))
     (among-at now h around.owner (subtree (trees_with now around) (root_at now around)) (times_subtree (trees_with now around) (root_at now around)))
     (among-at now h x.owner (subtree (trees_with now x) x) (times_subtree (trees_with now x) x))) in

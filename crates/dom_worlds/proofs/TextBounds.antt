@@ -16,8 +16,8 @@ use Rattle.dom_model.specs.TreeChanges.{followed_by, with_name, with_node, with_
 use Rattle.dom_model.specs.Output.{child_list, character_data}
 use Rattle.dom_model.specs.Part.{Part, next_name}
 use Rattle.dom_model.specs.Steps.{Step, make, split_at, replace_data, queue_record, part_step, after}
-use Rattle.dom_model.specs.Changes.{Plan, ◌and_then◌, in_turn, doing, steps_of, only_if, observed, suppressed, removing, document_below, inserting}
-use Rattle.dom_model.specs.TextChanges.{replacing_data, new_text_node, replacing_all_data, placing_tail, splitting, texts_after, joins, joining}
+use Rattle.dom_model.specs.Changes.{Plan, ◌and_then◌, in_turn, doing, steps_of, only_if, observed, suppressed, remove_plan, document_below, insert_plan}
+use Rattle.dom_model.specs.TextChanges.{replacing_data, new_text_node, replacing_all_data, placing_tail, splitting, contiguous_texts_after, joins, joining}
 use Rattle.dom_model.specs.TextChanges.{normalizing_text, normalizing, replacing_children, setting_text}
 use Rattle.dom_model.proofs.OwnerLaws.{name_eq-same, name_eq-turned}
 use Rattle.dom_worlds.specs.Worlds.{times_among, IsPart}
@@ -95,7 +95,7 @@ room-tail {o = None} e t m = t.room
 room-tail {x} {offset} {q} {new} {o = Some parent} e t m =
     let index = index_of q.trees x in
     let before = next_sibling q.trees x in
-    let steps = inserting observed new parent before q in
+    let steps = insert_plan observed new parent before q in
     let r = after q steps in
     let may = (m parent refl).may in
     let below = index-below q.trees x parent t.part.unique e in
@@ -106,11 +106,11 @@ room-tail {x} {offset} {q} {new} {o = Some parent} e t m =
     (room-split (room-inserting observed before (record { part = t.part; room = t.room }) (record { go = may; open_parent = opened })) parent index x offset new
     (sizes r steps c may) (let size = lengths r c may opened in omega arith))
   where
-    sizes : (r : Part) (steps : List Step) → Changed (Some parent) q (after q (inserting observed new parent (next_sibling q.trees x) q)) →
-        MayGo parent q new → length_of (after q (inserting observed new parent (next_sibling q.trees x) q)).trees x ≤ offset + length_of
-        (after q (inserting observed new parent (next_sibling q.trees x) q)).trees new
+    sizes : (r : Part) (steps : List Step) → Changed (Some parent) q (after q (insert_plan observed new parent (next_sibling q.trees x) q)) →
+        MayGo parent q new → length_of (after q (insert_plan observed new parent (next_sibling q.trees x) q)).trees x ≤ offset + length_of
+        (after q (insert_plan observed new parent (next_sibling q.trees x) q)).trees new
     sizes r steps c may =
-        let s = after q (inserting observed new parent (next_sibling q.trees x) q) in
+        let s = after q (insert_plan observed new parent (next_sibling q.trees x) q) in
         let texts = texts-inserting observed (next_sibling q.trees x) t.part may in
         let a = length-data s.trees x (ap has_data (c.kinds x t.there) ∙ t.text) in
         let b = length-data s.trees new (ap has_data (c.kinds new t.new_there) ∙ t.new_text) in
@@ -118,10 +118,10 @@ room-tail {x} {offset} {q} {new} {o = Some parent} e t m =
         let f = ap (λ (s : DomString). length s) (texts new t.new_there) in
         let g = t.size in omega arith
 
-    lengths : (r : Part) → Changed (Some parent) q (after q (inserting observed new parent (next_sibling q.trees x) q)) → MayGo parent q new →
-        IsOpen q parent → length_of (after q (inserting observed new parent (next_sibling q.trees x) q)).trees parent ≡ kids
-        (after q (inserting observed new parent (next_sibling q.trees x) q)).trees parent
-    lengths r c may opened = length-kids (after q (inserting observed new parent (next_sibling q.trees x) q)).trees parent c.part.unique
+    lengths : (r : Part) → Changed (Some parent) q (after q (insert_plan observed new parent (next_sibling q.trees x) q)) → MayGo parent q new →
+        IsOpen q parent → length_of (after q (insert_plan observed new parent (next_sibling q.trees x) q)).trees parent ≡ kids
+        (after q (insert_plan observed new parent (next_sibling q.trees x) q)).trees parent
+    lengths r c may opened = length-kids (after q (insert_plan observed new parent (next_sibling q.trees x) q)).trees parent c.part.unique
         (open-still c parent may.below opened)
 
 -- a split
@@ -241,12 +241,12 @@ children-among ts y x =
 module _ (x parent : NodeName) (p : Part) (i : IsPart p) (t : HasNode p x) (k : has_data (kind_of p.trees x) ≡ true)
     (e : parent_of p.trees x ≡ Some parent) where
   -- The Texts after a Text that gets their data: it is long enough for them, and they stay as long as they are.
-  pub joining-fits : let nexts = texts_after p.trees x in
+  pub joining-fits : let nexts = contiguous_texts_after p.trees x in
       let q = after p (replacing_data x (length_of p.trees x) 0 (flat_map (λ y. (node_in p.trees y).text) nexts) p) in
       (length_of p.trees x + total p.trees nexts ≤ length_of q.trees x) × AllByRecursion (λ y. length_of q.trees y ≡ length_of p.trees y) nexts
   joining-fits =
       let ts = p.trees in
-      let nexts = texts_after ts x in
+      let nexts = contiguous_texts_after ts x in
       let size = length_of ts x in
       let old = (node_in ts x).text in
       let all = flat_map (λ y. (node_in ts y).text) nexts in
@@ -282,15 +282,15 @@ module _ (x parent : NodeName) (p : Part) (i : IsPart p) (t : HasNode p x) (k : 
           (λ e. subst (AllByRecursion (λ z. test z ≡ true)) (sym (Rattle.dom_worlds.proofs.Lists.take_while-no test y xs e)) tt)
 
   -- Texts that are joined
-  room-joining : HasRoom nowhere p → HasRoom nowhere (after p (joining x parent (texts_after p.trees x) p))
+  room-joining : HasRoom nowhere p → HasRoom nowhere (after p (joining x parent (contiguous_texts_after p.trees x) p))
   room-joining h =
       let ts = p.trees in
-      let nexts = texts_after ts x in
+      let nexts = contiguous_texts_after ts x in
       let size = length_of ts x in
       let all = flat_map (λ y. (node_in ts y).text) nexts in
       let fits = joining-fits in
       let first = leads-replacing_data x size 0 all p i in
-      room-plan (replacing_data x size 0 all and_then steps_of (joins ts x parent size nexts)) (in_turn (removing observed) nexts)
+      room-plan (replacing_data x size 0 all and_then steps_of (joins ts x parent size nexts)) (in_turn (remove_plan observed) nexts)
       (leads-then None p (replacing_data x size 0 all p) (joins ts x parent size nexts) first
       (leads-joins ts x parent size nexts (record { part = first.changed.part; there = still first.changed x t; beside = texts-beside x size all i e })))
       (room-then nowhere p (replacing_data x size 0 all p) (joins ts x parent size nexts)
@@ -316,17 +316,17 @@ TextIn p x = HasNode p x × (is_text (kind_of p.trees x) ≡ true)
 -- a Text that is normalized
 pub room-normalizing_text : (p : Part) (x : NodeName) → IsPart p → TextIn p x → HasRoom nowhere p → HasRoom nowhere (after p (normalizing_text x p))
 room-normalizing_text p x i t h =
-    either_way (λ steps. HasRoom nowhere (after p steps)) (length_of p.trees x == 0) (removing observed x p)
-    (option_map_or (λ parent. if is_empty (texts_after p.trees x) then [] else joining x parent (texts_after p.trees x) p)
+    either_way (λ steps. HasRoom nowhere (after p steps)) (length_of p.trees x == 0) (remove_plan observed x p)
+    (option_map_or (λ parent. if is_empty (contiguous_texts_after p.trees x) then [] else joining x parent (contiguous_texts_after p.trees x) p)
     (parent_of p.trees x) [])
     (room-removing nowhere observed x p i h) (from (parent_of p.trees x) refl)
   where
     from : (a : Option NodeName) → parent_of p.trees x ≡ a →
         HasRoom nowhere (after p (option_map_or
-        (λ parent. if is_empty (texts_after p.trees x) then [] else joining x parent (texts_after p.trees x) p) a []))
+        (λ parent. if is_empty (contiguous_texts_after p.trees x) then [] else joining x parent (contiguous_texts_after p.trees x) p) a []))
     from None e = h
-    from (Some parent) e = either_way (λ steps. HasRoom nowhere (after p steps)) (is_empty (texts_after p.trees x)) []
-        (joining x parent (texts_after p.trees x) p) h (room-joining x parent p i t.0 (text-data (kind_of p.trees x) t.1) e h)
+    from (Some parent) e = either_way (λ steps. HasRoom nowhere (after p steps)) (is_empty (contiguous_texts_after p.trees x)) []
+        (joining x parent (contiguous_texts_after p.trees x) p) h (room-joining x parent p i t.0 (text-data (kind_of p.trees x) t.1) e h)
 
 -- all Texts below a node
 pub room-normalizing : (x : NodeName) (p : Part) → IsPart p → HasRoom nowhere p → HasRoom nowhere (after p (normalizing x p))
@@ -341,13 +341,13 @@ room-normalizing x p i h =
 -- Text content.
 room-replaced : {x : NodeName} {made : List Step} {added : List NodeName} {p : Part} (old : List NodeName) → IsReplaced x made added p → IsOpen p x →
     HasRoom nowhere (after p made) →
-    HasRoom nowhere (after p ((steps_of made and_then in_turn (removing suppressed) old and_then in_turn (λ y. inserting suppressed y x None) added) p))
+    HasRoom nowhere (after p ((steps_of made and_then in_turn (remove_plan suppressed) old and_then in_turn (λ y. insert_plan suppressed y x None) added) p))
 room-replaced {x} {made} {added} {p} old m k h =
     let a = m.leads in
     let t = m.there in
     let spot = Some x in
     let q = after p made in
-    let gone = in_turn (removing suppressed) old q in
+    let gone = in_turn (remove_plan suppressed) old q in
     let b = leads-removals suppressed old q a.changed.part in
     let r = after p (made ++ gone) in
     let same : r ≡ after q gone = after-append p made gone in
@@ -355,13 +355,13 @@ room-replaced {x} {made} {added} {p} old m k h =
     let there = still a.changed x t in
     let room_r : HasRoom nowhere r = room-then nowhere p made gone (room-removals nowhere suppressed old q a.changed.part h) in
     let MayGoIn : Part → NodeName → Type 0 = λ q y. MayGo x q y × HasNode q x × IsOpen q x in
-    let each : LeadsEach spot MayGoIn (λ y. inserting suppressed y x None) = record {
+    let each : LeadsEach spot MayGoIn (λ y. insert_plan suppressed y x None) = record {
       leads = λ q y j n. leads-inserting suppressed y x None j n.0;
       stays = λ q r y c n. (may-still x q r y c n.0, still c x n.1, open-still c x n.1 n.2);
     } in
     let open_r = open-still c x there (open-still a.changed x t k) in
     let may = all-then (MayGo x q) (MayGoIn r) (λ y n. (may-still x q r y c n, still c x there, open_r)) added m.may in
-    room-then nowhere p (made ++ gone) (in_turn (λ y. inserting suppressed y x None) added r)
+    room-then nowhere p (made ++ gone) (in_turn (λ y. insert_plan suppressed y x None) added r)
     (room-turns each (λ q y j n g. room-inserting suppressed None (record { part = j; room = g })
     (record { go = n.0; open_parent = n.2 })) added r c.part may room_r)
 
@@ -376,7 +376,7 @@ module _ (x : NodeName) (new : DomString) (p : Part) (i : IsPart p) (t : HasNode
       let record_of = child_list x added old None None in
       let told = only_if (not (is_empty old && is_empty new)) (queue_record record_of) in
       let made = map (λ y. make (node y)) added in
-      let put = (steps_of made and_then in_turn (removing suppressed) old and_then in_turn (λ y. inserting suppressed y x None) added) p in
+      let put = (steps_of made and_then in_turn (remove_plan suppressed) old and_then in_turn (λ y. insert_plan suppressed y x None) added) p in
       let g = room-replaced old (replaced-by x node p i t (is_empty new)) k (made_room node (is_empty new)) in
       room-then nowhere p put told
       (either_way (λ steps. HasRoom nowhere (after (after p put) steps)) (not (is_empty old && is_empty new)) (queue_record record_of ∷ []) []

@@ -24,7 +24,8 @@ use Rattle.dom_base.specs.declared.Action.TheVariants.{Log, Stop, StopNow, Cance
 use Rattle.dom_base.specs.declared.NodeName.{NodeName}
 use Rattle.dom_model.specs.Output.{EventLine}
 use Rattle.dom_model.specs.Command.{EventWords}
-use Rattle.dom_model.specs.Listeners.{Listener, Visit, Dispatching, visited, called, hears, is_listener, kept_after, after_action, may_cancel, line_of, begun}
+use Rattle.dom_model.specs.Listeners.{Listener, Visit, Dispatching, after_invoke, after_inner_invoke, hears, is_listener, kept_after, after_action, may_cancel}
+use Rattle.dom_model.specs.Listeners.{line_of, begun}
 use Rattle.dom_model.specs.Dispatch.{world_visit, dispatch_in, visits_of}
 use Rattle.dom_model.specs.Runs.{run_each, Run, quiet}
 use Rattle.dom_model.specs.Paths.{views}
@@ -112,12 +113,13 @@ call e v d l = after_action l.words.action (may_cancel e l.words)
     (record d { listeners = kept_after name_eq l d.listeners; lines = d.lines ++ line_of v l.words ∷ [] })
 
 -- a call, unless the others are stopped
-pub call-of : (e : EventWords) (v : Visit NodeName) (d : Going) (l : Listener NodeName) → d.stopped_now ≡ false → called name_eq e v d l ≡ call e v d l
+pub call-of : (e : EventWords) (v : Visit NodeName) (d : Going) (l : Listener NodeName) → d.stopped_now ≡ false → after_inner_invoke name_eq e v d l
+    ≡ call e v d l
 unfolding call
 call-of e v d l s = cond-false d.stopped_now d (call e v d l) s
 
 -- no call, where they are
-pub no_call : (e : EventWords) (v : Visit NodeName) (d : Going) (l : Listener NodeName) → d.stopped_now ≡ true → called name_eq e v d l ≡ d
+pub no_call : (e : EventWords) (v : Visit NodeName) (d : Going) (l : Listener NodeName) → d.stopped_now ≡ true → after_inner_invoke name_eq e v d l ≡ d
 unfolding call
 no_call e v d l s = cond-true d.stopped_now d (call e v d l) s
 
@@ -143,25 +145,25 @@ logs-call e v d l log h = rw log (all-kept l d.listeners h)
 
 -- also where the others are stopped
 logs-called : (e : EventWords) (v : Visit NodeName) (d : Going) (l : Listener NodeName) → OnlyLogs l → AllByRecursion OnlyLogs d.listeners →
-    AllByRecursion OnlyLogs (called name_eq e v d l).listeners
+    AllByRecursion OnlyLogs (after_inner_invoke name_eq e v d l).listeners
 logs-called e v d l log h =
     let Only : Going → Type 0 = λ c. AllByRecursion OnlyLogs c.listeners in
     by_cases d.stopped_now (λ s. subst Only (sym (no_call e v d l s)) h) (λ s. subst Only (sym (call-of e v d l s)) (logs-call e v d l log h))
 
 -- calls of all that hear
 logs-calls : (e : EventWords) (v : Visit NodeName) (ls : List (Listener NodeName)) (d : Going) → AllByRecursion OnlyLogs ls →
-    AllByRecursion OnlyLogs d.listeners → AllByRecursion OnlyLogs (fold (called name_eq e v) d ls).listeners
+    AllByRecursion OnlyLogs d.listeners → AllByRecursion OnlyLogs (fold (after_inner_invoke name_eq e v) d ls).listeners
 logs-calls e v [] d logs h = h
-logs-calls e v (l ∷ ls) d logs h = logs-calls e v ls (called name_eq e v d l) logs.1 (logs-called e v d l logs.0 h)
+logs-calls e v (l ∷ ls) d logs h = logs-calls e v ls (after_inner_invoke name_eq e v d l) logs.1 (logs-called e v d l logs.0 h)
 
 -- a visit
 logs-visited : (e : EventWords) (v : Visit NodeName) (d : Going) → AllByRecursion OnlyLogs d.listeners →
-    AllByRecursion OnlyLogs (visited name_eq e d v).listeners
+    AllByRecursion OnlyLogs (after_invoke name_eq e d v).listeners
 logs-visited e v d h =
     let Only : Going → Type 0 = λ c. AllByRecursion OnlyLogs c.listeners in
     let hearing = filter (hears name_eq e v) d.listeners in
-    by_cases d.stopped (λ s. subst Only (sym (cond-true d.stopped d (fold (called name_eq e v) d hearing) s)) h)
-    (λ s. subst Only (sym (cond-false d.stopped d (fold (called name_eq e v) d hearing) s))
+    by_cases d.stopped (λ s. subst Only (sym (cond-true d.stopped d (fold (after_inner_invoke name_eq e v) d hearing) s)) h)
+    (λ s. subst Only (sym (cond-false d.stopped d (fold (after_inner_invoke name_eq e v) d hearing) s))
     (logs-calls e v hearing d (all-filter OnlyLogs (hears name_eq e v) d.listeners h) h))
 
 -- The world in a dispatch, as the page sees it: its own listeners, the flags and its lines.
@@ -177,7 +179,7 @@ pub part_of-visit : (e : EventWords) (s : InWorld) (v : Visit NodeName) (o : Own
     part_of (world_visit e s v).0 o ≡ with_listeners (part_of s.0 o) (part_of (world_visit e s v).0 o).listeners
 part_of-visit e s v o =
     let p = part_of s.0 v.current.owner in
-    let heard = visited name_eq e (record s.1 { listeners = p.listeners }) v in
+    let heard = after_invoke name_eq e (record s.1 { listeners = p.listeners }) v in
     by_cases (owner_eq v.current.owner o)
     (λ h. let same = owner_eq-true v.current.owner o h in
     let read = part_of-with_part s.0 (with_listeners p heard.listeners) o (owner-part_of s.0 v.current.owner ∙ same) in
@@ -190,7 +192,7 @@ part_of-visit e s v o =
 pub logs-visit : (e : EventWords) (s : InWorld) (v : Visit NodeName) → ComponentsOnlyLog s.0 → ComponentsOnlyLog (world_visit e s v).0
 logs-visit e s v logs o f =
     let p = part_of s.0 v.current.owner in
-    let heard = visited name_eq e (record s.1 { listeners = p.listeners }) v in
+    let heard = after_invoke name_eq e (record s.1 { listeners = p.listeners }) v in
     by_cases (owner_eq v.current.owner o)
     (λ h. let same = owner_eq-true v.current.owner o h in
     let read = part_of-with_part s.0 (with_listeners p heard.listeners) o (owner-part_of s.0 v.current.owner ∙ same) in

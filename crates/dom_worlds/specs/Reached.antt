@@ -9,7 +9,7 @@ use Rattle.dom_base.specs.declared.Kind.TheVariants.{Shadow}
 use Rattle.dom_model.specs.Tree.{has_node}
 use Rattle.dom_model.specs.Command.{Line}
 use Rattle.dom_model.specs.World.{World, part_of, is_there, host_of, component_at, kind_at, parent_at, shadow_root_of}
-use Rattle.dom_model.specs.Slots.{assigned}
+use Rattle.dom_model.specs.Slots.{assigned_nodes}
 use Rattle.dom_model.specs.Turns.{ending_other_turn}
 use Rattle.dom_model.specs.DocumentMachine.{first_world, step, run_lines, finish}
 use Rattle.dom_model.specs.Trace.{line_may_stop, no_component_stops}
@@ -84,4 +84,5 @@ HostsAreTheirs = (only_log : Bool) (w : World) → IsReached only_log w → (o :
 -- The nodes that are assigned to a slot are of the owner whose host the slot's root has.
 abbrev pub AssignedAreSiblings : Type 0
 AssignedAreSiblings =
-    (only_log : Bool) (w : World) → IsReached only_log w → (s host : NodeName) → host_of w s.owner ≡ Some host → AllByRecursion (IsOf host.owner) (assigned w s)
+    (only_log : Bool) (w : World) → IsReached only_log w → (s host : NodeName) → host_of w s.owner ≡ Some host → AllByRecursion (IsOf host.owner)
+    (assigned_nodes w s)

@@ -66,7 +66,7 @@ fn change_attribute(
     ensures { OnOk result (parts.new ≡ planned (owner_in parts.old node) (setting_attribute (name_in parts.old node) name.now value.items) parts.old) }
 {
     parts.laws();
-    parts.tell_attribute(node, name)?;
+    parts.queue_attribute_record(node, name)?;
     parts.set_attribute(node, name, value)
 }
 
@@ -79,7 +79,7 @@ fn unset_attribute(parts: &mut Parts, node: Key, name: &str) -> Result<(), Alloc
         return Ok(());
     }
     parts.laws();
-    parts.tell_attribute(node, name)?;
+    parts.queue_attribute_record(node, name)?;
     parts.unset_attribute(node, name)
 }
 

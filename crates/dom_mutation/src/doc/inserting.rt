@@ -3,9 +3,9 @@ ghost use Rattle.std.specs.Prelude.{◌≡◌, false, OnOk, ◌↔◌, Some};
 ghost use Rattle.std.specs.Option.{option_map, ForSome};
 ghost use Rattle.dom_model.specs.Names.{name_eq};
 ghost use Rattle.dom_model.specs.Tree.{kind_of, has_data, is_shadow};
-ghost use Rattle.dom_model.specs.Changes.{pre_inserting, reference_for, inserting, observed};
+ghost use Rattle.dom_model.specs.Changes.{pre_insert_plan, reference_child, insert_plan, observed};
 ghost use Rattle.dom_base.specs.declared.Refusal.{Refusal as RefusalOf};
-ghost use Rattle.dom_model.specs.Validity.{insertion_refusal};
+ghost use Rattle.dom_model.specs.Validity.{pre_insert_refusal};
 ghost use Rattle.dom_tree.specs.Forest.{err_of};
 ghost use Rattle.dom_mutation.specs.Doc.{made, planned, name_in, owner_in, trees_in, MayMove, IsChild};
 ghost use Rattle.dom_parts.specs.Doc.{HoldsNode};
@@ -30,12 +30,12 @@ impl Doc {
         requires child_owner { ForSome child (λ c. owner_in self.old c ≡ owner_in self.old parent) }
         ensures names { OnOk result (self.new.names ≡ self.old.names) }
         ensures world { OnOk result (self.new.world ≡ made (owner_in self.old parent)
-            (pre_inserting (name_in self.old node) (name_in self.old parent) (option_map (name_in self.old) child)) self.old.world) }
+            (pre_insert_plan (name_in self.old node) (name_in self.old parent) (option_map (name_in self.old) child)) self.old.world) }
 
         // A refusal is the Standard's, and changes nothing; nothing else but memory stops an insertion.
         ensures refused { (r : RefusalOf) →
             (result ≡ Err (Fault.Refused r)) ↔
-            (insertion_refusal (trees_in self.old parent) (name_in self.old parent) (name_in self.old node)
+            (pre_insert_refusal (trees_in self.old parent) (name_in self.old parent) (name_in self.old node)
             (option_map (name_in self.old) child) ≡ Some r) }
         ensures unchanged { (r : RefusalOf) → result ≡ Err (Fault.Refused r) → self.new ≡ self.old }
     {
@@ -64,7 +64,7 @@ impl Doc {
         requires open { has_data (kind_of (trees_in self.old parent) (name_in self.old parent)) ≡ false }
         requires no_shadow { is_shadow (kind_of (trees_in self.old node) (name_in self.old node)) ≡ false }
         ensures state { OnOk result (self.new ≡ planned (owner_in self.old parent)
-            (inserting observed (name_in self.old node) (name_in self.old parent) (option_map (name_in self.old) child)) self.old) }
+            (insert_plan observed (name_in self.old node) (name_in self.old parent) (option_map (name_in self.old) child)) self.old) }
     {
         self.parts.laws();
         let how = SuppressObserversFlag::Observed;
@@ -82,7 +82,7 @@ impl Doc {
         requires child_is_node { ForSome child (HoldsNode self.now) }
         requires node_owner { owner_in self.now node ≡ owner_in self.now parent }
         requires child_owner { ForSome child (λ c. owner_in self.now c ≡ owner_in self.now parent) }
-        ensures { err_of result ≡ insertion_refusal (trees_in self.now parent) (name_in self.now parent) (name_in self.now node)
+        ensures { err_of result ≡ pre_insert_refusal (trees_in self.now parent) (name_in self.now parent) (name_in self.now node)
             (option_map (name_in self.now) child) }
     {
         self.parts.check_insert(parent, node, child)
@@ -94,7 +94,7 @@ impl Doc {
         requires parent_is_node { HoldsNode self.now parent }
         requires node_is_node { HoldsNode self.now node }
         requires child_is_child { ForSome child (IsChild self.now parent) }
-        ensures value { option_map (name_in self.now) result ≡ reference_for (trees_in self.now parent) (name_in self.now node)
+        ensures value { option_map (name_in self.now) result ≡ reference_child (trees_in self.now parent) (name_in self.now node)
             (option_map (name_in self.now) child) }
         ensures child { ForSome result (IsChild self.now parent) }
         ensures apart { ForSome result (λ b. name_eq (name_in self.now node) (name_in self.now b) ≡ false) }

@@ -3,7 +3,7 @@ ghost use Rattle.std.specs.Prelude.{◌≡◌, ◌↔◌, ◌⊎◌, true, Some,
 ghost use Rattle.dom_base.specs.declared.Refusal.{Refusal as RefusalOf};
 ghost use Rattle.dom_base.specs.declared.Refusal.TheVariants.{Hierarchy, NotSupported};
 ghost use Rattle.dom_model.specs.Tree.{kind_of, is_document};
-ghost use Rattle.dom_model.specs.Changes.{removing, adopting, observed};
+ghost use Rattle.dom_model.specs.Changes.{remove_plan, adopt_plan, observed};
 ghost use Rattle.dom_mutation.specs.Doc.{made, name_in, owner_in, trees_in, adoption_refusal};
 ghost use Rattle.dom_parts.specs.Doc.{HoldsNode};
 
@@ -20,7 +20,7 @@ impl Doc {
     pub fn remove(&mut self, node: Key) -> Result<(), AllocError>
         requires { HoldsNode self.old node }
         ensures names { OnOk result (self.new.names ≡ self.old.names) }
-        ensures world { OnOk result (self.new.world ≡ made (owner_in self.old node) (removing observed (name_in self.old node)) self.old.world) }
+        ensures world { OnOk result (self.new.world ≡ made (owner_in self.old node) (remove_plan observed (name_in self.old node)) self.old.world) }
     {
         self.parts.laws();
         match removing(&mut self.parts, SuppressObserversFlag::Observed, node) {
@@ -42,7 +42,7 @@ impl Doc {
         ensures other { IfErr result (λ fault. (fault ≡ Fault.Refused NotSupported) ⊎ ((fault ≡ Fault.Refused Hierarchy) ⊎ (fault ≡ Fault.Memory))) }
         ensures unchanged { (r : RefusalOf) → result ≡ Err (Fault.Refused r) → self.new ≡ self.old }
         ensures names { OnOk result (self.new.names ≡ self.old.names) }
-        ensures world { OnOk result (self.new.world ≡ made (owner_in self.old node) (adopting (name_in self.old document) (name_in self.old node))
+        ensures world { OnOk result (self.new.world ≡ made (owner_in self.old node) (adopt_plan (name_in self.old document) (name_in self.old node))
             self.old.world) }
     {
         match self.kind(node) {

@@ -1,8 +1,8 @@
 //! Replacement (DOM Standard, concept: replace).
 ghost use Rattle.std.specs.Prelude.{◌≡◌, ◌↔◌, OnOk, Some};
 ghost use Rattle.dom_base.specs.declared.Refusal.{Refusal as RefusalOf};
-ghost use Rattle.dom_model.specs.Changes.{replacing};
-ghost use Rattle.dom_model.specs.Validity.{replacement_refusal};
+ghost use Rattle.dom_model.specs.Changes.{replace_plan};
+ghost use Rattle.dom_model.specs.Validity.{replace_refusal};
 ghost use Rattle.dom_model.specs.World.{part_of};
 ghost use Rattle.dom_mutation.specs.Doc.{made, name_in, owner_in, trees_in};
 ghost use Rattle.dom_parts.specs.Doc.{HoldsNode};
@@ -25,12 +25,12 @@ impl Doc {
         requires child_owner { owner_in self.old child ≡ owner_in self.old parent }
         ensures names { OnOk result (self.new.names ≡ self.old.names) }
         ensures world { OnOk result (self.new.world ≡ made (owner_in self.old parent)
-            (replacing (name_in self.old parent) (name_in self.old node) (name_in self.old child)) self.old.world) }
+            (replace_plan (name_in self.old parent) (name_in self.old node) (name_in self.old child)) self.old.world) }
 
         // A refusal is the Standard's, and changes nothing; nothing else but memory stops a replacement.
         ensures refused { (r : RefusalOf) →
             (result ≡ Err (Fault.Refused r)) ↔
-            (replacement_refusal (trees_in self.old parent) (name_in self.old parent) (name_in self.old node) (name_in self.old child) ≡ Some r) }
+            (replace_refusal (trees_in self.old parent) (name_in self.old parent) (name_in self.old node) (name_in self.old child) ≡ Some r) }
         ensures unchanged { (r : RefusalOf) → result ≡ Err (Fault.Refused r) → self.new ≡ self.old }
     {
         if let Err(refusal) = self.parts.check_replace(parent, node, child) {

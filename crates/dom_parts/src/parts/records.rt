@@ -16,8 +16,8 @@ use node_arena::Key;
 use std::alloc::AllocError;
 
 impl Parts {
-    /// Observers are told that a node's children change.
-    pub fn tell_children(
+    /// Queues a tree mutation record: observers are told that a node's children change (DOM Standard, queue a tree mutation record).
+    pub fn queue_tree_record(
         &mut self,
         target: Key,
         added: &[Key],
@@ -68,8 +68,8 @@ impl Parts {
         })
     }
 
-    /// Observers are told that an attribute changes, before it does.
-    pub fn tell_attribute(&mut self, node: Key, name: &str) -> Result<(), AllocError>
+    /// Queues a mutation record of an attribute, before it changes (DOM Standard, queue a mutation record).
+    pub fn queue_attribute_record(&mut self, node: Key, name: &str) -> Result<(), AllocError>
         requires { HoldsNode self.old node }
         ensures { OnOk result (self.new ≡ stepped (owner_in self.old node)
             (queue_record (attributes (name_in self.old node) name.now
@@ -87,8 +87,8 @@ impl Parts {
         })
     }
 
-    /// Observers are told that data change, before they do.
-    pub fn tell_data(&mut self, node: Key) -> Result<(), AllocError>
+    /// Queues a mutation record of data, before they change (DOM Standard, queue a mutation record).
+    pub fn queue_data_record(&mut self, node: Key) -> Result<(), AllocError>
         requires { HoldsNode self.old node }
         ensures { OnOk result (self.new ≡ stepped (owner_in self.old node)
             (queue_record (character_data (name_in self.old node) (Some (node_in (trees_in self.old node) (name_in self.old node)).text))) self.old) }

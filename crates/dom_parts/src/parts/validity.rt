@@ -1,7 +1,7 @@
 //! The tests before an insertion or a replacement (DOM Standard, ensure pre-insert validity; concept: replace).
 ghost use Rattle.std.specs.Prelude.{◌≡◌};
 ghost use Rattle.std.specs.Option.{option_map, ForSome};
-ghost use Rattle.dom_model.specs.Validity.{insertion_refusal, replacement_refusal};
+ghost use Rattle.dom_model.specs.Validity.{pre_insert_refusal, replace_refusal};
 ghost use Rattle.dom_tree.specs.Forest.{err_of};
 ghost use Rattle.dom_parts.specs.Doc.{name_in, owner_in, trees_in, HoldsNode};
 
@@ -18,7 +18,7 @@ impl Parts {
         requires child_is_node { ForSome child (HoldsNode self.now) }
         requires node_owner { owner_in self.now node ≡ owner_in self.now parent }
         requires child_owner { ForSome child (λ c. owner_in self.now c ≡ owner_in self.now parent) }
-        ensures { err_of result ≡ insertion_refusal (trees_in self.now parent) (name_in self.now parent) (name_in self.now node)
+        ensures { err_of result ≡ pre_insert_refusal (trees_in self.now parent) (name_in self.now parent) (name_in self.now node)
             (option_map (name_in self.now) child) }
     {
         self.trees.forest.check_insert(parent, node, child)
@@ -31,7 +31,7 @@ impl Parts {
         requires child_is_node { HoldsNode self.now child }
         requires node_owner { owner_in self.now node ≡ owner_in self.now parent }
         requires child_owner { owner_in self.now child ≡ owner_in self.now parent }
-        ensures { err_of result ≡ replacement_refusal (trees_in self.now parent) (name_in self.now parent) (name_in self.now node) (name_in self.now child) }
+        ensures { err_of result ≡ replace_refusal (trees_in self.now parent) (name_in self.now parent) (name_in self.now node) (name_in self.now child) }
     {
         self.trees.forest.check_replace(parent, node, child)
     }

@@ -42,7 +42,7 @@ impl Forest {
         self.arena.last(key)
     }
 
-    /// The sibling just after a node, if there is one (DOM Standard, concept: next sibling).
+    /// The next sibling of a node, if it has one (DOM Standard, concept: next sibling).
     pub fn next(&self, key: Key) -> Option<Key>
         requires { IsNode self.now key }
         ensures value { option_map (name_of self.now) result ≡ next_sibling self.now.trees (name_of self.now key) }
@@ -52,7 +52,7 @@ impl Forest {
         self.arena.next(key)
     }
 
-    /// The sibling just before a node, if there is one (DOM Standard, concept: previous sibling).
+    /// The previous sibling of a node, if it has one (DOM Standard, concept: previous sibling).
     pub fn prev(&self, key: Key) -> Option<Key>
         requires { IsNode self.now key }
         ensures value { option_map (name_of self.now) result ≡ previous_sibling self.now.trees (name_of self.now key) }

@@ -2,7 +2,7 @@
 ghost use Rattle.std.specs.Prelude.{◌≡◌, ◌&&◌};
 ghost use Rattle.std.specs.Option.{option_map, ForSome};
 ghost use Rattle.dom_model.specs.Tree.{kind_of, is_element, is_text, is_document, is_fragment, child_nodes};
-ghost use Rattle.dom_model.specs.Validity.{insertion_refusal, replacement_refusal, first_refusal, placing_tests, without_given, element_count};
+ghost use Rattle.dom_model.specs.Validity.{pre_insert_refusal, replace_refusal, first_refusal, placing_tests, without_given, element_count};
 ghost use Rattle.dom_model.specs.Validity.{has_text, breaks_document, may_be_parent, may_be_inserted};
 ghost use Rattle.dom_tree.specs.Forest.{err_of, IsNode, name_of};
 ghost use Rattle.dom_tree.specs.Forest.{name_at};
@@ -12,13 +12,13 @@ use dom_base::{Kind, Refusal};
 use node_arena::Key;
 
 impl Forest {
-    /// Tests whether a node may be put among the children of a parent, before the child given or last: `Hierarchy` or
-    /// `NotFound` where not (DOM Standard, concept: ensure pre-insert validity; own rule for a shadow root).
+    /// Ensures pre-insert validity: whether a node may be put among the children of a parent, before the child given or last;
+    /// `Hierarchy` or `NotFound` where not (DOM Standard, concept: ensure pre-insert validity; own rule for a shadow root).
     pub fn check_insert(&self, parent: Key, node: Key, child: Option<Key>) -> Result<(), Refusal>
         requires parent_is_node { IsNode self.now parent }
         requires node_is_node { IsNode self.now node }
         requires child_is_node { ForSome child (IsNode self.now) }
-        ensures { err_of result ≡ insertion_refusal self.now.trees (name_of self.now parent) (name_of self.now node)
+        ensures { err_of result ≡ pre_insert_refusal self.now.trees (name_of self.now parent) (name_of self.now node)
             (option_map (name_of self.now) child) }
     {
         let is_lost = match child {
@@ -34,7 +34,7 @@ impl Forest {
         requires parent_is_node { IsNode self.now parent }
         requires node_is_node { IsNode self.now node }
         requires child_is_node { IsNode self.now child }
-        ensures { err_of result ≡ replacement_refusal self.now.trees (name_of self.now parent) (name_of self.now node)
+        ensures { err_of result ≡ replace_refusal self.now.trees (name_of self.now parent) (name_of self.now node)
             (name_of self.now child) }
     {
         let is_lost = self.arena.parent(child) != Some(parent);

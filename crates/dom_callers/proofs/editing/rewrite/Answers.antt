@@ -1,6 +1,6 @@
 use Rattle.std.proofs.Common.{sym, ◌∙◌}
 use Rattle.dom_callers.proofs.InHand.{node-still, text-still, range-still, still-same}
-use Rattle.dom_model.specs.Changes.{replacing}
+use Rattle.dom_model.specs.Changes.{replace_plan}
 use Rattle.dom_mutation.specs.Doc.{name_in, owner_in}
 use Rattle.dom_mutation.specs.Still.{HasNodes, HasStillAll}
 use Rattle.dom_callers.proofs.editing.rewrite.Goals as goal
@@ -108,7 +108,7 @@ returns-clause-still c =
     let h_nodes : HasNodes h = record { parts = c.laws.ensures.parts; stand = c.laws.ensures.stand } in
     let i_nodes : HasNodes i = record { parts = c.laws-2.ensures.parts; stand = c.laws-2.ensures.stand } in
     let replaced : HasStillAll h i = still-same c.law_still.ensures.plans h i (owner_in h c.args.paragraph)
-    (replacing (name_in h c.args.paragraph) (name_in h c.in_ok-written.written.0) (name_in h c.in_ok-written.written.1))
+    (replace_plan (name_in h c.args.paragraph) (name_in h c.in_ok-written.written.0) (name_in h c.in_ok-written.written.1))
     record { before = h_nodes; after = i_nodes; names = c.in_ok-replace.ensures.names; world = c.in_ok-replace.ensures.world } in
     c.law_still.ensures.next d h i all replaced
 
@@ -125,7 +125,7 @@ returns-clause-text c =
     let h_nodes : HasNodes h = record { parts = c.laws.ensures.parts; stand = c.laws.ensures.stand } in
     let i_nodes : HasNodes i = record { parts = c.laws-2.ensures.parts; stand = c.laws-2.ensures.stand } in
     let replaced : HasStillAll h i = still-same c.law_still.ensures.plans h i (owner_in h c.args.paragraph)
-    (replacing (name_in h c.args.paragraph) (name_in h c.in_ok-written.written.0) (name_in h c.in_ok-written.written.1))
+    (replace_plan (name_in h c.args.paragraph) (name_in h c.in_ok-written.written.0) (name_in h c.in_ok-written.written.1))
     record { before = h_nodes; after = i_nodes; names = c.in_ok-replace.ensures.names; world = c.in_ok-replace.ensures.world } in
     text-still h i o c.in_ok-written.written.0 replaced (text-still e h o c.in_ok-written.written.0 to_h c.in_ok-written.ensures.text)
 
@@ -138,7 +138,7 @@ returns-clause-range c =
     let h_nodes : HasNodes h = record { parts = c.laws.ensures.parts; stand = c.laws.ensures.stand } in
     let i_nodes : HasNodes i = record { parts = c.laws-2.ensures.parts; stand = c.laws-2.ensures.stand } in
     let replaced : HasStillAll h i = still-same c.law_still.ensures.plans h i (owner_in h c.args.paragraph)
-    (replacing (name_in h c.args.paragraph) (name_in h c.in_ok-written.written.0) (name_in h c.in_ok-written.written.1))
+    (replace_plan (name_in h c.args.paragraph) (name_in h c.in_ok-written.written.0) (name_in h c.in_ok-written.written.1))
     record { before = h_nodes; after = i_nodes; names = c.in_ok-replace.ensures.names; world = c.in_ok-replace.ensures.world } in
     range-still h i o c.in_ok-range.range replaced
     (range-still g h o c.in_ok-range.range c.in_ok-tidy.ensures.still c.in_ok-take_and_put_back.ensures.range)

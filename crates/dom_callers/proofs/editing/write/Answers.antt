@@ -1,7 +1,7 @@
 use Rattle.std.proofs.Common.{None, drop, ap, refl, ◌∙◌}
 use Rattle.dom_callers.proofs.InHand.{text-still, text-new, still-same}
 use Rattle.dom_callers.specs.Editing.{IsTextOf}
-use Rattle.dom_model.specs.Changes.{doing, pre_inserting}
+use Rattle.dom_model.specs.Changes.{doing, pre_insert_plan}
 use Rattle.dom_model.specs.Part.{next_name}
 use Rattle.dom_model.specs.Steps.{make}
 use Rattle.dom_model.specs.TextChanges.{splitting, new_text_node}
@@ -24,7 +24,7 @@ split-requires-clause-text c =
     let e_nodes : HasNodes e = record { parts = c.laws-2.ensures.parts; stand = c.laws-2.ensures.stand } in
     let f_nodes : HasNodes f = record { parts = c.laws-3.ensures.parts; stand = c.laws-3.ensures.stand } in
     let inserted : HasStillAll e f = still-same c.law_still.ensures.plans e f (owner_in e c.args.paragraph)
-    (pre_inserting (name_in e text) (name_in e c.args.paragraph) None)
+    (pre_insert_plan (name_in e text) (name_in e c.args.paragraph) None)
     record { before = e_nodes; after = f_nodes; names = c.in_ok-insert.ensures.names; world = c.in_ok-insert.ensures.world } in
     let new : IsTextOf e o text = text-new e c.in_ok-text.ensures.key
     (c.law_new_node.ensures.node d e _ _ c.in_ok-text.ensures.names) (c.law_new_node.ensures.owner d e o _ c.in_ok-text.ensures.names)
@@ -48,7 +48,7 @@ returns-clause-still c =
     let g_nodes : HasNodes g = record { parts = c.laws-4.ensures.parts; stand = c.laws-4.ensures.stand } in
     let added : HasStillAll d e = c.law_still.ensures.plans d e o (doing (make n)) _ d_nodes e_nodes c.in_ok-text.ensures.names c.in_ok-text.ensures.world in
     let inserted : HasStillAll e f = still-same c.law_still.ensures.plans e f (owner_in e c.args.paragraph)
-    (pre_inserting (name_in e text) (name_in e c.args.paragraph) None)
+    (pre_insert_plan (name_in e text) (name_in e c.args.paragraph) None)
     record { before = e_nodes; after = f_nodes; names = c.in_ok-insert.ensures.names; world = c.in_ok-insert.ensures.world } in
     let split : HasStillAll f g = c.law_still.ensures.plans f g (owner_in f text) (splitting (name_in f text) 1) _ f_nodes g_nodes
     c.in_ok-tail.ensures.names c.in_ok-tail.ensures.world in
@@ -68,7 +68,7 @@ returns-clause-text c =
     let f_nodes : HasNodes f = record { parts = c.laws-3.ensures.parts; stand = c.laws-3.ensures.stand } in
     let g_nodes : HasNodes g = record { parts = c.laws-4.ensures.parts; stand = c.laws-4.ensures.stand } in
     let inserted : HasStillAll e f = still-same c.law_still.ensures.plans e f (owner_in e c.args.paragraph)
-    (pre_inserting (name_in e text) (name_in e c.args.paragraph) None)
+    (pre_insert_plan (name_in e text) (name_in e c.args.paragraph) None)
     record { before = e_nodes; after = f_nodes; names = c.in_ok-insert.ensures.names; world = c.in_ok-insert.ensures.world } in
     let split : HasStillAll f g = c.law_still.ensures.plans f g (owner_in f text) (splitting (name_in f text) 1) _ f_nodes g_nodes
     c.in_ok-tail.ensures.names c.in_ok-tail.ensures.world in
@@ -93,7 +93,7 @@ returns-clause-tail c =
     let f_nodes : HasNodes f = record { parts = c.laws-3.ensures.parts; stand = c.laws-3.ensures.stand } in
     let g_nodes : HasNodes g = record { parts = c.laws-4.ensures.parts; stand = c.laws-4.ensures.stand } in
     let inserted : HasStillAll e f = still-same c.law_still.ensures.plans e f (owner_in e c.args.paragraph)
-    (pre_inserting (name_in e text) (name_in e c.args.paragraph) None)
+    (pre_insert_plan (name_in e text) (name_in e c.args.paragraph) None)
     record { before = e_nodes; after = f_nodes; names = c.in_ok-insert.ensures.names; world = c.in_ok-insert.ensures.world } in
     let new : IsTextOf e o text = text-new e c.in_ok-text.ensures.key
     (c.law_new_node.ensures.node d e _ _ c.in_ok-text.ensures.names) (c.law_new_node.ensures.owner d e o _ c.in_ok-text.ensures.names)

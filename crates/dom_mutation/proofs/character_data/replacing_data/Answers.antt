@@ -41,17 +41,17 @@ module _ (d e : DocState) (node : ℕ) (c : Change NodeName) (alone : IsAlone d.
 pub change_data-requires-clause-may_come : goal.change_data-requires-clause-may_come
 change_data-requires-clause-may_come c =
     let d = c.args.parts.now in
-    may_then d c.tell_data.new.self c.args.node
+    may_then d c.queue_data_record.new.self c.args.node
     (character_data (name_in d c.args.node) (Some (node_in (trees_in d c.args.node) (name_in d c.args.node)).text))
-    (c.laws.ensures.alone c.args.node c.requires.node_is_node) c.in_ok-tell_data.ensures
+    (c.laws.ensures.alone c.args.node c.requires.node_is_node) c.in_ok-queue_data_record.ensures
     (c.laws.ensures.parts (owner_in d c.args.node)) c.args.data.items c.requires.may_come
 
 pub change_data-requires-clause-there : goal.change_data-requires-clause-there
 change_data-requires-clause-there c =
     let d = c.args.parts.now in
-    let text = text_then d c.tell_data.new.self c.args.node
+    let text = text_then d c.queue_data_record.new.self c.args.node
     (character_data (name_in d c.args.node) (Some (node_in (trees_in d c.args.node) (name_in d c.args.node)).text))
-    (c.laws.ensures.alone c.args.node c.requires.node_is_node) c.in_ok-tell_data.ensures in
+    (c.laws.ensures.alone c.args.node c.requires.node_is_node) c.in_ok-queue_data_record.ensures in
     let same = ap (λ n. length n.text) text in
     let units = ap (λ (s : DomString). length s) c.text.ensures in
     let left = c.saturating_sub-left.ensures in

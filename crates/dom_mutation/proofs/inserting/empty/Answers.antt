@@ -4,7 +4,7 @@ use Rattle.dom_model.specs.Tree.{inclusive_ancestors}
 use Rattle.dom_model.specs.Part.{Part}
 use Rattle.dom_model.specs.Output.{child_list}
 use Rattle.dom_model.specs.Steps.{queue_record}
-use Rattle.dom_model.specs.Changes.{in_turn, suppressed, removing}
+use Rattle.dom_model.specs.Changes.{in_turn, suppressed, remove_plan}
 use Rattle.dom_parts.specs.Doc.{DocState, name_in, owner_in, trees_in}
 use Rattle.dom_parts.specs.Hosting.{IsAlone}
 use Rattle.dom_parts.proofs.Made.{alone_made}
@@ -18,10 +18,10 @@ returns-clause-paths c =
     let o = owner_in d c.args.fragment in
     let ys = map (name_in d) c.args.children.now in
     let alone = subst (λ (s : DocState). IsAlone s.world (owner_in s c.args.fragment)) (sym c.in_ok-take_each.ensures.state)
-    (alone_made o (in_turn (removing suppressed) ys) d.world (c.laws.ensures.alone c.args.fragment c.requires.fragment_is_node)
-    (plans_each o (removing suppressed) (plans_removing o suppressed) ys)) in
-    on_ok_weaker c.tell_children.result (λ told y off. ap (λ (s : DocState). inclusive_ancestors (trees_in s c.args.fragment) y) told
+    (alone_made o (in_turn (remove_plan suppressed) ys) d.world (c.laws.ensures.alone c.args.fragment c.requires.fragment_is_node)
+    (plans_each o (remove_plan suppressed) (plans_removing o suppressed) ys)) in
+    on_ok_weaker c.queue_tree_record.result (λ told y off. ap (λ (s : DocState). inclusive_ancestors (trees_in s c.args.fragment) y) told
     ∙ ap (λ (p : Part). inclusive_ancestors p.trees y)
     (alone.steps (queue_record (child_list (name_in e c.args.fragment) [] (map (name_in e) c.args.children.now) None None) ∷ []) (tt, tt))
     ∙ c.in_ok-take_each.ensures.paths y off)
-    c.tell_children.ensures
+    c.queue_tree_record.ensures

@@ -2,7 +2,7 @@ use Rattle.std.proofs.Common.{◌<◌, ℕ, List, length, map, subst, sym, ap, �
 use Rattle.std.proofs.lemmas.Result.{on_ok_weaker}
 use Rattle.dom_base.specs.declared.NodeName.{NodeName}
 use Rattle.dom_worlds.proofs.RangeLemmas.{text-data}
-use Rattle.dom_model.specs.Changes.{Plan, ◌and_then◌, in_turn, steps_of, observed, removing}
+use Rattle.dom_model.specs.Changes.{Plan, ◌and_then◌, in_turn, steps_of, observed, remove_plan}
 use Rattle.dom_model.specs.Names.{DomString}
 use Rattle.dom_model.specs.TextChanges.{replacing_data, joins}
 use Rattle.dom_model.specs.Tree.{kind_of, length_of}
@@ -66,16 +66,16 @@ returns c =
     let alone = c.laws.ensures.alone node c.requires.node_is_node in
     let carry : DocState → DocState = λ s. planned (owner_in s node)
     (steps_of (joins ts (name_in s node) (name_in s c.args.parent) size (map (name_in s) ks))) s in
-    let leave : DocState → DocState = λ s. planned (owner_in s node) (in_turn (removing observed) (map (name_in s) ks)) s in
+    let leave : DocState → DocState = λ s. planned (owner_in s node) (in_turn (remove_plan observed) (map (name_in s) ks)) s in
     let put : ℕ → DomString → Plan = λ n u. replacing_data x n 0 u and_then steps_of (joins ts x q n ys) in
-    let all : ℕ → DomString → DocState = λ n u. planned o (put n u and_then in_turn (removing observed) ys) d in
+    let all : ℕ → DomString → DocState = λ n u. planned o (put n u and_then in_turn (remove_plan observed) ys) d in
     let e = c.replacing_data.new.parts in
     on_ok_weaker c.take_each.result
     (λ taken. taken
     ∙ ap leave (c.join_each.ensures ∙ ap (λ steps. planned (owner_in e node) (steps_of steps) e) (joined (goal.at.returns c).In_ok-replacing_data).exact)
     ∙ ap (λ s. leave (carry s)) c.in_ok-replacing_data.ensures
-    ∙ ap (planned o (in_turn (removing observed) ys))
+    ∙ ap (planned o (in_turn (remove_plan observed) ys))
     (planned_then o (replacing_data x size 0 units) (steps_of (joins ts x q size ys)) d alone (plans_data o x size 0 units))
-    ∙ planned_then o (put size units) (in_turn (removing observed) ys) d alone
+    ∙ planned_then o (put size units) (in_turn (remove_plan observed) ys) d alone
     (plans_then o (replacing_data x size 0 units) (steps_of (joins ts x q size ys)) (plans_data o x size 0 units) (λ p own. plans_joins o ts x q size ys))
     ∙ ap (λ n. all n units) c.length-size.ensures ∙ ap (all (length_of ts x)) c.in_ok-units.ensures) c.take_each.ensures.state

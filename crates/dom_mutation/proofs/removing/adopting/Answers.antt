@@ -1,6 +1,6 @@
 use Rattle.std.proofs.Common.{ap, ◌∙◌}
 use Rattle.std.proofs.lemmas.Result.{on_ok_weaker}
-use Rattle.dom_model.specs.Changes.{removing, changing_document, observed}
+use Rattle.dom_model.specs.Changes.{remove_plan, changing_document, observed}
 use Rattle.dom_parts.specs.Doc.{name_in, owner_in, planned}
 use Rattle.dom_parts.proofs.Made.{planned_then}
 use Rattle.dom_parts.proofs.OwnPlans.{plans_removing}
@@ -11,7 +11,7 @@ returns c =
     let d = c.args.parts.now in
     on_ok_weaker c.change_document.result (λ changed. changed
     ∙ ap (λ e. planned (owner_in e c.args.node) (changing_document (name_in e c.args.document) (name_in e c.args.node)) e) c.in_ok-removing.ensures
-    ∙ planned_then (owner_in d c.args.node) (removing observed (name_in d c.args.node))
+    ∙ planned_then (owner_in d c.args.node) (remove_plan observed (name_in d c.args.node))
     (changing_document (name_in d c.args.document) (name_in d c.args.node)) d (c.laws.ensures.alone c.args.node c.requires.node_is_node)
     (plans_removing (owner_in d c.args.node) observed (name_in d c.args.node)))
     c.change_document.ensures

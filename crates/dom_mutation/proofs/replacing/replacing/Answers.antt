@@ -1,7 +1,7 @@
 use Rattle.std.proofs.Common.{◌≡◌, ◌∷◌, [], ℕ, List, Option, map, option_map, sym, ap, subst, ◌∙◌}
 use Rattle.std.proofs.lemmas.Result.{on_ok_weaker}
 use Rattle.dom_base.specs.declared.NodeName.{NodeName}
-use Rattle.dom_model.specs.Changes.{Plan, ◌and_then◌, doing, suppressed, removing, inserting, placed_nodes, reference_for}
+use Rattle.dom_model.specs.Changes.{Plan, ◌and_then◌, doing, suppressed, remove_plan, insert_plan, placed_nodes, reference_child}
 use Rattle.dom_model.specs.Output.{child_list}
 use Rattle.dom_model.specs.Steps.{queue_record}
 use Rattle.dom_model.specs.Tree.{next_sibling, previous_sibling}
@@ -62,26 +62,26 @@ returns-clause-world c =
     (queue_record (child_list (name_in s parent) (map (name_in s) ks) (name_in s c.args.child ∷ []) (option_map (name_in s) c.prev-prev.result)
     (option_map (name_in s) c.reference_child-reference.result))) s in
     let put : DocState → DocState = λ s. planned (owner_in s parent)
-    (inserting suppressed (name_in s c.args.node) (name_in s parent) (option_map (name_in s) c.reference_child-reference.result)) s in
-    let take : Plan = removing suppressed y in
+    (insert_plan suppressed (name_in s c.args.node) (name_in s parent) (option_map (name_in s) c.reference_child-reference.result)) s in
+    let take : Plan = remove_plan suppressed y in
     let record_of : List NodeName → Option NodeName → Option NodeName → Plan = λ xs a b. doing (queue_record (child_list p xs (y ∷ []) a b)) in
     let all : List NodeName → Option NodeName → Option NodeName → DocState =
-    λ xs a b. planned o (take and_then inserting suppressed x p b and_then record_of xs a b) d in
-    on_ok_weaker c.tell_children.result
+    λ xs a b. planned o (take and_then insert_plan suppressed x p b and_then record_of xs a b) d in
+    on_ok_weaker c.queue_tree_record.result
     (λ told. told ∙ ap (λ ks. tell ks c.inserting.new.parts) c.as_slice.ensures.value ∙ ap (tell added) c.in_ok-inserting.ensures
     ∙ ap (λ s. tell added (put s)) (c.in_ok-removing.ensures ∙ ap (λ w. planned w take d) child_owner)
     ∙ ap (planned o (record_of (map (name_in d) added) before ref))
-    (planned_then o take (inserting suppressed x p ref) d alone (plans_removing o suppressed y))
-    ∙ planned_then o (take and_then inserting suppressed x p ref) (record_of (map (name_in d) added) before ref) d alone
-    (plans_then o take (inserting suppressed x p ref) (plans_removing o suppressed y) (plans_inserting o suppressed x p ref c.requires.node_owner))
+    (planned_then o take (insert_plan suppressed x p ref) d alone (plans_removing o suppressed y))
+    ∙ planned_then o (take and_then insert_plan suppressed x p ref) (record_of (map (name_in d) added) before ref) d alone
+    (plans_then o take (insert_plan suppressed x p ref) (plans_removing o suppressed y) (plans_inserting o suppressed x p ref c.requires.node_owner))
     ∙ ap (λ xs. all xs before ref) (c.in_ok-added.ensures.value ∙ ap (λ w. placed_nodes (part_of d.world w).trees x) c.requires.node_owner)
     ∙ ap (λ a. all (placed_nodes ts x) a ref) (c.prev-prev.ensures.value ∙ ap (λ w. previous_sibling (part_of d.world w).trees y) child_owner)
     ∙ ap (λ b. all (placed_nodes ts x) (previous_sibling ts y) b) (c.reference_child-reference.ensures.value
-    ∙ ap (reference_for ts x) (c.next-next.ensures.value ∙ ap (λ w. next_sibling (part_of d.world w).trees y) child_owner)))
-    c.tell_children.ensures
+    ∙ ap (reference_child ts x) (c.next-next.ensures.value ∙ ap (λ w. next_sibling (part_of d.world w).trees y) child_owner)))
+    c.queue_tree_record.ensures
 
-pub tell_children-requires-clause-added_are_nodes : goal.tell_children-requires-clause-added_are_nodes
-tell_children-requires-clause-added_are_nodes c =
+pub queue_tree_record-requires-clause-added_are_nodes : goal.queue_tree_record-requires-clause-added_are_nodes
+queue_tree_record-requires-clause-added_are_nodes c =
     let same : c.inserting.new.parts.names ≡ c.args.parts.now.names =
     ap (λ (s : DocState). s.names) c.in_ok-inserting.ensures ∙ ap (λ (s : DocState). s.names) c.in_ok-removing.ensures in
     subst (AreNodes c.inserting.new.parts) (sym c.as_slice.ensures.value)
@@ -94,4 +94,4 @@ inserting-requires-clause-bounds c =
     bounds_at d e c.args.parent (ap (λ (s : DocState). s.names) c.in_ok-removing.ensures)
     (bounds_removed (owner_in d c.args.parent) d (c.laws.ensures.alone c.args.parent c.requires.parent_is_node) (c.laws.ensures.parts _)
     c.requires.bounds suppressed (name_in d c.args.child) e
-    (c.in_ok-removing.ensures ∙ ap (λ o. planned o (removing suppressed (name_in d c.args.child)) d) c.requires.child_is_child.owner))
+    (c.in_ok-removing.ensures ∙ ap (λ o. planned o (remove_plan suppressed (name_in d c.args.child)) d) c.requires.child_is_child.owner))

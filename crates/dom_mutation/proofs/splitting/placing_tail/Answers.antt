@@ -1,6 +1,6 @@
 use Rattle.std.proofs.Common.{ℕ, option_map, sym, ap, subst, ◌∙◌, arith}
 use Rattle.dom_worlds.specs.Bounds.{HasBounds}
-use Rattle.dom_model.specs.Changes.{Plan, ◌and_then◌, observed, inserting, doing}
+use Rattle.dom_model.specs.Changes.{Plan, ◌and_then◌, observed, insert_plan, doing}
 use Rattle.dom_model.specs.Steps.{split_at}
 use Rattle.dom_model.specs.Tree.{index_of}
 use Rattle.dom_model.specs.World.{part_of}
@@ -33,7 +33,7 @@ returns c =
     let x = name_in d node in
     let y = name_in d c.args.new in
     let p = name_in d c.args.parent in
-    let put = inserting observed y p (option_map (name_in d) c.next-next.result) in
+    let put = insert_plan observed y p (option_map (name_in d) c.next-next.result) in
     let owner = c.requires.node_is_child.owner in
     let tell : ℕ → DocState → DocState = λ i s. stepped (owner_in s node)
     (split_at (name_in s node) c.args.offset (name_in s c.args.new) (name_in s c.args.parent) i) s in
@@ -43,7 +43,7 @@ returns c =
     ∙ ap (tell at) (c.in_ok-inserting.ensures ∙ ap (λ w. planned w put d) (sym owner))
     ∙ planned_then o put split d (c.laws.ensures.alone node c.requires.node_is_child.node)
     (plans_inserting o observed y p (option_map (name_in d) c.next-next.result) (c.requires.one_owner ∙ sym owner))
-    ∙ ap (λ r. planned o (inserting observed y p r and_then split) d) c.next-next.ensures.value
+    ∙ ap (λ r. planned o (insert_plan observed y p r and_then split) d) c.next-next.ensures.value
 
 pub inserting-requires-clause-bounds : goal.inserting-requires-clause-bounds
 inserting-requires-clause-bounds c = subst (λ o. HasBounds (part_of c.args.parts.now.world o)) c.requires.node_is_child.owner c.requires.bounds

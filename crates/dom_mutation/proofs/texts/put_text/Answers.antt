@@ -1,7 +1,7 @@
 use Rattle.std.proofs.Common.{◌≡◌, subst, ℕ, [], ◌∷◌, List, None, map, ap, sym, ◌∙◌}
 use Rattle.std.proofs.lemmas.Result.{on_ok_weaker}
 use Rattle.dom_base.specs.declared.NodeName.{NodeName}
-use Rattle.dom_model.specs.Changes.{Plan, ◌and_then◌, doing, in_turn, suppressed, removing, inserting}
+use Rattle.dom_model.specs.Changes.{Plan, ◌and_then◌, doing, in_turn, suppressed, remove_plan, insert_plan}
 use Rattle.dom_model.specs.Output.{child_list}
 use Rattle.dom_model.specs.Steps.{queue_record}
 use Rattle.dom_parts.specs.Doc.{DocState, AreNodes, name_in, owner_in, planned, stepped}
@@ -31,19 +31,19 @@ returns c =
     let alone = c.laws.ensures.alone node c.requires.node_is_node in
     let tell : List ℕ → DocState → DocState = λ js s. stepped (owner_in s node)
     (queue_record (child_list (name_in s node) (name_in s c.args.text ∷ []) (map (name_in s) js) None None)) s in
-    let put : DocState → DocState = λ s. planned (owner_in s node) (inserting suppressed (name_in s c.args.text) (name_in s node) None) s in
-    let clear : List NodeName → Plan = in_turn (removing suppressed) in
+    let put : DocState → DocState = λ s. planned (owner_in s node) (insert_plan suppressed (name_in s c.args.text) (name_in s node) None) s in
+    let clear : List NodeName → Plan = in_turn (remove_plan suppressed) in
     let record_of : List NodeName → Plan = λ zs. doing (queue_record (child_list x (y ∷ []) zs None None)) in
-    let cleared = plans_each o (removing suppressed) (plans_removing o suppressed) (map (name_in d) ks) in
-    on_ok_weaker c.tell_children.result
+    let cleared = plans_each o (remove_plan suppressed) (plans_removing o suppressed) (map (name_in d) ks) in
+    on_ok_weaker c.queue_tree_record.result
     (λ told. told ∙ ap (λ js. tell js c.inserting.new.parts) (c.as_slice-2.ensures.value ∙ sym c.as_slice.ensures.value)
     ∙ ap (tell ks) c.in_ok-inserting.ensures ∙ ap (λ s. tell ks (put s)) c.in_ok-take_each.ensures.state
-    ∙ ap (planned o (record_of (map (name_in d) ks))) (planned_then o (clear (map (name_in d) ks)) (inserting suppressed y x None) d alone cleared)
-    ∙ planned_then o (clear (map (name_in d) ks) and_then inserting suppressed y x None) (record_of (map (name_in d) ks)) d alone
-    (plans_then o (clear (map (name_in d) ks)) (inserting suppressed y x None) cleared (plans_inserting o suppressed y x None c.requires.one_owner))
-    ∙ ap (λ zs. planned o (clear zs and_then inserting suppressed y x None and_then record_of zs) d)
+    ∙ ap (planned o (record_of (map (name_in d) ks))) (planned_then o (clear (map (name_in d) ks)) (insert_plan suppressed y x None) d alone cleared)
+    ∙ planned_then o (clear (map (name_in d) ks) and_then insert_plan suppressed y x None) (record_of (map (name_in d) ks)) d alone
+    (plans_then o (clear (map (name_in d) ks)) (insert_plan suppressed y x None) cleared (plans_inserting o suppressed y x None c.requires.one_owner))
+    ∙ ap (λ zs. planned o (clear zs and_then insert_plan suppressed y x None and_then record_of zs) d)
     (ap (map (name_in d)) c.as_slice.ensures.value ∙ c.in_ok-children.ensures.names))
-    c.tell_children.ensures
+    c.queue_tree_record.ensures
 
 pub inserting-requires-clause-bounds : goal.inserting-requires-clause-bounds
 inserting-requires-clause-bounds c =
@@ -54,8 +54,8 @@ inserting-requires-clause-bounds c =
     (bounds_cleared (owner_in d c.args.node) d (c.laws.ensures.alone c.args.node c.requires.node_is_node) (c.laws.ensures.parts _)
     c.requires.bounds suppressed (map (name_in d) c.as_slice.result.now) e is)
 
-pub tell_children-requires-clause-removed_are_nodes : goal.tell_children-requires-clause-removed_are_nodes
-tell_children-requires-clause-removed_are_nodes c =
+pub queue_tree_record-requires-clause-removed_are_nodes : goal.queue_tree_record-requires-clause-removed_are_nodes
+queue_tree_record-requires-clause-removed_are_nodes c =
     let d = c.args.parts.now in
     let same : c.inserting.new.parts.names ≡ d.names =
     ap (λ (s : DocState). s.names) c.in_ok-inserting.ensures ∙ ap (λ (s : DocState). s.names) c.in_ok-take_each.ensures.state in

@@ -1,5 +1,5 @@
 use Rattle.std.proofs.Common.{◌∷◌, ◌∙◌, [], Err, ap, refl}
-use Rattle.dom_model.specs.Changes.{adopting}
+use Rattle.dom_model.specs.Changes.{adopt_plan}
 use Rattle.dom_model.specs.Tree.{is_document, kind_of}
 use Rattle.dom_model.specs.World.{part_of}
 use Rattle.dom_admission.specs.declared.admission.Operand.TheVariants.{Any, Document}
@@ -32,7 +32,7 @@ returns-clause-handled c =
     let e = c.in_ok-adopt.ensures in
     plans _ d _ c.state.view_is (may_act _ _ _ (Document c.args.document ∷ Any c.args.node ∷ []) (search namings) c.admit.ensures c.in_ok-admit.was) _ _ _ _
     (none_refused ((λ j. adoption_refusal (kind_of (part_of d.world (node.mine j)).trees (node.name j))) ∙ adoption-is _) tt e.refused) refl refl
-    (e.world ∙ (λ j. made (node.mine j) (adopting (document.name j) (node.name j)) d.world)) c.accept.ensures.done
+    (e.world ∙ (λ j. made (node.mine j) (adopt_plan (document.name j) (node.name j)) d.world)) c.accept.ensures.done
 
 pub adopt-requires-clause-document : goal.adopt-requires-clause-document
 adopt-requires-clause-document c =

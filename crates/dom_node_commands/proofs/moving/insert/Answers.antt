@@ -1,6 +1,6 @@
 use Rattle.std.proofs.Common.{◌∷◌, ◌∙◌, [], Err, Some, ap, refl}
-use Rattle.dom_model.specs.Changes.{pre_inserting}
-use Rattle.dom_model.specs.Validity.{insertion_refusal}
+use Rattle.dom_model.specs.Changes.{pre_insert_plan}
+use Rattle.dom_model.specs.Validity.{pre_insert_refusal}
 use Rattle.dom_model.specs.World.{part_of}
 use Rattle.dom_admission.specs.declared.admission.Operand.TheVariants.{Any}
 use Rattle.dom_mutation.specs.Doc.{made}
@@ -25,7 +25,7 @@ returns-in_err-insert-clause-handled c =
     faults _ d _ c.state.view_is (may_act _ _ _ (Any c.args.parent ∷ Any c.args.node ∷ Any c.args.child ∷ []) (search namings) c.admit.ensures
     c.in_ok-admit.was) _ _ _
     c.from_residual-in_err-insert.ensures.1 (refuses
-    (λ j. insertion_refusal (part_of d.world (parent.mine j)).trees (parent.name j) (node.name j) (Some (child.name j))) (λ r. (e.refused r).0))
+    (λ j. pre_insert_refusal (part_of d.world (parent.mine j)).trees (parent.name j) (node.name j) (Some (child.name j))) (λ r. (e.refused r).0))
     (λ r h. e.unchanged r (ap Err h))
 
 pub returns-clause-handled : goal.returns-clause-handled
@@ -37,5 +37,5 @@ returns-clause-handled c =
     let e = c.in_ok-insert.ensures in
     plans _ d _ c.state.view_is (may_act _ _ _ (Any c.args.parent ∷ Any c.args.node ∷ Any c.args.child ∷ []) (search namings) c.admit.ensures
     c.in_ok-admit.was) _ _ _ _
-    (none_refused (λ j. insertion_refusal (part_of d.world (parent.mine j)).trees (parent.name j) (node.name j) (Some (child.name j))) tt e.refused) refl refl
-    (e.world ∙ (λ j. made (parent.mine j) (pre_inserting (node.name j) (parent.name j) (Some (child.name j))) d.world)) c.accept.ensures.done
+    (none_refused (λ j. pre_insert_refusal (part_of d.world (parent.mine j)).trees (parent.name j) (node.name j) (Some (child.name j))) tt e.refused) refl refl
+    (e.world ∙ (λ j. made (parent.mine j) (pre_insert_plan (node.name j) (parent.name j) (Some (child.name j))) d.world)) c.accept.ensures.done

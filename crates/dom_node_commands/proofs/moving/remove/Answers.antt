@@ -1,5 +1,5 @@
 use Rattle.std.proofs.Common.{◌∷◌, ◌∙◌, [], refl}
-use Rattle.dom_model.specs.Changes.{observed, removing}
+use Rattle.dom_model.specs.Changes.{observed, remove_plan}
 use Rattle.dom_admission.specs.declared.admission.Operand.TheVariants.{Child}
 use Rattle.dom_mutation.specs.Doc.{made}
 use Rattle.dom_admission.proofs.Finding.{key_of}
@@ -17,4 +17,4 @@ returns-clause-handled c =
     let node = key_of _ d _ c.state.view_is _ _ _ c.key-node.ensures.name in
     let e = c.in_ok-remove.ensures in
     plans _ d _ c.state.view_is (may_act _ _ _ (Child c.args.node ∷ []) (search namings) c.admit.ensures c.in_ok-admit.was) _ _ _ _
-    refl refl refl (e.world ∙ (λ j. made (node.mine j) (removing observed (node.name j)) d.world)) c.accept.ensures.done
+    refl refl refl (e.world ∙ (λ j. made (node.mine j) (remove_plan observed (node.name j)) d.world)) c.accept.ensures.done

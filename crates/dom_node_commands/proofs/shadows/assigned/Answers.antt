@@ -1,7 +1,7 @@
 use Rattle.std.proofs.Common.{◌∷◌, ◌∙◌, [], ap, refl, sym}
 use Rattle.dom_model.specs.CommandNames.{named}
 use Rattle.dom_model.specs.Output.{a_list}
-use Rattle.dom_model.specs.Slots.{assigned}
+use Rattle.dom_model.specs.Slots.{assigned_nodes}
 use Rattle.dom_model.specs.World.{part_of}
 use Rattle.dom_admission.specs.declared.admission.Operand.TheVariants.{Slot}
 use Rattle.dom_reader.specs.Views.{word_view}
@@ -16,7 +16,7 @@ returns-in_err-admit-clause-handled c =
 
 pub returns-clause-handled : goal.returns-clause-handled
 returns-clause-handled c =
-    let opens = opened-same (λ u. assigned u (named (part_of u c.args.owner) (word_view c.args.slot))) c.args.state.now.world c.args.owner (λ t. refl) in
+    let opens = opened-same (λ u. assigned_nodes u (named (part_of u c.args.owner) (word_view c.args.slot))) c.args.state.now.world c.args.owner (λ t. refl) in
     asks (may_act _ _ _ (Slot c.args.slot ∷ []) (naming-assigned _ (sym c.is_page.ensures ∙ c.if-is_page.false) _) c.admit.ensures
     c.in_ok-admit.was) _ _ _ _ refl refl
     (ap a_list (c.deref.ensures.value ∙ c.in_ok-nodes.ensures ∙ opens)) c.accept.ensures.done

@@ -1,4 +1,4 @@
-use Rattle.dom_model.specs.Changes.{removing, observed}
+use Rattle.dom_model.specs.Changes.{remove_plan, observed}
 use Rattle.dom_mutation.specs.Doc.{name_in, owner_in}
 use Rattle.dom_mutation.proofs.Turns.{empties_on}
 use Rattle.dom_range_ops.proofs.InsertedPlans.{state-is}
@@ -10,4 +10,4 @@ loop-key-preserved c =
     let k = c.key-item.result in
     empties_on observed c.args.first c.args.keys.now c.args.doc.now c.loop-key.key-index {k = k} {e = e} c.laws-in-loop-key.ensures.once
     record { below = c.loop-key-test.true; item = c.key-item.is } c.requires.nodes c.loop-key.invariant
-    (state-is e c.remove.new.self (owner_in e k) (removing observed (name_in e k)) c.in_ok-remove.ensures.names c.in_ok-remove.ensures.world)
+    (state-is e c.remove.new.self (owner_in e k) (remove_plan observed (name_in e k)) c.in_ok-remove.ensures.names c.in_ok-remove.ensures.world)

@@ -2,7 +2,7 @@ use Rattle.std.proofs.Common.{◌≡◌, List, refl, sym, ap, subst, ◌∙◌}
 use Rattle.std.proofs.lemmas.Result.{on_ok_weaker}
 use Rattle.dom_base.specs.declared.NodeName.{NodeName}
 use Rattle.dom_worlds.proofs.PlanLemmas.{leads-removing}
-use Rattle.dom_model.specs.Changes.{observed, removing}
+use Rattle.dom_model.specs.Changes.{observed, remove_plan}
 use Rattle.dom_model.specs.Tree.{has_node, has_data, is_shadow, kind_of}
 use Rattle.dom_model.specs.World.{part_of}
 use Rattle.dom_mutation.specs.Doc.{DocState, name_in, owner_in, planned}
@@ -22,8 +22,8 @@ alone c = subst (IsAlone c.args.doc.now.world) c.requires.parent_own (c.laws.ens
 
 -- the node left its parent
 removed : (c : In_ok-remove) →
-    c.remove.new.self ≡ planned (owner_in c.args.doc.now c.args.node) (removing observed (name_in c.args.doc.now c.args.node)) c.args.doc.now
-removed c = state-is c.args.doc.now c.remove.new.self (owner_in c.args.doc.now c.args.node) (removing observed (name_in c.args.doc.now c.args.node))
+    c.remove.new.self ≡ planned (owner_in c.args.doc.now c.args.node) (remove_plan observed (name_in c.args.doc.now c.args.node)) c.args.doc.now
+removed c = state-is c.args.doc.now c.remove.new.self (owner_in c.args.doc.now c.args.node) (remove_plan observed (name_in c.args.doc.now c.args.node))
     c.in_ok-remove.ensures.names c.in_ok-remove.ensures.world
 
 -- and the parent and the reference stay what they are
@@ -40,8 +40,8 @@ insert_before-requires-clause-open c =
     let x = name_in d c.args.node in
     let k = goal.at.insert_before-requires-clause-open c in
     let own = c.requires.parent_own in
-    kind-kept d c.remove.new.self o (removing observed x) (alone k.After-laws) (plans_removing o observed x)
-    (ap (λ s. s.world) (removed k.In_ok-remove ∙ ap (λ w. planned w (removing observed x) d) c.requires.node_own)) has_data
+    kind-kept d c.remove.new.self o (remove_plan observed x) (alone k.After-laws) (plans_removing o observed x)
+    (ap (λ s. s.world) (removed k.In_ok-remove ∙ ap (λ w. planned w (remove_plan observed x) d) c.requires.node_own)) has_data
     (leads-removing observed x (part_of d.world o) (c.laws.ensures.parts o)).changed c.args.parent
     (ap (λ (ns : List NodeName). name_at ns c.args.parent) c.in_ok-remove.ensures.names, own)
     (ap (λ w. has_node (part_of d.world w).trees (name_in d c.args.parent)) (sym own) ∙ c.laws.ensures.stand c.args.parent c.requires.parent_is_node)
@@ -54,8 +54,8 @@ insert_before-requires-clause-no_shadow c =
     let x = name_in d c.args.node in
     let k = goal.at.insert_before-requires-clause-no_shadow c in
     let own = c.requires.node_own in
-    kind-kept d c.remove.new.self o (removing observed x) (alone k.After-laws) (plans_removing o observed x)
-    (ap (λ s. s.world) (removed k.In_ok-remove ∙ ap (λ w. planned w (removing observed x) d) own)) is_shadow
+    kind-kept d c.remove.new.self o (remove_plan observed x) (alone k.After-laws) (plans_removing o observed x)
+    (ap (λ s. s.world) (removed k.In_ok-remove ∙ ap (λ w. planned w (remove_plan observed x) d) own)) is_shadow
     (leads-removing observed x (part_of d.world o) (c.laws.ensures.parts o)).changed c.args.node
     (ap (λ (ns : List NodeName). name_at ns c.args.node) c.in_ok-remove.ensures.names, own)
     (ap (λ w. has_node (part_of d.world w).trees x) (sym own) ∙ c.laws.ensures.stand c.args.node c.requires.node_is_node)

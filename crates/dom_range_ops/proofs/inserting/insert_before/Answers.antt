@@ -1,5 +1,5 @@
 use Rattle.std.proofs.Common.{option_map, refl, sym, ap, subst, ◌∙◌}
-use Rattle.dom_model.specs.Changes.{observed, inserting}
+use Rattle.dom_model.specs.Changes.{observed, insert_plan}
 use Rattle.dom_mutation.specs.Doc.{DocState, made, name_in}
 use Rattle.dom_mutation.specs.Hosting.{IsAlone}
 use Rattle.dom_mutation.specs.Ready.{AreReady}
@@ -11,7 +11,7 @@ use Rattle.dom_range_ops.proofs.inserting.insert_before.Goals as goal
 pub end_at-requires-clause-there : goal.end_at-requires-clause-there
 end_at-requires-clause-there c =
     let d = c.args.doc.now in
-    let put = inserting observed (name_in d c.args.node) (name_in d c.args.parent) (option_map (name_in d) c.args.reference) in
+    let put = insert_plan observed (name_in d c.args.node) (name_in d c.args.parent) (option_map (name_in d) c.args.reference) in
     range-kept put
     (subst (IsAlone d.world) c.requires.parent_own (c.laws.ensures.alone c.args.parent c.requires.parent_is_node))
     (plans_inserting c.args.owner observed (name_in d c.args.node) (name_in d c.args.parent) (option_map (name_in d) c.args.reference)

@@ -8,7 +8,7 @@ use Rattle.dom_model.specs.CommandRefusals.{limit_on}
 use Rattle.dom_model.specs.Part.{next_name}
 use Rattle.dom_model.specs.RangeOps.{inserting_into_range}
 use Rattle.dom_model.specs.Tree.{kind_of, is_text, has_data, is_shadow, parent_of, is_inclusive_ancestor}
-use Rattle.dom_model.specs.Validity.{insertion_refusal}
+use Rattle.dom_model.specs.Validity.{pre_insert_refusal}
 use Rattle.dom_model.specs.World.{part_of}
 use Rattle.dom_mutation.specs.Doc.{DocState, made, name_in}
 use Rattle.dom_mutation.specs.Ready.{AreReady}
@@ -20,14 +20,14 @@ use Rattle.dom_range_ops.proofs.inserting.insert_tested.Goals as goal
 use Rattle.dom_range_ops.proofs.inserting.insert_tested.Goals.{After-is_text, After-laws}
 
 -- the tests of the place let the node pass
-valid : (c : After-laws) → insertion_refusal (part_of c.args.doc.now.world c.args.owner).trees (name_in c.args.doc.now c.args.parent)
+valid : (c : After-laws) → pre_insert_refusal (part_of c.args.doc.now.world c.args.owner).trees (name_in c.args.doc.now c.args.parent)
     (name_in c.args.doc.now c.args.node) (option_map (name_in c.args.doc.now) c.args.child) ≡ None
 valid c =
     let d = c.args.doc.now in
     let ts = (part_of d.world c.args.owner).trees in
     let x = name_in d c.args.node in
-    ap (λ z. insertion_refusal ts z x (option_map (name_in d) c.args.child)) c.requires.parent ∙
-    (ap (insertion_refusal ts _ x) c.requires.child ∙ place-valid ts (range_at_points d.names c.args.points.now) x c.requires.tested)
+    ap (λ z. pre_insert_refusal ts z x (option_map (name_in d) c.args.child)) c.requires.parent ∙
+    (ap (pre_insert_refusal ts _ x) c.requires.child ∙ place-valid ts (range_at_points d.names c.args.points.now) x c.requires.tested)
 
 -- so the node is not above the parent, which takes nodes
 apart : (c : After-laws) → is_inclusive_ancestor (part_of c.args.doc.now.world c.args.owner).trees (name_in c.args.doc.now c.args.node)
@@ -136,7 +136,7 @@ insert_at-requires-clause-child_is_child c b is =
       node = c.requires.child_is_node b is;
       owner = c.requires.child_own b is ∙ sym c.requires.parent_own;
       child = ap (λ w. parent_of (part_of d.world w).trees (name_in d b)) c.requires.parent_own
-          ∙ valid-child ts y x (name_in d b) (ap (λ m. insertion_refusal ts y x (option_map (name_in d) m)) (sym is) ∙
+          ∙ valid-child ts y x (name_in d b) (ap (λ m. pre_insert_refusal ts y x (option_map (name_in d) m)) (sym is) ∙
           valid (goal.at.insert_at-requires-clause-child_is_child c).After-laws);
     }
 

@@ -1,6 +1,6 @@
 use Rattle.std.proofs.Common.{◌∷◌, ◌++◌, [], ◌≡◌, false, None, refl, ap, ◌∙◌, sym, subst}
 use Rattle.dom_base.specs.declared.Owner.{Owner}
-use Rattle.dom_model.specs.Changes.{doing, observed, inserting}
+use Rattle.dom_model.specs.Changes.{doing, observed, insert_plan}
 use Rattle.dom_model.specs.Part.{next_name}
 use Rattle.dom_model.specs.Steps.{make}
 use Rattle.dom_model.specs.Tree.{kind_of, is_shadow}
@@ -52,4 +52,4 @@ pub returns-clause-world : goal.returns-clause-world
 returns-clause-world c =
     let e = c.add_clone.new.self in
     below-made (new_node (goal.at.returns-clause-world c).In_ok-new) c.insert_unchecked.new.self (c.in_ok-insert_unchecked.ensures.state ∙
-    ap (λ k. planned (owner_in e c.args.top) (inserting observed (name_in e k) (name_in e c.args.top) None) e) c.in_ok-new.ensures.key)
+    ap (λ k. planned (owner_in e c.args.top) (insert_plan observed (name_in e k) (name_in e c.args.top) None) e) c.in_ok-new.ensures.key)

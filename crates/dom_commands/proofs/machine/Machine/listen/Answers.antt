@@ -1,7 +1,7 @@
 use Rattle.std.proofs.Common.{◌∷◌, ◌∙◌, [], ap}
 use Rattle.std.specs.Prelude.{nat_eq}
 use Rattle.dom_model.specs.Command.{Command}
-use Rattle.dom_model.specs.Listeners.{listened}
+use Rattle.dom_model.specs.Listeners.{with_listener_added}
 use Rattle.dom_admission.specs.declared.admission.Operand.TheVariants.{Any}
 use Rattle.dom_reader.specs.Views.{listener_view, word_view}
 use Rattle.dom_admission.proofs.Handling.{may_act, refused}
@@ -26,7 +26,7 @@ returns c =
     let changing = listening s.names ls s.world law.distinct law.there at (seen_reached s ls c.args.self.now c.self.view_is c.requires) c.args.owner
     (word_view c.args.node) k c.key-node.ensures.node c.key-node.ensures.name (listener_view c.args.words)
     (may_act _ _ _ (Any c.args.node ∷ []) (search namings) c.admit.ensures c.in_ok-admit.was) in
-    let now = c.in_ok-listen.ensures.ok ∙ ap (λ v. listened nat_eq k v ls) c.listener_init.ensures in
+    let now = c.in_ok-listen.ensures.ok ∙ ap (λ v. with_listener_added nat_eq k v ls) c.listener_init.ensures in
     record {
       handled = listens_in s c.accept.new.self ls c.listen.new.self changing c.accept.ensures.names now c.args.self.now c.self.view_is _ _ _
           c.accept.ensures.done;

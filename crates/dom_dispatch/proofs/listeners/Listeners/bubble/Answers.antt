@@ -3,7 +3,7 @@ use Rattle.std.specs.Prelude.{slice_get}
 use Rattle.std.specs.List.{AllByRecursion}
 use Rattle.std.proofs.lemmas.Bool.{cond-true, cond-false}
 use Rattle.dom_model.specs.Dispatch.{visit_of, is_at_target}
-use Rattle.dom_model.specs.Listeners.{visited}
+use Rattle.dom_model.specs.Listeners.{after_invoke}
 use Rattle.dom_model.specs.Paths.{View}
 use Rattle.dom_path.specs.PathNodes.{view_in}
 use Rattle.dom_dispatch.specs.Dispatches.{event_words, dispatching_in, IsOwnLine, IsShownOf}
@@ -17,7 +17,7 @@ loop-at-preserved c =
     let path = c.args.path.now in
     let i = c.loop-at.at in
     let item = c.index-items-at.result in
-    let step = visited nat_eq (event_words c.args.event.now) in
+    let step = after_invoke nat_eq (event_words c.args.event.now) in
     let is : item ≡ get_or path.items i item = subst (λ xs. item ≡ get_or xs i item) c.items.ensures.items c.index-items-at.is in
     let same : length c.items-at-end.result.now ≡ length path.items = ap length c.items-at-end.ensures.items in
     let v = view_in path.trees path.items item in

@@ -1,6 +1,6 @@
 use Rattle.std.proofs.Common.{◌≡◌, ◌<◌, ◌-◌, suc, true, nat_eq, length, arith}
 use Rattle.dom_model.specs.Dispatch.{visit_of}
-use Rattle.dom_model.specs.Listeners.{visited}
+use Rattle.dom_model.specs.Listeners.{after_invoke}
 use Rattle.dom_dispatch.specs.Dispatches.{event_words, dispatching_in}
 use Rattle.dom_dispatch.proofs.Visiting.{captured-more, view-there}
 use Rattle.dom_dispatch.proofs.listeners.Listeners.capture.Goals as goal
@@ -13,7 +13,7 @@ loop-at-preserved c =
     let v = view-there path.trees path.items path.views c.items-at.ensures.views (c.loop-at.at - 1) within in
     record {
       within = omega (arith, c.loop-at.invariant.within);
-      visits = captured-more (visited nat_eq (event_words c.args.event.now)) (visit_of nat_eq true) path.views next v.1
+      visits = captured-more (after_invoke nat_eq (event_words c.args.event.now)) (visit_of nat_eq true) path.views next v.1
           (dispatching_in c.args.self.now c.args.so_far.now)
           c.loop-at.invariant.visits (c.in_ok-visit.ensures.visit v.0 v.1);
       shown = c.in_ok-visit.ensures.shown;

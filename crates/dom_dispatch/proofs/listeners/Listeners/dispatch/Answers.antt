@@ -3,7 +3,7 @@ use Rattle.std.specs.List.{AllByRecursion}
 use Rattle.std.proofs.lemmas.List.Sums.{fold-append}
 use Rattle.dom_model.specs.Dispatch.{visit_of, visits_of, is_at_target}
 use Rattle.dom_model.specs.Names.{text_eq}
-use Rattle.dom_model.specs.Listeners.{Dispatching, visited, begun}
+use Rattle.dom_model.specs.Listeners.{Dispatching, after_invoke, begun}
 use Rattle.dom_dispatch.specs.Dispatches.{event_words, dispatching_in, line_in, IsOwnLine}
 use Rattle.dom_dispatch.specs.Kept.{dispatch_along}
 use Rattle.dom_dispatch.proofs.Visiting.{dispatched-in, silent}
@@ -20,7 +20,7 @@ returns-clause-keys c =
     let e = event_words c.args.event in
     let before = c.args.self.now in
     let views = c.in_ok-path.path.views in
-    let step = visited nat_eq e in
+    let step = after_invoke nat_eq e in
     let down = map (visit_of nat_eq true) (reverse views) in
     let up = map (visit_of nat_eq false) (filter (λ v. e.bubbles || is_at_target nat_eq v) views) in
     let whole : dispatching_in c.bubble.new.self c.bubble.new.so_far ≡ dispatch_along before e views =

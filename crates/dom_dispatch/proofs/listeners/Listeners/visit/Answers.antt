@@ -3,7 +3,7 @@ use Rattle.std.proofs.Common.{◌≡◌, [], filter, fold, get_or, nat_eq, Some,
 use Rattle.std.specs.Prelude.{slice_get}
 use Rattle.std.proofs.lemmas.Grind.{common_steps}
 use Rattle.std.proofs.lemmas.Result.{on_ok_weaker}
-use Rattle.dom_model.specs.Listeners.{called}
+use Rattle.dom_model.specs.Listeners.{after_inner_invoke}
 use Rattle.dom_path.specs.PathNodes.{view_in}
 use Rattle.dom_dispatch.specs.Entries.{hears_at, listeners_in}
 use Rattle.dom_dispatch.specs.Dispatches.{event_words, dispatching_in}
@@ -39,5 +39,5 @@ returns-clause-visit c =
     let heard = c.in_ok-heard.ensures
     ∙ (λ j. filter (hears_at (sym c.index-items-at.is j).node (c.as_str.ensures.value j) c.args.capturing) c.args.self.now) in
     calls
-    ∙ ap (λ w. fold (called nat_eq e w) before called_in) (c.of-visit.ensures.visit v there)
+    ∙ ap (λ w. fold (after_inner_invoke nat_eq e w) before called_in) (c.of-visit.ensures.visit v there)
     ∙ visited-calls e c.args.capturing before called_in c.if-so_far.false heard (sym there ∙ at)) c.call_all.ensures.calls

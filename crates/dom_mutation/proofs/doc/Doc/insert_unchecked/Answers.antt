@@ -2,7 +2,7 @@ use Rattle.std.proofs.Common.{subst, sym, ◌≡◌, false}
 use Rattle.dom_mutation.specs.Doc.{DocState, IsChild, name_in, owner_in}
 use Rattle.std.specs.Prelude.{option_map}
 use Rattle.dom_base.specs.declared.Owner.{Owner}
-use Rattle.dom_model.specs.Changes.{inserting, observed}
+use Rattle.dom_model.specs.Changes.{insert_plan, observed}
 use Rattle.dom_model.specs.Tree.{kind_of, is_shadow}
 use Rattle.dom_model.specs.World.{part_of}
 use Rattle.dom_mutation.proofs.ReadyCalls.{stands-in, planned-done}
@@ -19,7 +19,7 @@ invariant_of-self c =
     let node = c.args.node in
     planned-done c.self.inside.parts d c.inserting.new.parts c.self.view_is
     (record { alone = c.laws.ensures.alone; parts = c.laws.ensures.parts; stand = c.laws.ensures.stand }) parent
-    c.requires.parent_is_node (λ a. inserting observed (name_in a node) (name_in a parent) (option_map (name_in a) c.args.child))
+    c.requires.parent_is_node (λ a. insert_plan observed (name_in a node) (name_in a parent) (option_map (name_in a) c.args.child))
     (λ l i r. ready-inserting _ i r (name_in d node) (name_in d parent)
     (stands-in d node (owner_in d parent) l c.requires.may_move.node c.requires.may_move.owner) (l.stand parent c.requires.parent_is_node)
     (option_map (name_in d) c.args.child) c.requires.may_move.not_above c.requires.open

@@ -1,6 +1,6 @@
 use Rattle.std.proofs.Common.{sym, ap, ◌∙◌}
-use Rattle.dom_model.specs.Changes.{replacing}
-use Rattle.dom_model.specs.Validity.{replacement_refusal}
+use Rattle.dom_model.specs.Changes.{replace_plan}
+use Rattle.dom_model.specs.Validity.{replace_refusal}
 use Rattle.dom_tree.specs.Forest.{err_of}
 use Rattle.dom_mutation.specs.Doc.{DocState, name_in, owner_in, trees_in}
 use Rattle.dom_mutation.proofs.ReadyCalls.{stands-in, planned-done}
@@ -15,10 +15,10 @@ invariant_of-self c =
     let d = c.args.self.now in
     let parent = c.args.parent in
     let node = c.args.node in
-    let test = λ (a : DocState). replacement_refusal (trees_in a parent) (name_in a parent) (name_in a node) (name_in a c.args.child) in
+    let test = λ (a : DocState). replace_refusal (trees_in a parent) (name_in a parent) (name_in a node) (name_in a c.args.child) in
     planned-done c.self.inside.parts d c.replacing.new.parts c.self.view_is
     (record { alone = c.laws.ensures.alone; parts = c.laws.ensures.parts; stand = c.laws.ensures.stand }) parent
-    c.requires.parent_is_node (λ a. replacing (name_in a parent) (name_in a node) (name_in a c.args.child))
+    c.requires.parent_is_node (λ a. replace_plan (name_in a parent) (name_in a node) (name_in a c.args.child))
     (λ l i r. ready-replacing _ i r (name_in d node) (name_in d parent)
     (stands-in d node (owner_in d parent) l c.requires.node_is_node c.requires.node_owner) (l.stand parent c.requires.parent_is_node) (name_in d c.args.child)
     (ap test (sym c.self.view_is) ∙ (sym c.check_replace.ensures ∙ ap err_of c.in_default.is)))

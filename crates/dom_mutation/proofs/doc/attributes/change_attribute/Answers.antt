@@ -8,5 +8,6 @@ pub returns : goal.returns
 returns c =
     let x = c.args.node in
     on_ok_weaker c.set_attribute.result
-    (λ set. set ∙ ap (λ e. stepped (owner_in e x) (set_attribute (name_in e x) c.args.name.now (Some c.args.value.items)) e) c.in_ok-tell_attribute.ensures)
+    (λ set. set ∙ ap (λ e. stepped (owner_in e x) (set_attribute (name_in e x) c.args.name.now
+    (Some c.args.value.items)) e) c.in_ok-queue_attribute_record.ensures)
     c.set_attribute.ensures

@@ -43,5 +43,5 @@ module _ {X E : Type 0} (m : Result X E) (b e f : DocState) (k : ℕ) (a : Word)
 
 pub returns : goal.returns
 returns c =
-    both-made c.unset_attribute.result c.args.parts.now c.tell_attribute.new.self c.unset_attribute.new.self c.args.node c.args.name.now
-    (sym c.has_attr.ensures ∙ c.if-not-has_attr.false) c.in_ok-tell_attribute.ensures c.unset_attribute.ensures
+    both-made c.unset_attribute.result c.args.parts.now c.queue_attribute_record.new.self c.unset_attribute.new.self c.args.node c.args.name.now
+    (sym c.has_attr.ensures ∙ c.if-not-has_attr.false) c.in_ok-queue_attribute_record.ensures c.unset_attribute.ensures

@@ -1,6 +1,6 @@
 use Rattle.std.proofs.Common.{ap, ◌∙◌, subst, option_map, ◌≡◌}
 use Rattle.std.specs.Option.{ForSome}
-use Rattle.dom_model.specs.Validity.{insertion_refusal}
+use Rattle.dom_model.specs.Validity.{pre_insert_refusal}
 use Rattle.dom_tree.specs.Forest.{name_at, err_of}
 use Rattle.dom_tree.proofs.Owned.{insertion_own}
 use Rattle.dom_parts.specs.Doc.{name_in, owner_in, trees_in}
@@ -13,11 +13,11 @@ returns c =
     let p = name_at f.names c.args.parent in
     let x = name_at f.names c.args.node in
     let ch = option_map (name_at f.names) c.args.child in
-    subst (λ e. err_of c.check_insert.result ≡ insertion_refusal (trees_in e c.args.parent) (name_in e c.args.parent) (name_in e c.args.node)
+    subst (λ e. err_of c.check_insert.result ≡ pre_insert_refusal (trees_in e c.args.parent) (name_in e c.args.parent) (name_in e c.args.node)
     (option_map (name_in e) c.args.child)) c.self.view_is
     (c.check_insert.ensures
     ∙ insertion_own f.trees c.self.invariant.owned p.owner p x ch Rattle.std.proofs.Common.refl
     (known f c.self.invariant c.self.view_is (λ e. owner_in e c.args.node ≡ owner_in e c.args.parent) c.requires.node_owner)
     (of_owner f.names p.owner c.args.child
     (known f c.self.invariant c.self.view_is (λ e. ForSome c.args.child (λ k. owner_in e k ≡ owner_in e c.args.parent)) c.requires.child_owner))
-    ∙ ap (λ ts. insertion_refusal ts p x ch) (own_in_part f.names f.trees c.self.invariant p.owner))
+    ∙ ap (λ ts. pre_insert_refusal ts p x ch) (own_in_part f.names f.trees c.self.invariant p.owner))

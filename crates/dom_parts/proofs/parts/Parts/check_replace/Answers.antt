@@ -1,5 +1,5 @@
 use Rattle.std.proofs.Common.{ap, ◌∙◌, subst, ◌≡◌, refl}
-use Rattle.dom_model.specs.Validity.{replacement_refusal}
+use Rattle.dom_model.specs.Validity.{replace_refusal}
 use Rattle.dom_tree.specs.Forest.{name_at, err_of}
 use Rattle.dom_tree.proofs.Owned.{replacement_own}
 use Rattle.dom_parts.specs.Doc.{name_in, owner_in, trees_in}
@@ -12,10 +12,10 @@ returns c =
     let p = name_at f.names c.args.parent in
     let x = name_at f.names c.args.node in
     let y = name_at f.names c.args.child in
-    subst (λ e. err_of c.check_replace.result ≡ replacement_refusal (trees_in e c.args.parent) (name_in e c.args.parent) (name_in e c.args.node)
+    subst (λ e. err_of c.check_replace.result ≡ replace_refusal (trees_in e c.args.parent) (name_in e c.args.parent) (name_in e c.args.node)
     (name_in e c.args.child)) c.self.view_is
     (c.check_replace.ensures
     ∙ replacement_own f.trees c.self.invariant.owned p.owner p x y refl
     (known f c.self.invariant c.self.view_is (λ e. owner_in e c.args.node ≡ owner_in e c.args.parent) c.requires.node_owner)
     (known f c.self.invariant c.self.view_is (λ e. owner_in e c.args.child ≡ owner_in e c.args.parent) c.requires.child_owner)
-    ∙ ap (λ ts. replacement_refusal ts p x y) (own_in_part f.names f.trees c.self.invariant p.owner))
+    ∙ ap (λ ts. replace_refusal ts p x y) (own_in_part f.names f.trees c.self.invariant p.owner))
