@@ -1,6 +1,6 @@
 -- What the changes of blocks leave of the numbers of keys.
 use Rattle.std.proofs.Common.{◌≡◌, ◌≢◌, ◌⊎◌, inl, inr, ℕ, zero, suc, ◌+◌, ◌-◌, ◌<◌, ◌≤◌, true, false, eqb, List, [], ◌∷◌, ◌++◌, length, set, take, drop}
-use Rattle.std.proofs.Common.{Some, refl, sym, ap, subst, ◌∙◌, arith, append_assoc, append-nil, length-append, length-drop, length-set}
+use Rattle.std.proofs.Common.{Some, refl, sym, ap, subst, ◌∙◌, add-one, arith, append_assoc, append-nil, length-append, length-drop, length-set}
 use Rattle.std.specs.Prelude.{slice_get}
 use Rattle.std.specs.List.{concat, insert, remove}
 use Rattle.std.proofs.lemmas.Bool.{eq-eqb, ne_eqb, both_ways, or_left, or_right, or_parts, false_from_ne_true, cases_eq}
@@ -139,6 +139,13 @@ IsNumbered-taken {blocks} {numbers} n i within numbered =
 
 -- ---- a block is cut in two
 
+concat-cut : (blocks : List (List ℕ)) (n i : ℕ) → n < length blocks →
+    concat (insert (set blocks n (take i (block_of blocks n))) (suc n) (drop i (block_of blocks n))) ≡ concat blocks
+concat-cut [] n i within = absurd (omega arith)
+concat-cut (x ∷ xs) zero i within =
+    sym (append_assoc (take i x) (drop i x) (concat xs)) ∙ ap (λ ys. ys ++ concat xs) (take-append-drop i x)
+concat-cut (x ∷ xs) (suc n) i within = ap (λ ys. x ++ ys) (concat-cut xs n i (omega arith))
+
 pub IsSplit-cut : (blocks : List (List ℕ)) (n i : ℕ) → n < length blocks → 0 < i → i < length (block_of blocks n) →
     IsSplit blocks (insert (set blocks n (take i (block_of blocks n))) (n + 1) (drop i (block_of blocks n))) n
 IsSplit-cut blocks n i within some more =
@@ -149,6 +156,7 @@ IsSplit-cut blocks n i within some more =
     get_or-insert_below cut (n + 1) tail [] n (omega arith) (omega arith) ∙ get_or-set_same blocks n (take i (block_of blocks n)) [] within in
     let second : block_of (insert cut (n + 1) tail) (n + 1) ≡ tail = get_or-insert_at cut (n + 1) tail [] (omega arith) in
     record {
+      keys = rw add-one (concat-cut blocks n i within);
       before = λ b l. get_or-insert_below cut (n + 1) tail [] b (omega arith) (omega arith)
           ∙ get_or-set_other blocks n b (take i (block_of blocks n)) [] (λ e. absurd (omega arith));
       halves = sym (rw (first, second) (take-append-drop i (block_of blocks n)));
@@ -159,13 +167,6 @@ IsSplit-cut blocks n i within some more =
       size = omega (arith, length-insert cut (n + 1) tail (omega arith), long);
       within = within;
     }
-
-pub concat-cut : (blocks : List (List ℕ)) (n i : ℕ) → n < length blocks →
-    concat (insert (set blocks n (take i (block_of blocks n))) (suc n) (drop i (block_of blocks n))) ≡ concat blocks
-concat-cut [] n i within = absurd (omega arith)
-concat-cut (x ∷ xs) zero i within =
-    sym (append_assoc (take i x) (drop i x) (concat xs)) ∙ ap (λ ys. ys ++ concat xs) (take-append-drop i x)
-concat-cut (x ∷ xs) (suc n) i within = ap (λ ys. x ++ ys) (concat-cut xs n i (omega arith))
 
 -- ---- an empty block is taken out
 

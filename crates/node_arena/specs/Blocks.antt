@@ -7,6 +7,10 @@ use Rattle.node_arena.specs.Nodes.{contains, IsOnce}
 abbrev pub block_of : List (List ℕ) → ℕ → List ℕ
 block_of blocks n = slice_index_or blocks n []
 
+-- block n is there, and a key at place i in it
+abbrev pub IsThere : List (List ℕ) → ℕ → ℕ → Type 0
+IsThere blocks n i = (n < length blocks) × (i < length (block_of blocks n))
+
 -- no key is in two blocks
 abbrev pub AreApart : List (List ℕ) → Type 0
 AreApart blocks = (a b k : ℕ) → contains (block_of blocks a) k ≡ true → contains (block_of blocks b) k ≡ true → a ≡ b
@@ -53,8 +57,9 @@ pub record IsGained (old new : List (List ℕ)) (n key : ℕ) : Type 0 where
   pub others : (b : ℕ) → b ≢ n → block_of new b ≡ block_of old b
   pub size : (b : ℕ) → b < length new → (b ≡ n) ⊎ (b < length old)
 
--- block n has become two, of which none is empty, and those behind it have moved up
+-- block n has become two, of which none is empty, and those behind it have moved up; the keys are the same in the same order
 pub record IsSplit (old new : List (List ℕ)) (n : ℕ) : Type 0 where
+  pub keys : concat new ≡ concat old
   pub before : (b : ℕ) → b < n → block_of new b ≡ block_of old b
   pub halves : block_of old n ≡ block_of new n ++ block_of new (n + 1)
   pub behind : (b : ℕ) → n < b → block_of new (b + 1) ≡ block_of old b

@@ -4,7 +4,7 @@ ghost use Rattle.std.specs.Prelude.{is_ok, if◌then◌else◌, OnOk, OnErr, Som
 ghost use Rattle.std.specs.List.{concat, insert, remove};
 ghost use Rattle.std.specs.Option.{ForSome};
 ghost use Rattle.node_arena.specs.Nodes.{contains, last_of, place_in, put_before, without};
-ghost use Rattle.node_arena.specs.Blocks.{block_of, AreFilled, AreWritten, IsGained, IsNumbered, IsNumberedBelow, IsOnly, IsSplit};
+ghost use Rattle.node_arena.specs.Blocks.{block_of, AreFilled, AreWritten, IsGained, IsNumbered, IsNumberedBelow, IsOnly, IsSplit, IsThere};
 
 use crate::Key;
 use crate::block::Block;
@@ -128,7 +128,7 @@ fn locate(blocks: &[Block], numbers: &[usize], key: Key) -> Option<(usize, usize
     requires { IsNumbered blocks.now numbers.now }
     ensures only { ForSome result (λ at. IsOnly blocks.now at.0 key) }
     ensures place { ForSome result (λ at. at.1 ≡ place_in (block_of blocks.now at.0) key) }
-    ensures within { ForSome result (λ at. (at.0 < length blocks.now) × (at.1 < length (block_of blocks.now at.0))) }
+    ensures there { ForSome result (λ at. IsThere blocks.now at.0 at.1) }
     ensures absent { result ≡ None → contains (concat blocks.now) key ≡ false }
 {
     let number = *numbers.get(key.index)?;
@@ -189,8 +189,7 @@ fn put_in(
     requires numbered { IsNumbered blocks.old.items numbers.old.items }
     requires filled { AreFilled blocks.old.items }
     requires absent { contains (concat blocks.old.items) key ≡ false }
-    requires number_is_block { number < length blocks.old.items }
-    requires place_is_there { place < length (block_of blocks.old.items number) }
+    requires there { IsThere blocks.old.items number place }
     ensures numbered { IsNumbered blocks.new.items numbers.new.items }
     ensures filled { AreFilled blocks.new.items }
     ensures put { let put = insert (block_of blocks.old.items number) place key in
@@ -229,7 +228,6 @@ fn cut(blocks: &mut Vec<Block>, number: usize) -> Result<(), AllocError>
     requires number_is_block { number < length blocks.old.items }
     requires long { 1 < length (block_of blocks.old.items number) }
     ensures split { OnOk result (IsSplit blocks.old.items blocks.new.items number) }
-    ensures keys { OnOk result (concat blocks.new.items ≡ concat blocks.old.items) }
     ensures err { OnErr result (blocks.new.items ≡ blocks.old.items) }
 {
     blocks.reserve(1)?;
@@ -261,8 +259,7 @@ fn split_if_full(blocks: &mut Vec<Block>, numbers: &mut Vec<usize>, number: usiz
 fn take_from(blocks: &mut Vec<Block>, numbers: &mut Vec<usize>, number: usize, place: usize)
     requires numbered { IsNumbered blocks.old.items numbers.old.items }
     requires filled { AreFilled blocks.old.items }
-    requires number_is_block { number < length blocks.old.items }
-    requires place_is_there { place < length (block_of blocks.old.items number) }
+    requires there { IsThere blocks.old.items number place }
     ensures numbered { IsNumbered blocks.new.items numbers.new.items }
     ensures filled { AreFilled blocks.new.items }
     ensures taken { let left = remove (block_of blocks.old.items number) place in

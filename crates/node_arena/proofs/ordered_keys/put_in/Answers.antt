@@ -8,7 +8,7 @@ pub split_if_full-requires-clause-numbered : goal.split_if_full-requires-clause-
 split_if_full-requires-clause-numbered c =
     let blocks = c.args.blocks.now.items in
     let is : c.index_mut.result.now ≡ block_of blocks c.args.number =
-    c.index_mut.ensures.value ∙ get_or_default blocks c.args.number c.index_mut.result.now [] c.requires.number_is_block in
+    c.index_mut.ensures.value ∙ get_or_default blocks c.args.number c.index_mut.result.now [] c.requires.there.0 in
     rw (c.in_ok-insert.ensures, is, c.key.view_is)
-    (IsNumbered-gained c.requires.numbered c.requires.absent (IsGained-set blocks c.args.number c.args.place c.args.key c.requires.number_is_block)
+    (IsNumbered-gained c.requires.numbered c.requires.absent (IsGained-set blocks c.args.number c.args.place c.args.key c.requires.there.0)
     (IsWritten-set c.make_room.new.numbers.items c.args.number c.args.key c.in_ok-make_room.ensures.reach c.make_room.ensures.kept))

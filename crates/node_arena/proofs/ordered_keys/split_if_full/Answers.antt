@@ -10,5 +10,8 @@ returns-clause-numbered c = record {
   once = IsOnce-split c.requires.numbered.once c.in-Ok.ensures.split;
 }
 
+pub returns-clause-keys : goal.returns-clause-keys
+returns-clause-keys c = c.in-Ok.ensures.split.keys
+
 pub returns-clause-filled : goal.returns-clause-filled
 returns-clause-filled c = AreFilled-split c.requires.filled c.in-Ok.ensures.split

@@ -8,5 +8,5 @@ pub take_out_if_empty-requires-clause-numbered : goal.take_out_if_empty-requires
 take_out_if_empty-requires-clause-numbered c =
     let blocks = c.args.blocks.now.items in
     let is : c.index_mut.result.now ≡ block_of blocks c.args.number =
-    c.index_mut.ensures.value ∙ get_or_default blocks c.args.number c.index_mut.result.now [] c.requires.number_is_block in
-    rw (c.remove.ensures, is) (IsNumbered-taken c.args.number c.args.place c.requires.number_is_block c.requires.numbered)
+    c.index_mut.ensures.value ∙ get_or_default blocks c.args.number c.index_mut.result.now [] c.requires.there.0 in
+    rw (c.remove.ensures, is) (IsNumbered-taken c.args.number c.args.place c.requires.there.0 c.requires.numbered)

@@ -8,7 +8,7 @@ use Rattle.node_arena.proofs.ordered_keys.OrderedKeys.find.Goals as goal
 
 pub count_before-requires-clause-number_is_block : goal.count_before-requires-clause-number_is_block
 count_before-requires-clause-number_is_block c =
-    let within = c.in_ok-number.ensures.within (c.in_ok-number.number, c.in_ok-number.place) refl in
+    let within = c.in_ok-number.ensures.there (c.in_ok-number.number, c.in_ok-number.place) refl in
     omega (arith, within.0, ap (length {A = List ℕ}) c.as_slice.ensures.value, ap (length {A = List ℕ}) c.as_slice-3.ensures.value)
 
 pub count_before-requires-clause-few : goal.count_before-requires-clause-few
@@ -17,7 +17,7 @@ count_before-requires-clause-few c = rw c.as_slice-3.ensures.value (omega (arith
 pub overflow_add-result : goal.overflow_add-result
 overflow_add-result c =
     let blocks = c.self.inside.blocks.items in
-    let within = rw c.as_slice.ensures.value at (c.in_ok-number.ensures.within (c.in_ok-number.number, c.in_ok-number.place) refl) in
+    let within = rw c.as_slice.ensures.value at (c.in_ok-number.ensures.there (c.in_ok-number.number, c.in_ok-number.place) refl) in
     let count = rw c.as_slice-3.ensures.value at c.count_before.ensures in
     omega (
       arith,

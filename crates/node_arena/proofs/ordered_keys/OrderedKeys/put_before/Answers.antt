@@ -6,13 +6,8 @@ use Rattle.node_arena.specs.Blocks.{block_of, IsOnly}
 use Rattle.node_arena.proofs.BlockLists.{contains-concat, insert-place, length-put_before, put_before-only, sum_that_fits}
 use Rattle.node_arena.proofs.ordered_keys.OrderedKeys.put_before.Goals as goal
 
-pub put_in-requires-clause-number_is_block : goal.put_in-requires-clause-number_is_block
-put_in-requires-clause-number_is_block c =
-    (rw c.as_slice.ensures.value at (c.in-Some.ensures.within (c.in-Some.number, c.in-Some.place) refl)).0
-
-pub put_in-requires-clause-place_is_there : goal.put_in-requires-clause-place_is_there
-put_in-requires-clause-place_is_there c =
-    (rw c.as_slice.ensures.value at (c.in-Some.ensures.within (c.in-Some.number, c.in-Some.place) refl)).1
+pub put_in-requires-clause-there : goal.put_in-requires-clause-there
+put_in-requires-clause-there c = rw c.as_slice.ensures.value at (c.in-Some.ensures.there (c.in-Some.number, c.in-Some.place) refl)
 
 -- the whole list when a key has come into the block of the next one
 put : {blocks : List (List ℕ)} {n : ℕ} (i c : ℕ) {b : ℕ} → IsOnly blocks n b → i ≡ place_in (block_of blocks n) b →

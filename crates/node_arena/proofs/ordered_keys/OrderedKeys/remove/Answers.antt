@@ -12,23 +12,18 @@ returns-in_default c =
     let absent = rw (c.as_slice.ensures.value, c.self.view_is) at (c.in_default.ensures.absent refl) in
     sym (without-absent c.args.key c.args.self.now absent)
 
-pub take_from-requires-clause-number_is_block : goal.take_from-requires-clause-number_is_block
-take_from-requires-clause-number_is_block c =
-    (rw c.as_slice.ensures.value at (c.in-Some.ensures.within (c.in-Some.number, c.in-Some.place) refl)).0
-
-pub take_from-requires-clause-place_is_there : goal.take_from-requires-clause-place_is_there
-take_from-requires-clause-place_is_there c =
-    (rw c.as_slice.ensures.value at (c.in-Some.ensures.within (c.in-Some.number, c.in-Some.place) refl)).1
+pub take_from-requires-clause-there : goal.take_from-requires-clause-there
+take_from-requires-clause-there c = rw c.as_slice.ensures.value at (c.in-Some.ensures.there (c.in-Some.number, c.in-Some.place) refl)
 
 pub overflow_sub-self : goal.overflow_sub-self
 overflow_sub-self c =
-    let within = rw c.as_slice.ensures.value at (c.in-Some.ensures.within (c.in-Some.number, c.in-Some.place) refl) in
+    let within = rw c.as_slice.ensures.value at (c.in-Some.ensures.there (c.in-Some.number, c.in-Some.place) refl) in
     omega (arith, within.1, length-concat_set c.self.inside.blocks.items c.in-Some.number [] within.0, c.self.invariant.counted)
 
 pub invariant_of-self : goal.invariant_of-self
 invariant_of-self c =
     let blocks = c.self.inside.blocks.items in
-    let within = rw c.as_slice.ensures.value at (c.in-Some.ensures.within (c.in-Some.number, c.in-Some.place) refl) in
+    let within = rw c.as_slice.ensures.value at (c.in-Some.ensures.there (c.in-Some.number, c.in-Some.place) refl) in
     let left = remove (block_of blocks c.in-Some.number) c.in-Some.place in
     record {
       are_numbered = c.take_from.ensures.numbered;

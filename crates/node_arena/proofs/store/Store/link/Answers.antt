@@ -2,19 +2,15 @@ use Rattle.std.proofs.Common.{◌≡◌, ◌<◌, length, refl, arith}
 use Rattle.std.proofs.lemmas.List.{length-map}
 use denote.RawPtr.{null_ptr, InBlock}
 use Rattle.node_arena.specs.Store.{places_of, links_of}
-use Rattle.node_arena.proofs.StoreLemmas.{Seat, seat_of, Reading, reading, Led, led_to, read-null, read-key}
+use Rattle.node_arena.proofs.StoreLemmas.{value_kept, Reading, reading, Led, led_to, read-null, read-key}
 use Rattle.node_arena.proofs.store.Store.link.Given.{Over}
 use Rattle.node_arena.proofs.store.Store.link.Goals.{After-pointer-to}
 use Rattle.node_arena.proofs.store.Store.link.Goals as goal
 
 pub get-requires : goal.get-requires
 get-requires g c =
-    let cells = c.self.inside.pool.cells in
-    let asked = rw (← c.self.view_is, ← c.key.view_is) at c.requires in
-    let within : c.key.inside.index < length cells = omega (arith, length-map cells (links_of (places_of cells))) in
-    let seat : Seat cells c.key.inside.index c.index.result.now.ptr =
-    seat_of c.self.invariant c.key.inside.index within c.index.ensures in
-    rw seat.cell.value refl
+    value_kept c.self.invariant (links_of (places_of c.self.inside.pool.cells)) c.key.inside.index
+    (rw (← c.self.view_is, ← c.key.view_is) at c.requires) c.index.ensures
 
 -- what is read in the cell
 read : (g : Over) (c : After-pointer-to g) → Reading c.self.inside.pool.cells c.key.inside.index c.args.link c.pointer-to.result.ptr
