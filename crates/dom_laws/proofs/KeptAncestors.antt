@@ -10,7 +10,7 @@ use Rattle.dom_laws.proofs.Lists.{In, In-from, is_in-from, In-left, same_or_not,
 use Rattle.dom_laws.proofs.Shapes.{Has, IsTreeOf, has_or_not, above-absent, above-present, Has-above, above-root, subtree-present, subtree-within}
 use Rattle.dom_laws.proofs.Shapes.{once_apart, above-from_below, below-from_above}
 use Rattle.dom_laws.proofs.Counts.{Once, once_subtree}
-use Rattle.dom_laws.proofs.Removal.{without-apart, above-without, above-put_others, Once-without, above-in_first, above-behind_first}
+use Rattle.dom_laws.proofs.Removal.{without-apart, above-without, above-put_others, Once-without, above-in_first}
 use Rattle.dom_laws.proofs.Chains.{above-chain}
 use Rattle.dom_laws.proofs.Paths.{lacks_from}
 use Rattle.dom_laws.proofs.Moves.{path_placed}
@@ -50,15 +50,6 @@ above_added n ts a y other h = ap (is_in name_eq a) (above-put_others n.name n n
     off (inr (inr i)) = i
 
 -- ---- a tree placed
-
--- above a node of the others
-above-put_before_others : (before : Option NodeName) (m : Node) (d ts : Trees) (y : NodeName) → (Has (tree m d none) y → ⊥) →
-    inclusive_ancestors (put_before before (tree m d none) ts) y ≡ inclusive_ancestors ts y
-above-put_before_others before m d none y off = above-absent (tree m d none) y off
-above-put_before_others before m d (tree n c r) y off = elim (cases_Bool (is_given before n.name)) [
-  | inl e ↦ rw e (above-behind_first m d (tree n c r) y off)
-  | inr e ↦ rw e (ap (λ path. cond (name_eq n.name y) (y ∷ []) (on_top (inclusive_ancestors c y) n.name path)) (above-put_before_others before m d r y off))
-]
 
 -- put below a parent that is not there
 put_below-absent : (parent : NodeName) (before : Option NodeName) (new ts : Trees) → (Has ts parent → ⊥) → put_below parent before new ts ≡ ts

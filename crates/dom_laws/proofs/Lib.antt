@@ -14,3 +14,4 @@ pub mod Relatives
 pub mod Walks
 pub mod KeptAncestors
 pub mod Siblings
+mod StatedLaws

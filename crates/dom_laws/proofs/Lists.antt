@@ -67,12 +67,7 @@ abbrev pub Single : List NodeName → Type 0
 Single [] = Unit {0}
 Single (x ∷ xs) = (In x xs → ⊥) × Single xs
 
--- so it is in the first of two lists
-pub Single-left : (xs ys : List NodeName) → Single (xs ++ ys) → Single xs
-Single-left [] ys s = tt
-Single-left (x ∷ xs) ys s = (λ h. s.0 (In-left x xs ys h), Single-left xs ys s.1)
-
--- and in the second
+-- so it is in the second of two lists
 pub Single-right : (xs ys : List NodeName) → Single (xs ++ ys) → Single ys
 Single-right [] ys s = s
 Single-right (x ∷ xs) ys s = Single-right xs ys s.1

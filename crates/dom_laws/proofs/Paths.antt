@@ -4,7 +4,7 @@ use Rattle.std.proofs.Common.{◌≡◌, ◌≢◌, inl, inr, true, false, List,
 use Rattle.std.proofs.lemmas.Bool.{cases_Bool, cond-true, cond-false, or_parts, or_from}
 use Rattle.dom_base.specs.declared.NodeName.{NodeName}
 use Rattle.dom_model.specs.Names.{name_eq, is_in}
-use Rattle.dom_model.specs.Tree.{Trees, none, tree, Node, subtree, or_else, on_top, inclusive_ancestors, times_in}
+use Rattle.dom_model.specs.Tree.{Trees, none, tree, Node, subtree, on_top, inclusive_ancestors, times_in}
 use Rattle.dom_model.specs.TreeChanges.{without}
 use Rattle.dom_model.proofs.OwnerLaws.{name_eq-true, name_eq-turned}
 use Rattle.dom_laws.proofs.Counts.{times_in-none, times_in-tree, one-false, times_none}
@@ -74,11 +74,7 @@ pub subtree_gone : (ts : Trees) (x : NodeName) → times_in ts x ≡ 0 → subtr
 subtree_gone none x e = refl
 subtree_gone (tree n c r) x e = let gone = times_none n c r x e in rw (gone.0, subtree_gone c x gone.1) (subtree_gone r x gone.2)
 
--- a name that has some is there
-pub path_some : (ts : Trees) (x a : NodeName) (path : List NodeName) → inclusive_ancestors ts x ≡ a ∷ path → times_in ts x ≢ 0
-path_some ts x a path is e = let h = path_none ts x e in cc
-
--- and a name that has none is not there
+-- a name that has none is not there
 pub path_gone : (ts : Trees) (x : NodeName) → inclusive_ancestors ts x ≡ [] → times_in ts x ≡ 0
 path_gone none x e = times_in-none x
 path_gone (tree n c r) x e = elim (cases_Bool (name_eq n.name x)) [
@@ -122,11 +118,6 @@ path_head (tree n c r) x a path is = elim (cases_Bool (name_eq n.name x)) [
     top (b ∷ below) head rest e is = let same = head b below e in cc
 
 -- ---- changes of trees
-
--- what stands in one list of trees or the other
-pub path_or_else : (ts us : Trees) (x : NodeName) → inclusive_ancestors ts x ≡ [] → inclusive_ancestors us x ≡ [] → inclusive_ancestors (or_else ts us) x ≡ []
-path_or_else none us x e h = h
-path_or_else (tree n c r) us x e h = e
 
 -- trees without the tree of x: the others stand as they stood
 pub path_without : (ts : Trees) (x y : NodeName) → Lacks x (inclusive_ancestors ts y) → inclusive_ancestors (without x ts) y ≡ inclusive_ancestors ts y
