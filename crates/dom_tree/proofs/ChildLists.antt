@@ -23,9 +23,9 @@ use Rattle.dom_tree.specs.Contents.{Stored}
 use Rattle.dom_tree.specs.Rows.{trees_of}
 use Rattle.dom_tree.specs.Forest.{NamedTrees, IsKept, stored_names, nodes_of, name_at}
 use Rattle.dom_tree.proofs.Changes.{linked}
-use Rattle.dom_tree.proofs.Kept.{seen, shows, within, within_names, kept_with}
+use Rattle.dom_tree.proofs.Kept.{seen, shows_parent, within, within_names, kept_with}
 use Rattle.dom_tree.proofs.Placing.{names_tell}
-use Rattle.dom_tree.proofs.Reading.{parent_in-at, Tells, tells-here, tells-rest}
+use Rattle.dom_tree.proofs.Reading.{Tells, tells-here, tells-rest}
 use Rattle.dom_tree.proofs.Stays.{IsAdded, added_named, same_names}
 use Rattle.dom_tree.proofs.Walks.{shows_above, shows_children}
 
@@ -117,7 +117,7 @@ module _ {f : NamedTrees} {a : Nodes Stored} {keys : Owner → List ℕ} (is : s
   ]
     where
       shown : (r : Option ℕ) → r ≡ parent_of a.children k → option_map (name_at f.names) r ≡ parent_in f.trees (name_at f.names k)
-      shown r is_parent = shows is kept {read = parent_in} {key_read = parent_of} (record { agree = parent_in-at }) k at_k is_parent
+      shown r is_parent = shows_parent is kept k at_k is_parent
 
   module _ {b : Nodes Stored} where
     -- where the lists alone have changed
@@ -156,7 +156,7 @@ module _ {f : NamedTrees} {a : Nodes Stored} {keys : Owner → List ℕ} (is : s
         where
           off : contains (children_of a.children k) c ≡ false
           off = false_from_ne_true (contains (children_of a.children k) c) (λ found. other
-              (sym (shows is kept {read = parent_in} {key_read = parent_of} (record { agree = parent_in-at }) c {r = Some k} at_c
+              (sym (shows_parent is kept c {r = Some k} at_c
               (sym (parent_of_is a.children kept.forest.one_list k c found)))))
 
       -- a node in a list

@@ -4,7 +4,7 @@ use Rattle.std.proofs.Common.{Option, Some, None, refl, sym, ap, subst, ◌∙�
 use Rattle.std.specs.List.{list_any}
 use Rattle.node_arena.specs.contracts.key.KeyPartialEq.TheImpl as KeyImpl
 use Rattle.std.proofs.lemmas.Bool.Decides.{eqb_tells}
-use Rattle.std.specs.Option.{option_eq, option_map, option_map_or, option_and_then}
+use Rattle.std.specs.Option.{option_eq, option_map, option_map_or, ForSome}
 use Rattle.std.proofs.lemmas.Bool.{eq-eqb, ne_eqb, eqb-true, cases_Bool, both_ways, or_parts, false_from_ne_true}
 use Rattle.std.proofs.lemmas.List.Sums.{sum_by-append}
 use Rattle.dom_base.specs.declared.Owner.{Owner}
@@ -13,7 +13,6 @@ use Rattle.dom_model.specs.TreeChanges.{is_given}
 use Rattle.dom_model.specs.Validity.{without_given, element_count, has_text}
 use Rattle.node_arena.specs.Nodes.{contains, children_of, IsForest, IsOnce, head_of, next_in, next_of}
 use Rattle.node_arena.proofs.Lists.{contains-next_in}
-use Rattle.node_arena.proofs.Forests.{parent_of_is}
 use Rattle.dom_tree.specs.Contents.{Stored}
 use Rattle.dom_tree.specs.Rows.{node_at, trees_of}
 use Rattle.dom_tree.specs.Forest.{NamedTrees, IsKept, stored_names, nodes_of, name_at}
@@ -22,6 +21,7 @@ use Rattle.dom_tree.proofs.Reach.{roots-Stands, trees_below-Stands}
 use Rattle.dom_tree.proofs.Changes.{IsWhole, subtree_here}
 use Rattle.dom_tree.proofs.Reading.{name_of_key-eq, node_in-at}
 use Rattle.dom_tree.proofs.Kept.{seen, IsWhole-kept, name_at-same, names_option, within}
+use Rattle.dom_tree.proofs.Walks.{next_child}
 
 -- a list from one of its members on
 abbrev pub suffix_from : List ℕ → ℕ → List ℕ
@@ -62,12 +62,11 @@ rest_of-step (x ∷ xs) k once found = elim (cases_Bool (eqb x k)) [
         rw apart refl
 
 -- the children from one on are that one and those from the next on
-pub rest_of-next : {lists : List (List ℕ)} → IsForest lists → (p k : ℕ) {r : Option ℕ} → contains (children_of lists p) k ≡ true →
-    r ≡ next_of lists k → rest_of (children_of lists p) (Some k) ≡ k ∷ rest_of (children_of lists p) r
-rest_of-next {lists} forest p k {r} child is =
-    let e : r ≡ next_in (children_of lists p) k =
-    is ∙ ap (option_and_then (λ q. next_in (children_of lists q) k)) (parent_of_is lists forest.one_list p k child) in
-    rest_of-step (children_of lists p) k (forest.once p) child ∙ ap (λ o. k ∷ rest_of (children_of lists p) o) (sym e)
+pub rest_of-next : {lists : List (List ℕ)} → IsForest lists → (p : ℕ) {at next : Option ℕ} → ForSome at (λ k. contains (children_of lists p) k ≡ true) →
+    (k : ℕ) → at ≡ Some k → next ≡ next_of lists k → rest_of (children_of lists p) at ≡ k ∷ rest_of (children_of lists p) next
+rest_of-next {lists} forest p among k is step =
+    ap (rest_of (children_of lists p)) is ∙ rest_of-step (children_of lists p) k (forest.once p) (among k is) ∙
+    ap (λ o. k ∷ rest_of (children_of lists p) o) (sym (next_child forest p among k is step))
 
 -- what is counted of a list of keys
 pub tally : (ℕ → Bool) → List ℕ → ℕ
@@ -172,20 +171,18 @@ shows_has_text {f = f} {ps = ps} {lists = lists} {keys = keys} is kept x node =
 
 -- the tests, as a caller sees them
 pub shows_text : {f : NamedTrees} {ps : List Stored} {lists : List (List ℕ)} {keys : Owner → List ℕ} → seen ps lists ≡ f → IsKept ps lists keys
-    → (k : ℕ) → k < length f.names → is_text (kind_of f.trees (name_at f.names k)) ≡ is_text_key (nodes_of ps) k
+    → (k : ℕ) → k < length ps → is_text (kind_of f.trees (name_at f.names k)) ≡ is_text_key (nodes_of ps) k
 unfolding is_text_key
 shows_text {f = f} {ps = ps} {lists = lists} {keys = keys} is kept k node =
-    let inside = within is kept k node in
     subst (λ (g : NamedTrees). is_text (kind_of g.trees (name_at g.names k)) ≡ is_text (node_at (nodes_of ps) k).kind) is
     (ap (λ y. is_text (kind_of (trees_of (nodes_of ps) lists) y)) (name_at-same (stored_names ps) ps k)
     ∙ ap (λ (n : Node). is_text n.kind) (node_in-at (nodes_of ps) lists (IsWhole-kept kept) k (omega (arith, kept.paired))))
 
 pub is_counted-split : {f : NamedTrees} {ps : List Stored} {lists : List (List ℕ)} {keys : Owner → List ℕ} → seen ps lists ≡ f → IsKept ps lists keys
-    → (k : ℕ) (apart : Option ℕ) → k < length f.names → ((j : ℕ) → apart ≡ Some j → j < length f.names)
+    → (k : ℕ) (apart : Option ℕ) → k < length ps → ((j : ℕ) → apart ≡ Some j → j < length f.names)
     → is_counted (nodes_of ps) apart k ≡ (is_element (kind_of f.trees (name_at f.names k)) && not (option_map_or (λ j. eqb k j) apart false))
 unfolding is_counted
 is_counted-split {f = f} {ps = ps} {lists = lists} {keys = keys} is kept k apart node inside =
-    let here = within is kept k node in
     subst (λ (g : NamedTrees). is_counted (nodes_of ps) apart
     k ≡ (is_element (kind_of g.trees (name_at g.names k)) && not (option_map_or (λ j. eqb k j) apart false))) is
     (by apart (λ j e. let below = within is kept j (inside j e) in omega (arith, kept.paired))
@@ -198,7 +195,6 @@ is_counted-split {f = f} {ps = ps} {lists = lists} {keys = keys} is kept k apart
         (is_element (node_at (nodes_of ps) k).kind && not (option_map_or (λ j. eqb k j) o false))
     by None inside' = refl
     by (Some j) inside' =
-        let here = within is kept k node in
         ap (λ b. is_element (node_at (nodes_of ps) k).kind && not b)
         (name_of_key-eq (IsWhole-kept kept) k j (omega (arith, kept.paired)) (inside' j refl))
 

@@ -90,6 +90,20 @@ within_names {f = f} {ps = ps} is kept x node =
     let as_long : length f.names ≡ length ps = ap (λ (g : NamedTrees). length g.names) (sym is) ∙ length-map ps (λ s. s.name) in
     omega arith
 
+module _ {f : NamedTrees} {ps : List Stored} {lists : List (List ℕ)} {keys : Owner → List ℕ} (is : seen ps lists ≡ f) (kept : IsKept ps lists keys) where
+  -- the node in whose list a node stands is its parent in the trees
+  pub shows_parent : (x : ℕ) {r : Option ℕ} → x < length f.names → r ≡ parent_of lists x →
+      option_map (name_at f.names) r ≡ parent_in f.trees (name_at f.names x)
+  shows_parent x node found = shows is kept {read = parent_in} {key_read = parent_of} (record { agree = parent_in-at }) x node found
+
+  pub shows_child : (k : ℕ) {p : ℕ} → k < length ps → parent_of lists k ≡ Some p → parent_in f.trees (name_at f.names k) ≡ Some (name_at f.names p)
+  shows_child k node found = sym (shows_parent k (within_names is kept k node) (sym found))
+
+  pub shows_sibling : (x k : ℕ) → x < length f.names → k < length ps → parent_of lists k ≡ parent_of lists x →
+      parent_in f.trees (name_at f.names k) ≡ parent_in f.trees (name_at f.names x)
+  shows_sibling x k at_x at_k same =
+      sym (shows_parent k (within_names is kept k at_k) refl) ∙ ap (option_map (name_at f.names)) same ∙ shows_parent x at_x refl
+
 -- what is stored of a node is its node in the trees
 pub node_at-stored : (names : List NodeName) (ps : List Stored) (x : ℕ) (s : Stored) → slice_get ps x ≡ Some s →
     node_at (nodes_with names ps) x ≡ node_with names s.name s.node
@@ -175,6 +189,18 @@ pub record LinkShown (f : NamedTrees) (parent child : ℕ) (before : Option ℕ)
   pub not_above : is_inclusive_ancestor f.trees (name_at f.names child) (name_at f.names parent) ≡ false
   pub before_is_node : ForSome before (λ b. b < length f.names)
   pub before_is_child : ForSome before (λ b. parent_in f.trees (name_at f.names b) ≡ Some (name_at f.names parent))
+
+pub link_shown : {f : NamedTrees} {p c : ℕ} {before : Option ℕ} → p < length f.names → c < length f.names → parent_in f.trees (name_at f.names c) ≡ None →
+    is_inclusive_ancestor f.trees (name_at f.names c) (name_at f.names p) ≡ false → ForSome before (λ b. b < length f.names) →
+    ForSome before (λ b. parent_in f.trees (name_at f.names b) ≡ Some (name_at f.names p)) → LinkShown f p c before
+link_shown at_p at_c unlinked not_above nodes children = record {
+  parent_is_node = at_p;
+  child_is_node = at_c;
+  unlinked = unlinked;
+  not_above = not_above;
+  before_is_node = nodes;
+  before_is_child = children;
+}
 
 -- and what that says of the lists
 pub record LinkMeant (lists : List (List ℕ)) (parent child : ℕ) (before : Option ℕ) : Type 0 where

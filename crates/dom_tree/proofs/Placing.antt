@@ -8,14 +8,14 @@ use Rattle.std.proofs.lemmas.Bool.Decides.{eqb_tells}
 use Rattle.node_arena.specs.contracts.key.KeyPartialEq.TheImpl as KeyImpl
 use Rattle.dom_base.specs.declared.Owner.{Owner}
 use Rattle.dom_model.specs.Names.{name_eq}
-use Rattle.dom_model.specs.Tree.{Node, kind_of, is_fragment, child_nodes, parent_of as parent_in}
+use Rattle.dom_model.specs.Tree.{Node, kind_of, is_fragment, child_nodes}
 use Rattle.dom_model.specs.Validity.{without_given, element_count, has_text, has_parent, breaks_document}
 use Rattle.node_arena.specs.Nodes.{parent_of}
 use Rattle.dom_tree.specs.Contents.{Stored}
 use Rattle.dom_tree.specs.Forest.{NamedTrees, IsKept, stored_names, nodes_of, name_at}
 use Rattle.dom_tree.proofs.Rows.{name_of_key}
-use Rattle.dom_tree.proofs.Reading.{name_of_key-eq, parent_in-at}
-use Rattle.dom_tree.proofs.Kept.{seen, IsWhole-kept, name_at-same, within, shows}
+use Rattle.dom_tree.proofs.Reading.{name_of_key-eq}
+use Rattle.dom_tree.proofs.Kept.{seen, IsWhole-kept, name_at-same, within, shows_parent}
 
 -- where none is given, no node goes
 pub without_given-none : (ns : List Node) → without_given None ns ≡ ns
@@ -71,7 +71,7 @@ module _ {f : NamedTrees} {ps : List Stored} {lists : List (List ℕ)} {keys : O
       → not (option_eq KeyImpl.ghosts.eq r (Some p)) ≡ not (has_parent f.trees (name_at f.names p) (name_at f.names x))
   lost_test x r at_p at_x found inside =
       ap not (by r inside ∙ ap (λ o. option_map_or (name_eq (name_at f.names p)) o false)
-      (shows is kept {read = parent_in} {key_read = parent_of} (record { agree = parent_in-at }) x at_x found))
+      (shows_parent is kept x at_x found))
     where
       by : (o : Option ℕ) → ((q : ℕ) → o ≡ Some q → q < length f.names) →
           option_eq KeyImpl.ghosts.eq o (Some p) ≡ option_map_or (name_eq (name_at f.names p)) (option_map (name_at f.names) o) false

@@ -19,7 +19,7 @@ use Rattle.dom_tree.proofs.Rows.{name_of_key}
 use Rattle.dom_tree.proofs.Changes.{linked, contains-insert_before}
 use Rattle.dom_tree.proofs.Reading.{parent_in-at, children_in-at, inclusive_ancestors-at}
 use Rattle.dom_tree.proofs.Walks.{off_from}
-use Rattle.dom_tree.proofs.Kept.{seen, within, names_option, name_at-same, IsWhole-kept, kept_with, above-at, ancestors_nodes, shows}
+use Rattle.dom_tree.proofs.Kept.{seen, within, names_option, name_at-same, IsWhole-kept, kept_with, above-at, ancestors_nodes, shows_parent}
 
 -- ---- in the lists
 
@@ -139,7 +139,7 @@ module _ {f : NamedTrees} {a b : Nodes Stored} {keys : Owner → List ℕ} (is :
       parent_in (trees_of (nodes_of b.payloads) b.children) (name_at f.names k) ≡ parent_in f.trees (name_at f.names k)
   moved_parents c apart k node other =
       parent_shown k node (parent_of a.children k) (parent_of_same b.children a.children k (apart k other))
-      ∙ shows is kept {read = parent_in} {key_read = parent_of} (record { agree = parent_in-at }) k node refl
+      ∙ shows_parent is kept k node refl
 
 -- a node taken out of its list stands in none
 pub unlinked_apart : (lists : List (List ℕ)) (c : ℕ) → AreSameBut c lists (map (without c) lists)

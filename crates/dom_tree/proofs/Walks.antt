@@ -8,7 +8,7 @@ use Rattle.dom_base.specs.declared.Owner.{Owner}
 use Rattle.dom_base.specs.declared.NodeName.{NodeName}
 use Rattle.dom_model.specs.Names.{last_of, name_eq, items_before}
 use Rattle.dom_model.specs.Tree.{Node, root_of, is_inclusive_ancestor, index_of, children_of as children_in}
-use Rattle.node_arena.specs.Nodes.{contains, parent_of, children_of, ancestors_of, IsForest, IsOnce, last_from, head_of, next_in, next_of}
+use Rattle.node_arena.specs.Nodes.{Nodes, contains, parent_of, children_of, ancestors_of, IsForest, IsOnce, last_from, head_of, next_in, next_of}
 use Rattle.node_arena.specs.Nodes.{place_in, place_of}
 use Rattle.node_arena.proofs.Lists.{contains-head, length-IsOnce, contains-next_in}
 use Rattle.node_arena.proofs.Indexes.{place_in-within, place_of-root, place_of-child}
@@ -50,6 +50,11 @@ root_of-at nodes lists whole x node =
     mapped None = refl
     mapped (Some k) = refl
 
+-- a parent has fewer nodes above it
+pub fewer_above : {lists : List (List ℕ)} → IsForest lists → (x p : ℕ) → Some p ≡ parent_of lists x →
+    length (ancestors_of lists p) < length (ancestors_of lists x)
+fewer_above {lists} forest x p is = omega (arith, ap (length {A = ℕ}) (ancestors_of-child lists forest x p (sym is)))
+
 -- ---- the answers
 
 module _ {f : NamedTrees} {ps : List Stored} {lists : List (List ℕ)} {keys : Owner → List ℕ} (is : seen ps lists ≡ f) (kept : IsKept ps lists keys) where
@@ -88,6 +93,16 @@ pub record InTree (ps : List Stored) (lists : List (List ℕ)) (top x : ℕ) : T
   pub above : contains (x ∷ ancestors_of lists x) top ≡ true
   pub top_is_node : top < length lists
   pub whole : IsWhole (nodes_of ps) lists
+
+-- what is found at a node, in the tree of another one
+abbrev pub Finds : Type 0
+Finds = List Node → List (List ℕ) → ℕ → ℕ → Option ℕ
+
+-- a walk that began at a node has come to x, below `top`, where it finds what is sought at that node
+abbrev pub IsOnWay : Finds → Finds → Nodes Stored → ℕ → ℕ → ℕ → Type 0
+IsOnWay found sought a top key x =
+    (x < length a.payloads) × (contains (x ∷ ancestors_of a.children x) top ≡ true) ×
+    (found (nodes_of a.payloads) a.children top x ≡ sought (nodes_of a.payloads) a.children top key)
 
 pub in_tree : {f : NamedTrees} {ps : List Stored} {lists : List (List ℕ)} {keys : Owner → List ℕ} → seen ps lists ≡ f → IsKept ps lists keys
     → {top x : ℕ} → top < length f.names → x < length f.names → is_inclusive_ancestor f.trees (name_at f.names top) (name_at f.names x) ≡ true →
@@ -208,28 +223,23 @@ next_place (x ∷ xs) k once found = elim (cases_Bool (eqb x k)) [
         let apart : eqb x s ≡ false = false_from_ne_true _ (λ same. both_ways _ once.0 (ap (contains xs) (eqb-true x s same) ∙ contains-next_in xs k s e)) in
         rw apart (omega arith)
 
-pub children_left-next : {lists : List (List ℕ)} → IsForest lists → (p k : ℕ) {r : Option ℕ} → contains (children_of lists p) k ≡ true → r ≡ next_of lists k
-    → suc (children_left (children_of lists p) r) ≡ children_left (children_of lists p) (Some k)
-unfolding children_left
-children_left-next {lists} forest p k {r} child is =
-    let e : r ≡ next_in (children_of lists p) k =
-    is ∙ ap (option_and_then (λ q. next_in (children_of lists q) k)) (parent_of_is lists forest.one_list p k child) in
-    ap (λ o. suc (option_map_or (λ j. length (children_of lists p) - place_in (children_of lists p) j) o 0)) e ∙
-    next_place (children_of lists p) k (forest.once p) child
+-- a step to the next sibling, in a walk over the children of p
+module _ {lists : List (List ℕ)} (forest : IsForest lists) (p : ℕ) {at : Option ℕ} (among : ForSome at (λ k. contains (children_of lists p) k ≡ true))
+    (k : ℕ) (is : at ≡ Some k) where
+  pub next_child : {next : Option ℕ} → next ≡ next_of lists k → next ≡ next_in (children_of lists p) k
+  next_child step = step ∙ ap (option_and_then (λ q. next_in (children_of lists q) k)) (parent_of_is lists forest.one_list p k (among k is))
 
--- so fewer children are left after a step to the next sibling
-pub children_left-fewer : {lists : List (List ℕ)} → IsForest lists → (p : ℕ) {at next : Option ℕ} → ForSome at (λ k. contains (children_of lists p) k ≡ true) →
-    (k : ℕ) → at ≡ Some k → next ≡ next_of lists k → children_left (children_of lists p) next < children_left (children_of lists p) at
-children_left-fewer {lists} forest p among k is step =
-    let next = children_left-next forest p k (among k is) step in
-    let here = ap (children_left (children_of lists p)) is in
-    omega arith
+  pub children_left-next : {next : Option ℕ} → next ≡ next_of lists k → suc (children_left (children_of lists p) next) ≡ children_left (children_of lists p) at
+  unfolding children_left
+  children_left-next step =
+      ap (λ o. suc (option_map_or (λ j. length (children_of lists p) - place_in (children_of lists p) j) o 0)) (next_child step) ∙
+      next_place (children_of lists p) k (forest.once p) (among k is) ∙ sym (ap (children_left (children_of lists p)) is)
 
-pub among-next : {lists : List (List ℕ)} → IsForest lists → (p k : ℕ) {s : ℕ} {r : Option ℕ} → contains (children_of lists p) k ≡ true →
-    r ≡ next_of lists k → r ≡ Some s → contains (children_of lists p) s ≡ true
-among-next {lists} forest p k {s} child is e =
-    contains-next_in (children_of lists p) k s
-    (sym (is ∙ ap (option_and_then (λ q. next_in (children_of lists q) k)) (parent_of_is lists forest.one_list p k child)) ∙ e)
+  pub children_left-fewer : {next : Option ℕ} → next ≡ next_of lists k → children_left (children_of lists p) next < children_left (children_of lists p) at
+  children_left-fewer step = omega (arith, children_left-next step)
+
+  pub among-next : {next : Option ℕ} → next ≡ next_of lists k → ForSome next (λ s. contains (children_of lists p) s ≡ true)
+  among-next step s e = contains-next_in (children_of lists p) k s (sym (next_child step) ∙ e)
 
 pub shows_children : {f : NamedTrees} {ps : List Stored} {lists : List (List ℕ)} {keys : Owner → List ℕ} → seen ps lists ≡ f → IsKept ps lists keys
     → (x : ℕ) → x < length f.names → children_in f.trees (name_at f.names x) ≡ map (name_at f.names) (children_of lists x)

@@ -70,10 +70,10 @@ impl KeyTable {
             return self.page.reserve(1);
         }
         self.begin(owner)?;
-        if let Some(keys) = self.components.get_mut(&owner) {
-            keys.reserve(1)?;
+        match self.components.get_mut(&owner) {
+            Some(keys) => keys.reserve(1),
+            None => Ok(()),
         }
-        Ok(())
     }
 
     /// Gives a component a list of keys, without a key where it had none.

@@ -3,8 +3,8 @@ use Rattle.std.proofs.lemmas.List.{length-map}
 use Rattle.node_arena.specs.Nodes.{children_of}
 use Rattle.node_arena.proofs.Lists.{contains-head_of}
 use Rattle.dom_tree.specs.Forest.{name_at}
-use Rattle.dom_tree.proofs.Walks.{children_left, children_left-none, children_left-head, children_left-next, children_left-fewer}
-use Rattle.dom_tree.proofs.Walks.{among-next, few_children, shows_children, none_left}
+use Rattle.dom_tree.proofs.Walks.{children_left, children_left-none, children_left-head, children_left-next}
+use Rattle.dom_tree.proofs.Walks.{children_left-fewer, among-next, few_children, shows_children, none_left}
 use Rattle.dom_tree.proofs.Kept.{within}
 use Rattle.dom_tree.proofs.forest.Forest.child_count.Goals as goal
 
@@ -21,10 +21,7 @@ overflow_add-count c =
     let inside = within c.self.view_is c.self.invariant c.args.key c.requires in
     let paired = c.self.invariant.paired in
     let below = few_children c.self.inside.arena.children c.self.invariant.forest c.args.key (omega arith) in
-    let child = c.loop-at.invariant.1 c.in-Some.child c.in-Some.is in
-    let next = children_left-next c.self.invariant.forest c.args.key c.in-Some.child
-    child refl in
-    let here = ap (children_left (children_of c.self.inside.arena.children c.args.key)) c.in-Some.is in
+    let next = children_left-next c.self.invariant.forest c.args.key c.loop-at.invariant.1 c.in-Some.child c.in-Some.is refl in
     omega (arith, c.loop-at.invariant.2)
 
 pub loop-at-smaller : goal.loop-at-smaller
@@ -33,13 +30,9 @@ loop-at-smaller c =
 
 pub loop-at-preserved : goal.loop-at-preserved
 loop-at-preserved c =
-    let child = c.loop-at.invariant.1 c.in-Some.child c.in-Some.is in
-    let next = children_left-next c.self.invariant.forest c.args.key c.in-Some.child child
-    c.next-at.ensures.value in
-    let here = ap (children_left (children_of c.self.inside.arena.children c.args.key)) c.in-Some.is in (
+    let next = children_left-next c.self.invariant.forest c.args.key c.loop-at.invariant.1 c.in-Some.child c.in-Some.is c.next-at.ensures.value in (
       c.next-at.ensures.node,
-      (λ s e. among-next c.self.invariant.forest c.args.key c.in-Some.child
-          child c.next-at.ensures.value e),
+      among-next c.self.invariant.forest c.args.key c.loop-at.invariant.1 c.in-Some.child c.in-Some.is c.next-at.ensures.value,
       omega (arith, c.loop-at.invariant.2),
     )
 

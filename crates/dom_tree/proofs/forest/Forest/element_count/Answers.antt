@@ -4,7 +4,7 @@ use Rattle.node_arena.specs.Nodes.{children_of, next_of}
 use Rattle.node_arena.proofs.Lists.{contains-head_of}
 use Rattle.dom_tree.specs.Forest.{nodes_of}
 use Rattle.dom_tree.proofs.Walks.{children_left-fewer, among-next, few_children, none_left}
-use Rattle.dom_tree.proofs.Kept.{within, within_names}
+use Rattle.dom_tree.proofs.Kept.{within}
 use Rattle.dom_tree.proofs.Children.{rest_of, rest_of-none, rest_of-head, rest_of-next, tally, tally-nil, tally-yes, tally-no, tally-length}
 use Rattle.dom_tree.proofs.Children.{is_counted, is_counted-split, apart_test, shows_element_count}
 use Rattle.dom_tree.proofs.forest.Forest.element_count.Goals as goal
@@ -25,23 +25,20 @@ overflow_add-count c =
     let inside = within c.self.view_is c.self.invariant c.args.key c.requires.key_is_node in
     let paired = c.self.invariant.paired in
     let below = few_children c.self.inside.arena.children c.self.invariant.forest c.args.key (omega arith) in
-    let child = c.loop-at.invariant.1 c.in-Some.child c.in-Some.is in
-    let node = within_names c.self.view_is c.self.invariant c.in-Some.child (c.loop-at.invariant.0 c.in-Some.child c.in-Some.is) in
-    let rest = rest_of-next c.self.invariant.forest c.args.key c.in-Some.child
-    child refl in
-    let was = ap (tally (is_counted (nodes_of c.self.inside.arena.payloads) c.args.apart))
-    (ap (rest_of (children_of c.self.inside.arena.children c.args.key)) c.in-Some.is ∙ rest) in
-    let on : (is_counted (nodes_of c.self.inside.arena.payloads) c.args.apart) c.in-Some.child ≡ true =
-    is_counted-split c.self.view_is c.self.invariant c.in-Some.child c.args.apart node c.requires.apart_is_node ∙
+    let rest = rest_of-next c.self.invariant.forest c.args.key c.loop-at.invariant.1 c.in-Some.child c.in-Some.is refl in
+    let counted = is_counted (nodes_of c.self.inside.arena.payloads) c.args.apart in
+    let was = ap (tally counted) rest in
+    let on : counted c.in-Some.child ≡ true =
+    is_counted-split c.self.view_is c.self.invariant c.in-Some.child c.args.apart
+    (c.loop-at.invariant.0 c.in-Some.child c.in-Some.is) c.requires.apart_is_node ∙
     and_from _ _ (sym c.if-is_element.ensures) (sym (c.if-ne.ensures ∙ ap not (apart_test c.args.apart c.in-Some.child))) in
     omega (
       arith,
       was,
       c.loop-at.invariant.2,
-      tally-yes (is_counted (nodes_of c.self.inside.arena.payloads) c.args.apart) c.in-Some.child
+      tally-yes counted c.in-Some.child
           (rest_of (children_of c.self.inside.arena.children c.args.key) (next_of c.self.inside.arena.children c.in-Some.child)) on,
-      tally-length
-          (is_counted (nodes_of c.self.inside.arena.payloads) c.args.apart) (children_of c.self.inside.arena.children c.args.key),
+      tally-length counted (children_of c.self.inside.arena.children c.args.key),
     )
 
 pub loop-at-smaller : goal.loop-at-smaller
@@ -50,50 +47,25 @@ loop-at-smaller c =
 
 pub loop-at-preserved : goal.loop-at-preserved
 loop-at-preserved c =
-    let child = c.loop-at.invariant.1 c.in-Some.child c.in-Some.is in
-    let node = within_names c.self.view_is c.self.invariant c.in-Some.child (c.loop-at.invariant.0 c.in-Some.child c.in-Some.is) in
-    let rest = rest_of-next c.self.invariant.forest c.args.key c.in-Some.child child c.next-at.ensures.value in
-    let was = ap (tally (is_counted (nodes_of c.self.inside.arena.payloads) c.args.apart))
-    (ap (rest_of (children_of c.self.inside.arena.children c.args.key)) c.in-Some.is ∙ rest) in
-    let split = is_counted-split c.self.view_is c.self.invariant c.in-Some.child c.args.apart node c.requires.apart_is_node in (
+    let counted = is_counted (nodes_of c.self.inside.arena.payloads) c.args.apart in
+    let left = rest_of (children_of c.self.inside.arena.children c.args.key) c.next-at.result in
+    let rest = rest_of-next c.self.invariant.forest c.args.key c.loop-at.invariant.1 c.in-Some.child c.in-Some.is c.next-at.ensures.value in
+    let was = ap (tally counted) rest in
+    let split = is_counted-split c.self.view_is c.self.invariant c.in-Some.child c.args.apart
+    (c.loop-at.invariant.0 c.in-Some.child c.in-Some.is) c.requires.apart_is_node in (
       c.next-at.ensures.node,
-      (λ s e. among-next c.self.invariant.forest c.args.key c.in-Some.child child c.next-at.ensures.value e),
+      among-next c.self.invariant.forest c.args.key c.loop-at.invariant.1 c.in-Some.child c.in-Some.is c.next-at.ensures.value,
       elim c.if-is_element.branch [
         | then-is_element+then-ne w ↦
-            let on : (is_counted (nodes_of c.self.inside.arena.payloads) c.args.apart) c.in-Some.child ≡ true =
-            split ∙ and_from _ _ (sym w.if-is_element.ensures) (sym (w.if-ne.ensures ∙ ap not (apart_test c.args.apart c.in-Some.child))) in
-            omega (
-              arith,
-              w.count-is,
-              was,
-              c.loop-at.invariant.2,
-              tally-yes (is_counted (nodes_of c.self.inside.arena.payloads) c.args.apart)
-                  c.in-Some.child (rest_of (children_of c.self.inside.arena.children c.args.key) c.next-at.result) on,
-            )
-        | else-is_element w ↦ elim w.else-is_element.branch [
-          | else-is_element-via-then-is_element+else-ne w' ↦
-              let off : (is_counted (nodes_of c.self.inside.arena.payloads) c.args.apart) c.in-Some.child ≡ false =
-              split ∙ and_right _ _ (sym (w'.if-ne.ensures ∙ ap not (apart_test c.args.apart c.in-Some.child))) in
-              omega (
-                arith,
-                w.count-is,
-                was,
-                c.loop-at.invariant.2,
-                tally-no (is_counted (nodes_of c.self.inside.arena.payloads) c.args.apart)
-                    c.in-Some.child (rest_of (children_of c.self.inside.arena.children c.args.key) c.next-at.result) off,
-              )
-          | else-is_element-via-else-is_element w' ↦
-              let off : (is_counted (nodes_of c.self.inside.arena.payloads) c.args.apart) c.in-Some.child ≡ false =
-              split ∙ and_left _ _ (sym w'.if-is_element.ensures) in
-              omega (
-                arith,
-                w.count-is,
-                was,
-                c.loop-at.invariant.2,
-                tally-no (is_counted (nodes_of c.self.inside.arena.payloads) c.args.apart)
-                    c.in-Some.child (rest_of (children_of c.self.inside.arena.children c.args.key) c.next-at.result) off,
-              )
-        ]
+            let on = split ∙ and_from _ _ (sym w.if-is_element.ensures) (sym (w.if-ne.ensures ∙ ap not (apart_test c.args.apart c.in-Some.child))) in
+            omega (arith, w.count-is, was, c.loop-at.invariant.2, tally-yes counted c.in-Some.child left on)
+        | else-is_element w ↦
+            let off : counted c.in-Some.child ≡ false = split ∙ elim w.else-is_element.branch [
+              | else-is_element-via-then-is_element+else-ne w' ↦
+                  and_right _ _ (sym (w'.if-ne.ensures ∙ ap not (apart_test c.args.apart c.in-Some.child)))
+              | else-is_element-via-else-is_element w' ↦ and_left _ _ (sym w'.if-is_element.ensures)
+            ] in
+            omega (arith, w.count-is, was, c.loop-at.invariant.2, tally-no counted c.in-Some.child left off)
       ],
     )
 

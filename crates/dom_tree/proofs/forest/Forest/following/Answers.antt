@@ -1,10 +1,9 @@
-use Rattle.std.proofs.Common.{ℕ, length, ap, sym, ◌∙◌, arith, refl}
+use Rattle.std.proofs.Common.{ap, sym, ◌∙◌, refl}
 use Rattle.node_arena.specs.Nodes.{children_of}
-use Rattle.node_arena.proofs.Forests.{ancestors_of-child}
 use Rattle.dom_tree.specs.Forest.{nodes_of}
 use Rattle.dom_tree.proofs.Kept.{within}
 use Rattle.dom_tree.proofs.Within.{following_within}
-use Rattle.dom_tree.proofs.Walks.{in_tree, none_left, asked_above}
+use Rattle.dom_tree.proofs.Walks.{fewer_above, in_tree, none_left, asked_above}
 use Rattle.dom_tree.proofs.OrderWithin.{shows_following, behind_in, behind_in-top, behind_in-here, behind_in-parent, still_below, has_above, head_or-here}
 use Rattle.dom_tree.proofs.OrderWithin.{head_or-lacking, lacks, told_apart, told_same}
 use Rattle.dom_tree.proofs.forest.Forest.following.Goals as goal
@@ -43,10 +42,7 @@ returns-in_default-clause-value c =
     c.loop-self.invariant.1 (sym c.parent.ensures.value ∙ none_left c.parent.result c.in_default.not-Some))
 
 pub loop-self-smaller : goal.loop-self-smaller
-loop-self-smaller c =
-    let up = ap (length {A = ℕ}) (ancestors_of-child c.self.inside.arena.children c.self.invariant.forest c.loop-self.at c.in-Some.parent
-    (sym c.in-Some.ensures.value)) in
-    omega (arith, up)
+loop-self-smaller c = fewer_above c.self.invariant.forest c.loop-self.at c.in-Some.parent c.in-Some.ensures.value
 
 pub loop-self-preserved : goal.loop-self-preserved
 loop-self-preserved c =

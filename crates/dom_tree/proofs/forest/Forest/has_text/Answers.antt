@@ -6,7 +6,6 @@ use Rattle.dom_tree.specs.Forest.{nodes_of}
 use Rattle.dom_tree.proofs.Walks.{children_left-fewer, among-next, none_left}
 use Rattle.dom_tree.proofs.Children.{rest_of, rest_of-none, rest_of-head, rest_of-next, any_of, any_of-nil, any_of-cons, is_text_key, shows_text}
 use Rattle.dom_tree.proofs.Children.{shows_has_text}
-use Rattle.dom_tree.proofs.Kept.{within_names}
 use Rattle.dom_tree.proofs.forest.Forest.has_text.Goals as goal
 
 pub loop-at-init : goal.loop-at-init
@@ -19,16 +18,12 @@ loop-at-init c = (
 
 pub returns-then-is_text : goal.returns-then-is_text
 returns-then-is_text c =
-    let child = c.loop-at.invariant.1 c.in-Some.child c.in-Some.is in
-    let node = within_names c.self.view_is c.self.invariant c.in-Some.child (c.loop-at.invariant.0 c.in-Some.child c.in-Some.is) in
-    let here = sym (shows_text c.self.view_is c.self.invariant c.in-Some.child node) ∙ sym c.if-is_text.ensures in
-    let rest = rest_of-next c.self.invariant.forest c.args.key c.in-Some.child
-    child refl in
-    sym (sym c.loop-at.invariant.2 ∙ (ap
-    (λ o. any_of (is_text_key (nodes_of c.self.inside.arena.payloads)) (rest_of (children_of c.self.inside.arena.children c.args.key) o))
-    c.in-Some.is ∙ (ap (any_of (is_text_key (nodes_of c.self.inside.arena.payloads))) rest ∙
+    let shown = shows_text c.self.view_is c.self.invariant c.in-Some.child (c.loop-at.invariant.0 c.in-Some.child c.in-Some.is) in
+    let here = sym shown ∙ sym c.if-is_text.ensures in
+    let rest = rest_of-next c.self.invariant.forest c.args.key c.loop-at.invariant.1 c.in-Some.child c.in-Some.is refl in
+    sym (sym c.loop-at.invariant.2 ∙ (ap (any_of (is_text_key (nodes_of c.self.inside.arena.payloads))) rest ∙
     (any_of-cons (is_text_key (nodes_of c.self.inside.arena.payloads)) c.in-Some.child
-    (rest_of (children_of c.self.inside.arena.children c.args.key) (next_of c.self.inside.arena.children c.in-Some.child)) ∙ or_left _ _ here))))
+    (rest_of (children_of c.self.inside.arena.children c.args.key) (next_of c.self.inside.arena.children c.in-Some.child)) ∙ or_left _ _ here)))
     ∙ shows_has_text c.self.view_is c.self.invariant c.args.key c.requires
 
 pub loop-at-smaller : goal.loop-at-smaller
@@ -37,19 +32,16 @@ loop-at-smaller c =
 
 pub loop-at-preserved : goal.loop-at-preserved
 loop-at-preserved c =
-    let child = c.loop-at.invariant.1 c.in-Some.child c.in-Some.is in
-    let node = within_names c.self.view_is c.self.invariant c.in-Some.child (c.loop-at.invariant.0 c.in-Some.child c.in-Some.is) in
-    let here = sym (shows_text c.self.view_is c.self.invariant c.in-Some.child node) ∙ sym c.if-is_text.ensures in
-    let rest = rest_of-next c.self.invariant.forest c.args.key c.in-Some.child child c.next-at.ensures.value in (
+    let shown = shows_text c.self.view_is c.self.invariant c.in-Some.child (c.loop-at.invariant.0 c.in-Some.child c.in-Some.is) in
+    let here = sym shown ∙ sym c.if-is_text.ensures in
+    let rest = rest_of-next c.self.invariant.forest c.args.key c.loop-at.invariant.1 c.in-Some.child c.in-Some.is c.next-at.ensures.value in (
       c.next-at.ensures.node,
-      (λ s e. among-next c.self.invariant.forest c.args.key c.in-Some.child child c.next-at.ensures.value e),
+      among-next c.self.invariant.forest c.args.key c.loop-at.invariant.1 c.in-Some.child c.in-Some.is c.next-at.ensures.value,
       sym (ap (λ b. b || any_of (is_text_key (nodes_of c.self.inside.arena.payloads))
           (rest_of (children_of c.self.inside.arena.children c.args.key) c.next-at.result)) here) ∙
           (sym (any_of-cons (is_text_key (nodes_of c.self.inside.arena.payloads)) c.in-Some.child
           (rest_of (children_of c.self.inside.arena.children c.args.key) c.next-at.result)) ∙
-          (sym (ap (any_of (is_text_key (nodes_of c.self.inside.arena.payloads))) rest) ∙
-          (sym (ap (λ o. any_of (is_text_key (nodes_of c.self.inside.arena.payloads))
-          (rest_of (children_of c.self.inside.arena.children c.args.key) o)) c.in-Some.is) ∙ c.loop-at.invariant.2))),
+          (sym (ap (any_of (is_text_key (nodes_of c.self.inside.arena.payloads))) rest) ∙ c.loop-at.invariant.2)),
     )
 
 pub returns : goal.returns

@@ -6,7 +6,7 @@ use Rattle.dom_model.specs.Tree.{children_of as children_in}
 use Rattle.dom_laws.specs.Siblings.{put_name}
 use Rattle.dom_tree.specs.Contents.{Stored}
 use Rattle.dom_tree.specs.Forest.{name_at}
-use Rattle.dom_tree.proofs.Kept.{link_asked, link_done, kept_with, within}
+use Rattle.dom_tree.proofs.Kept.{link_shown, link_asked, link_done, kept_with, within}
 use Rattle.dom_tree.proofs.Stays.{AreSameBut, moved_above, moved_parents, parent_shown, linked_apart, linked_parent}
 use Rattle.dom_tree.proofs.ChildLists.{children_linked, children_beside, put-first, put-last}
 use Rattle.dom_tree.proofs.Holds.{held_along}
@@ -14,14 +14,8 @@ use Rattle.dom_tree.proofs.forest.Forest.link_before.Goals as goal
 
 pub link_before-requires : goal.link_before-requires
 link_before-requires c =
-    let meant = link_asked c.self.inside.arena c.self.view_is c.self.invariant (record {
-      parent_is_node = c.requires.parent_is_node;
-      child_is_node = c.requires.child_is_node;
-      unlinked = c.requires.unlinked;
-      not_above = c.requires.not_above;
-      before_is_node = c.requires.before_is_node;
-      before_is_child = c.requires.before_is_child;
-    }) in
+    let meant = link_asked c.self.inside.arena c.self.view_is c.self.invariant (link_shown c.requires.parent_is_node c.requires.child_is_node
+    c.requires.unlinked c.requires.not_above c.requires.before_is_node c.requires.before_is_child) in
     record {
       parent_is_node = within c.self.view_is c.self.invariant c.args.parent c.requires.parent_is_node;
       child_is_node = within c.self.view_is c.self.invariant c.args.child c.requires.child_is_node;
@@ -47,14 +41,8 @@ returns c =
     let parent_inside : c.args.parent < length old.children = omega (arith, kept.paired) in
     let apart = subst (λ (ks : List (List ℕ)). AreSameBut c.args.child old.children ks) (sym lists)
     (linked_apart old.children c.args.parent c.args.child c.args.before parent_inside) in
-    let done = link_done old is kept (record {
-      parent_is_node = c.requires.parent_is_node;
-      child_is_node = c.requires.child_is_node;
-      unlinked = c.requires.unlinked;
-      not_above = c.requires.not_above;
-      before_is_node = c.requires.before_is_node;
-      before_is_child = c.requires.before_is_child;
-    })
+    let done = link_done old is kept (link_shown c.requires.parent_is_node c.requires.child_is_node
+    c.requires.unlinked c.requires.not_above c.requires.before_is_node c.requires.before_is_child)
     c.link_before.ensures.linked sound in
     let xs = children_in f.trees (name_at f.names c.args.parent) in
     let x = name_at f.names c.args.child in

@@ -1,15 +1,11 @@
 use Rattle.std.proofs.Common.{sym, ◌∙◌}
 use Rattle.std.proofs.lemmas.Bool.{false_from_ne_true}
-use Rattle.dom_model.specs.Tree.{parent_of as parent_in}
-use Rattle.node_arena.specs.Nodes.{parent_of}
-use Rattle.dom_tree.proofs.Reading.{parent_in-at}
-use Rattle.dom_tree.proofs.Kept.{shows, within_names}
+use Rattle.dom_tree.proofs.Kept.{shows_parent, within_names}
 use Rattle.dom_tree.proofs.Walks.{shows_above}
 use Rattle.dom_tree.proofs.forest.Forest.parent.Goals as goal
 
 pub returns-clause-value : goal.returns-clause-value
-returns-clause-value c = shows c.self.view_is c.self.invariant {read = parent_in} {key_read = parent_of} (record { agree = parent_in-at }) c.args.key
-    c.requires c.parent.ensures.value
+returns-clause-value c = shows_parent c.self.view_is c.self.invariant c.args.key c.requires c.parent.ensures.value
 
 pub returns-clause-above : goal.returns-clause-above
 returns-clause-above c = λ p e.

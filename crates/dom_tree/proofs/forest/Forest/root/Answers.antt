@@ -1,13 +1,9 @@
-use Rattle.std.proofs.Common.{ℕ, length, ap, sym, ◌∙◌, arith, refl}
-use Rattle.node_arena.proofs.Forests.{ancestors_of-child}
-use Rattle.dom_tree.proofs.Walks.{top_key-parent, shows_root, none_left}
+use Rattle.std.proofs.Common.{sym, ◌∙◌, refl}
+use Rattle.dom_tree.proofs.Walks.{fewer_above, top_key-parent, shows_root, none_left}
 use Rattle.dom_tree.proofs.forest.Forest.root.Goals as goal
 
 pub loop-parent-smaller : goal.loop-parent-smaller
-loop-parent-smaller c =
-    let up = ap (length {A = ℕ}) (ancestors_of-child c.self.inside.arena.children c.self.invariant.forest c.loop-parent.top c.in-Some.parent
-    (sym c.in-Some.ensures.value)) in
-    omega (arith, up)
+loop-parent-smaller c = fewer_above c.self.invariant.forest c.loop-parent.top c.in-Some.parent c.in-Some.ensures.value
 
 pub loop-parent-preserved : goal.loop-parent-preserved
 loop-parent-preserved c = (
