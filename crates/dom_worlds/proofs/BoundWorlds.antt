@@ -1,5 +1,5 @@
 -- Both ends of a live range have one root, and every line keeps the ends within their nodes; worlds on the way through the end of a turn.
-use Rattle.std.proofs.Common.{Some, subst, false, [], Option, None, ◌≡◌, ◌≢◌, ℕ, Bool, List, ◌∷◌, ◌++◌, fold, length, refl, sym, ◌∙◌, arith}
+use Rattle.std.proofs.Common.{Some, subst, false, [], Option, None, ◌≡◌, ◌≢◌, ℕ, Bool, List, ◌∷◌, ◌++◌, length, refl, sym, ◌∙◌, arith}
 use Rattle.std.specs.Prelude.{map}
 use Rattle.dom_model.specs.Command.{Line, EventWords, Command, part_refusal, effect}
 use Rattle.dom_model.specs.DocumentMachine.{first_world, step, run_lines, finish, part_with_root, effect_in, attaching}
@@ -7,11 +7,10 @@ use Rattle.dom_model.specs.Part.{Part, range_at}
 use Rattle.dom_model.specs.Turns.{ending_other_turn, without_signals, notified, ending_turn}
 use Rattle.dom_model.specs.World.{World, part_of, with_part, component_made, components_below, shadow_root_of}
 use Rattle.dom_worlds.specs.Tables.{EndsIn, HasTables, IsWhole}
-use Rattle.dom_worlds.specs.Wholes.{HasOneRoots, RangesHaveOneRoot, FirstHasOneRoots, StepKeepsOneRoots, EndingKeepsOneRoots, FinishKeepsOneRoots}
-use Rattle.dom_worlds.specs.Wholes.{ScriptsKeepOneRoots}
+use Rattle.dom_worlds.specs.Wholes.{HasOneRoots, RangesHaveOneRoot}
 use Rattle.dom_worlds.proofs.PlanRoots.{ends-at}
 use Rattle.dom_worlds.proofs.TableLines.{first-is_whole, step-keeps_whole, ending-keeps_whole, finish-keeps_whole, scripts-stay_whole, IsFramed, framed-keeps}
-use Rattle.dom_worlds.proofs.TableLines.{framed-of, whole-framed}
+use Rattle.dom_worlds.proofs.TableLines.{framed-of, visits-keep, whole-framed}
 use Rattle.dom_base.specs.declared.Owner.{Owner}
 use Rattle.dom_base.specs.declared.NodeName.{NodeName}
 use Rattle.dom_model.specs.Dispatch.{dispatch_in, world_visit, visits_of}
@@ -38,7 +37,8 @@ use Rattle.dom_model.specs.WorldSteps.{world_step, world_after, stepped, with_sh
 use Rattle.dom_model.proofs.OwnerLaws.{owner_eq-true, owner_eq-false}
 use Rattle.dom_model.proofs.PartLaws.{owner-part_of}
 use Rattle.dom_model.proofs.StepLaws.{owner-part_step, part_of-stepped-other}
-use Rattle.dom_worlds.specs.Bounds.{IsBounded, FirstIsBounded, StepKeepsBounds, EndingKeepsBounds, FinishKeepsBounds, ScriptsStayBounded}
+use Rattle.dom_worlds.specs.Bounds.{IsBounded, StepKeepsBounds}
+use Rattle.dom_worlds.specs.Keeping.{FirstHas, StepLeaves, EndingLeaves, FinishLeaves, ScriptsLeave}
 use Rattle.dom_worlds.proofs.Effects.{part-accepted, KeepsBase, base-effect, range-steps}
 use Rattle.dom_worlds.proofs.BoundLines.{Roomy, ForRanges, room-effect, room-same, under-at, insertion-open}
 use Rattle.dom_worlds.proofs.Bounds.{RangeUnder, reach, nowhere, HasRoom, room-document}
@@ -67,23 +67,23 @@ all-one_roots : (w : World) → IsWhole w → RangesHaveOneRoot w
 all-one_roots w h o = one_roots-of (part_of w o) (h.tables o)
 
 -- the first world
-pub first-has_one_roots : FirstHasOneRoots
+pub first-has_one_roots : FirstHas RangesHaveOneRoot
 first-has_one_roots = all-one_roots first_world first-is_whole
 
 -- each line
-pub step-keeps_one_roots : StepKeepsOneRoots
+pub step-keeps_one_roots : StepLeaves IsWhole RangesHaveOneRoot
 step-keeps_one_roots b w l r h = all-one_roots (step w l).0 (step-keeps_whole b w l r h)
 
 -- the ending of another component's turn
-pub ending-keeps_one_roots : EndingKeepsOneRoots
+pub ending-keeps_one_roots : EndingLeaves IsWhole RangesHaveOneRoot
 ending-keeps_one_roots b w o r h = all-one_roots (ending_other_turn w o).0 (ending-keeps_whole b w o r h)
 
 -- the end of input
-pub finish-keeps_one_roots : FinishKeepsOneRoots
+pub finish-keeps_one_roots : FinishLeaves IsWhole RangesHaveOneRoot
 finish-keeps_one_roots b w r h = all-one_roots (finish w).0 (finish-keeps_whole b w r h)
 
 -- scripts
-pub scripts-keep_one_roots : {L : Type 0} (read : L → Line) → ScriptsKeepOneRoots read
+pub scripts-keep_one_roots : {L : Type 0} (read : L → Line) → ScriptsLeave RangesHaveOneRoot read
 scripts-keep_one_roots read ls = all-one_roots (run_lines first_world (map read ls)).0 (scripts-stay_whole read ls)
 
 -- what holds of a world on the way
@@ -162,18 +162,17 @@ rooms-world_after o (s ∷ steps) {w} g m h r =
     (others-world_step o w s g h) (subst (λ p. HasRoom nowhere (after p steps)) (sym own) r)
 
 -- Dispatches, notifications and the endings of turns.
-rooms-visits : (e : EventWords) (vs : List (Visit NodeName)) (w : World) (d : Dispatching NodeName) → AllRooms w → AllRooms (fold (world_visit e) (w, d) vs).0
-rooms-visits e [] w d h = h
-rooms-visits e (v ∷ vs) w d h =
+rooms-visit : (e : EventWords) (v : Visit NodeName) (w : World) (d : Dispatching NodeName) → AllRooms w → AllRooms (world_visit e (w, d) v).0
+rooms-visit e v w d h =
     let o = v.current.owner in
     let p = part_of w o in
     let heard = after_invoke name_eq e (record d { listeners = p.listeners }) v in
     let q : Part = record p { listeners = heard.listeners } in
-    rooms-visits e vs (with_part w q) heard (rooms-with_part w q o (owner-part_of w o) (room-same p q refl refl (h o)) h)
+    rooms-with_part w q o (owner-part_of w o) (room-same p q refl refl (h o)) h
 
 -- a dispatch
 rooms-dispatch : (w : World) (x : NodeName) (related : Option NodeName) (e : EventWords) → AllRooms w → AllRooms (dispatch_in w x related e).run.0
-rooms-dispatch w x related e h = rooms-visits e (visits_of name_eq e.bubbles (views w x related e.composed)) w (begun []) h
+rooms-dispatch w x related e h = visits-keep AllRooms e (rooms-visit e) (visits_of name_eq e.bubbles (views w x related e.composed)) w (begun []) h
 
 -- A part with its first node alone.
 room-root : (o : Owner) (k : Kind) (d : Option NodeName) → HasRoom nowhere (part_with_root o k d)
@@ -283,12 +282,12 @@ step-keeps_bounds b w l r i h =
     let s = kept-step held-keeps held-ending_turn w l (any-line w l) (framed-of w r i, all-of w r h) in bounded-sound (step w l).0 s.0.0 s.1
 
 -- the ending of another component's turn
-pub ending-keeps_bounds : EndingKeepsBounds
+pub ending-keeps_bounds : EndingLeaves IsBounded IsBounded
 ending-keeps_bounds b w o r h =
     let s = kept-ending_other rooms-ending_turn w o (sound-of w r, all-of w r h) in bounded-sound (ending_other_turn w o).0 s.0 s.1
 
 -- the end of input
-pub finish-keeps_bounds : FinishKeepsBounds
+pub finish-keeps_bounds : FinishLeaves IsBounded IsBounded
 finish-keeps_bounds b w r h = let s = kept-finish rooms-ending_turn w (sound-of w r, all-of w r h) in bounded-sound (finish w).0 s.0 s.1
 
 -- the first world
@@ -297,11 +296,11 @@ rooms-first Page = room-root Page Document None
 rooms-first (Component k) = record { bounds = tt; leaves = λ y g. refl }
 
 -- is bounded
-pub first-is_bounded : FirstIsBounded
+pub first-is_bounded : FirstHas IsBounded
 first-is_bounded = bounded-sound first_world (sound-of first_world (first-is_reached false)) rooms-first
 
 -- scripts
-pub scripts-stay_bounded : {L : Type 0} (read : L → Line) → ScriptsStayBounded read
+pub scripts-stay_bounded : {L : Type 0} (read : L → Line) → ScriptsLeave IsBounded read
 scripts-stay_bounded read ls =
     let s = kept-lines held-keeps held-ending_turn any-line read ls first_world
     (framed-of first_world (first-is_reached false) first-is_whole, rooms-first) in bounded-sound (run_lines first_world (map read ls)).0 s.0.0 s.1

@@ -132,6 +132,19 @@ below-parent {x} n c r e h =
     ap (λ p. first_of (drop 1 p)) (cond-false (name_eq n.name x) (x ∷ []) (on_top (inclusive_ancestors c x) n.name (inclusive_ancestors r x)) e ∙
     ap (λ p. on_top p n.name (inclusive_ancestors r x)) h)
 
+module _ (n : Node) (c r : Trees) (x parent : NodeName) where
+  -- a root has none
+  root-orphan : name_eq n.name x ≡ true → parent_of (tree n c r) x ≡ Some parent → ⊥
+  root-orphan e h =
+      let is : first_of (drop 1 (x ∷ [])) ≡ Some parent = sym
+      (ap (λ p. first_of (drop 1 p)) (cond-true (name_eq n.name x) (x ∷ []) (on_top (inclusive_ancestors c x) n.name (inclusive_ancestors r x)) e)) ∙ h in cc
+
+  -- the parent in the trees after the first
+  beside-parent : name_eq n.name x ≡ false → times_in c x ≡ 0 → parent_of (tree n c r) x ≡ Some parent → parent_of r x ≡ Some parent
+  beside-parent e z h =
+      sym (ap (λ p. first_of (drop 1 p)) (cond-false (name_eq n.name x) (x ∷ []) (on_top (inclusive_ancestors c x) n.name (inclusive_ancestors r x))
+      e ∙ ap (λ p. on_top p n.name (inclusive_ancestors r x)) (path_none c x z))) ∙ h
+
 -- A child that is taken out of its tree: one less of its parent's.
 kids-taken : (ts : Trees) (x parent y : NodeName) → Once ts → parent_of ts x ≡ Some parent →
     (kids (without x ts) y + kids (subtree ts x) y + one_at parent y ≡ kids ts y) × (rooted (without x ts) ≡ rooted ts)
@@ -140,15 +153,11 @@ kids-taken (tree n c r) x parent y u h =
     let once = u x in
     let parts = once_parts n c r u in
     by_cases (name_eq n.name x)
-    (λ e. let is : first_of (drop 1 (x ∷ [])) ≡ Some parent = sym
-    (ap (λ p. first_of (drop 1 p)) (cond-true (name_eq n.name x) (x ∷ []) (on_top (inclusive_ancestors c x) n.name (inclusive_ancestors r x))
-    e)) ∙ h in cc)
+    (λ e. absurd (root-orphan n c r x parent e h))
     (λ e. let g = times-elsewhere n c r x e in
     let s = without-elsewhere n c r x e in
     by_times (times_in c x)
-    (λ z. let up : parent_of r x ≡ Some parent = sym
-    (ap (λ p. first_of (drop 1 p)) (cond-false (name_eq n.name x) (x ∷ []) (on_top (inclusive_ancestors c x) n.name (inclusive_ancestors r x))
-    e ∙ ap (λ p. on_top p n.name (inclusive_ancestors r x)) (path_none c x z))) ∙ h in
+    (λ z. let up = beside-parent n c r x parent e z h in
     let b = kids-taken r x parent y parts.after up in
     let b0 = b.0 in let b1 = b.1 in
     let whole = s ∙ ap (λ t. tree n t (without x r)) (without-absent c x z) in
@@ -253,14 +262,10 @@ root-below (tree n c r) x parent u h =
     let once_p = u parent in
     let parts = once_parts n c r u in
     by_cases (name_eq n.name x)
-    (λ e. let is : first_of (drop 1 (x ∷ [])) ≡ Some parent = sym
-    (ap (λ p. first_of (drop 1 p)) (cond-true (name_eq n.name x) (x ∷ []) (on_top (inclusive_ancestors c x) n.name (inclusive_ancestors r x))
-    e)) ∙ h in cc)
+    (λ e. absurd (root-orphan n c r x parent e h))
     (λ e. let g = times-elsewhere n c r x e in
     by_times (times_in c x)
-    (λ z. let up : parent_of r x ≡ Some parent = sym
-    (ap (λ p. first_of (drop 1 p)) (cond-false (name_eq n.name x) (x ∷ []) (on_top (inclusive_ancestors c x) n.name (inclusive_ancestors r x))
-    e ∙ ap (λ p. on_top p n.name (inclusive_ancestors r x)) (path_none c x z))) ∙ h in
+    (λ z. let up = beside-parent n c r x parent e z h in
     let there = parent-there r x parent up in
     let other : name_eq n.name parent ≡ false = by_cases (name_eq n.name parent) (λ k. absurd (let q = times-here n c r parent k in omega arith)) (λ k. k) in
     let m = times-elsewhere n c r parent other in

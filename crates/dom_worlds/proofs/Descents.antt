@@ -11,7 +11,7 @@ use Rattle.dom_model.specs.Tree.{inclusive_descendants, is_inclusive_ancestor, o
 use Rattle.dom_model.specs.TreeChanges.{without, put_before, put_below, placed, with_node}
 use Rattle.dom_model.proofs.OwnerLaws.{name_eq-same, name_eq-turned, name_eq-true}
 use Rattle.dom_worlds.proofs.Lists.{all-then, all-append, by_cases, or-later}
-use Rattle.dom_laws.proofs.Counts.{Once, by_times, times-here, times-elsewhere, times-more, times-parts, times_subtree, once_parts}
+use Rattle.dom_laws.proofs.Counts.{Once, by_times, times-here, times-elsewhere, times-more, times-parts, once_parts}
 use Rattle.dom_laws.proofs.Paths.{subtree_gone, path_none}
 use Rattle.dom_worlds.proofs.Trees.{root-there, nodes-there, ancestors-present}
 use Rattle.dom_worlds.proofs.TreeChangeLaws.{HasRoot, without-here, without-elsewhere, subtree-here, subtree-elsewhere, put_below-here, put_below-elsewhere}
@@ -137,37 +137,7 @@ module _ (before : Option NodeName) (a z : NodeName) where
 pub inside-with_node_all : (n : Node) (ts : Trees) (a z : NodeName) → inside ts a z ≤ inside (with_node n ts) a z
 inside-with_node_all n ts a z = let p = inside-put_root n.name (tree n none none) ts a z in omega arith
 
--- Removals. The tree of a node, in the tree of another one.
-pub inside-subtree : (ts : Trees) (a y z : NodeName) → Once ts → 1 ≤ times_in (subtree ts a) y → inside ts y z ≡ inside (subtree ts a) y z
-inside-subtree none a y z u h = absurd (omega arith)
-inside-subtree (tree n c r) a y z u h =
-    let once = u y in
-    let once_a = u a in
-    let parts = once_parts n c r u in
-    let p = times-parts n c r y in
-    by_cases (name_eq n.name a)
-    (λ e. let s = ap (λ t. inside t y z) (subtree-here n c r a e) in
-    let t = ap (λ t. times_in t y) (subtree-here n c r a e) in
-    let behind = inside-absent r y z (omega arith) in omega arith)
-    (λ e. let g = times-elsewhere n c r a e in
-    by_times (times_in c a)
-    (λ t. let same = subtree-elsewhere n c r a e ∙ ap (λ t. or_else t (subtree r a)) (subtree_gone c a t) in
-    let k : 1 ≤ times_in (subtree r a) y = subst (λ t. 1 ≤ times_in t y) same h in
-    let s = ap (λ t. inside t y z) same in
-    let there = times_subtree r a y in
-    let behind = inside-subtree r a y z parts.after k in
-    let below = inside-absent c y z (let m = times-more n c none y in omega arith) in
-    by_cases (name_eq n.name y) (λ f. absurd (let q = times-here n c r y f in omega arith)) (λ f. let i = inside-elsewhere n c r y z f in omega arith))
-    (λ t. let same = subtree-elsewhere n c r a e ∙ ap (or_else (subtree c a)) (subtree_gone r a (omega arith)) ∙ or_else-none (subtree c a) in
-    let k : 1 ≤ times_in (subtree c a) y = subst (λ t. 1 ≤ times_in t y) same h in
-    let s = ap (λ t. inside t y z) same in
-    let there = times_subtree c a y in
-    let below = inside-subtree c a y z parts.below k in
-    let m = times-more n c r y in
-    let behind = inside-absent r y z (omega arith) in
-    by_cases (name_eq n.name y) (λ f. absurd (let q = times-here n c r y f in omega arith)) (λ f. let i = inside-elsewhere n c r y z f in omega arith)))
-
--- what does not stand in the tree that leaves is left where it was
+-- Removals. What does not stand in the tree that leaves is left where it was
 pub inside-left : (ts : Trees) (x a z : NodeName) → Once ts → inside ts x z ≡ 0 → inside ts a z ≤ inside (without x ts) a z
 inside-left none x a z u h = omega arith
 inside-left (tree n c r) x a z u h =

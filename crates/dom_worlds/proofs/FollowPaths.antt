@@ -1,12 +1,12 @@
 -- The whole path of a node is its orbit under the event parent.
 use Rattle.std.proofs.Common.{zero, suc, ◌≡◌, ◌≤◌, ◌<◌, ◌+◌, ℕ, Bool, true, false, not, ◌||◌, List, [], ◌∷◌, ◌++◌, drop, flat_map, unwrap_or, Option, Some}
-use Rattle.std.proofs.Common.{None, refl, sym, ap, ◌∙◌, arith, true≢false, subst, append-nil}
+use Rattle.std.proofs.Common.{None, refl, sym, ap, ◌∙◌, arith, subst, append-nil}
 use Rattle.std.specs.Prelude.{if◌then◌else◌, IsTrue, is_some, option_to_list}
 use Rattle.std.specs.List.{AllByRecursion}
 use Rattle.std.specs.Option.{option_or, option_and_then}
 use Rattle.std.proofs.lemmas.Bool.{cond-true, cond-false, false_from_ne_true}
 use Rattle.dom_base.specs.declared.Kind.{Kind}
-use Rattle.dom_base.specs.declared.Kind.TheVariants.{Document, Fragment, Shadow, Element, Text, Comment}
+use Rattle.dom_base.specs.declared.Kind.TheVariants.{Shadow}
 use Rattle.dom_base.specs.declared.NodeName.{NodeName}
 use Rattle.dom_base.specs.declared.Owner.{Owner}
 use Rattle.dom_base.specs.declared.Owner.TheVariants.{Page, Component}
@@ -32,6 +32,7 @@ use Rattle.dom_worlds.proofs.Trees.{ancestors-present, ancestors-root, ancestors
 use Rattle.dom_worlds.specs.Follows.{PathFollowsParents}
 use Rattle.dom_worlds.specs.Tables.{IsNodeIn, IsWhole}
 use Rattle.dom_worlds.proofs.KindLines.{has_node-times}
+use Rattle.dom_worlds.proofs.KindCases.{failing, of_kinds}
 
 -- A node and those that come after it: each is followed by what is above it, and the last by the end.
 abbrev pub Runs : (NodeName → Option NodeName) → NodeName → List NodeName → Option NodeName → Type 0
@@ -117,12 +118,7 @@ slot-deepest w i x h =
 
 -- Kinds.
 pub shadow-kind : (k : Kind) → is_shadow k ≡ true → k ≡ Shadow
-shadow-kind Shadow h = refl
-shadow-kind Document h = absurd (true≢false (sym h))
-shadow-kind Fragment h = absurd (true≢false (sym h))
-shadow-kind Element h = absurd (true≢false (sym h))
-shadow-kind Text h = absurd (true≢false (sym h))
-shadow-kind Comment h = absurd (true≢false (sym h))
+shadow-kind = of_kinds (λ k. is_shadow k ≡ true → k ≡ Shadow) failing failing (λ h. refl) failing failing failing
 
 module _ {only_log : Bool} (w : World) (r : IsReached only_log w) (composed : Bool) (first : NodeName) where
   -- the event parent

@@ -71,36 +71,38 @@ inside-no_ancestor (tree n c r) a z u h =
     let behind = inside-times r a z in omega arith))
 
 -- the tree of a node in the tree of another one
-pub inside-nested : (ts : Trees) (a y z : NodeName) → Once ts → 1 ≤ times_in (subtree ts a) y → inside ts y z ≤ times_in (subtree ts a) z
-inside-nested none a y z u h = omega arith
-inside-nested (tree n c r) a y z u h =
+pub inside-subtree : (ts : Trees) (a y z : NodeName) → Once ts → 1 ≤ times_in (subtree ts a) y → inside ts y z ≡ inside (subtree ts a) y z
+inside-subtree none a y z u h = absurd (omega arith)
+inside-subtree (tree n c r) a y z u h =
     let once = u y in
     let once_a = u a in
     let parts = once_parts n c r u in
     let p = times-parts n c r y in
     by_cases (name_eq n.name a)
-    (λ e. let s = ap (λ t. times_in t z) (subtree-here n c r a e) in
+    (λ e. let s = ap (λ t. inside t y z) (subtree-here n c r a e) in
     let t = ap (λ t. times_in t y) (subtree-here n c r a e) in
-    let behind = inside-absent r y z (omega arith) in
-    let below = inside-times c y z in let more = times-more n c none z in
-    by_cases (name_eq n.name y) (λ f. let i = inside-here n c r y z f in omega arith) (λ f. let i = inside-elsewhere n c r y z f in omega arith))
+    let behind = inside-absent r y z (omega arith) in omega arith)
     (λ e. let g = times-elsewhere n c r a e in
     by_times (times_in c a)
     (λ t. let same = subtree-elsewhere n c r a e ∙ ap (λ t. or_else t (subtree r a)) (subtree_gone c a t) in
     let k : 1 ≤ times_in (subtree r a) y = subst (λ t. 1 ≤ times_in t y) same h in
-    let s = ap (λ t. times_in t z) same in
+    let s = ap (λ t. inside t y z) same in
     let there = times_subtree r a y in
-    let behind = inside-nested r a y z parts.after k in
+    let behind = inside-subtree r a y z parts.after k in
     let below = inside-absent c y z (let m = times-more n c none y in omega arith) in
     by_cases (name_eq n.name y) (λ f. absurd (let q = times-here n c r y f in omega arith)) (λ f. let i = inside-elsewhere n c r y z f in omega arith))
     (λ t. let same = subtree-elsewhere n c r a e ∙ ap (or_else (subtree c a)) (subtree_gone r a (omega arith)) ∙ or_else-none (subtree c a) in
     let k : 1 ≤ times_in (subtree c a) y = subst (λ t. 1 ≤ times_in t y) same h in
-    let s = ap (λ t. times_in t z) same in
+    let s = ap (λ t. inside t y z) same in
     let there = times_subtree c a y in
-    let below = inside-nested c a y z parts.below k in
+    let below = inside-subtree c a y z parts.below k in
     let m = times-more n c r y in
     let behind = inside-absent r y z (omega arith) in
     by_cases (name_eq n.name y) (λ f. absurd (let q = times-here n c r y f in omega arith)) (λ f. let i = inside-elsewhere n c r y z f in omega arith)))
+
+-- it has no more nodes
+pub inside-nested : (ts : Trees) (a y z : NodeName) → Once ts → 1 ≤ times_in (subtree ts a) y → inside ts y z ≤ times_in (subtree ts a) z
+inside-nested ts a y z u h = omega (arith, inside-subtree ts a y z u h, inside-times (subtree ts a) y z)
 
 -- Children and parents are there.
 pub roots-there : (ts : Trees) → AllByRecursion (λ y. 1 ≤ times_in ts y) (names_of (roots ts))

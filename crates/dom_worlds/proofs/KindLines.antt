@@ -30,6 +30,7 @@ use Rattle.dom_worlds.proofs.PartSteps.{MakesNoShadow, kinds-step, kinds-alike, 
 use Rattle.dom_worlds.proofs.OwnerSteps.{IsPresent, IsPeopled}
 use Rattle.dom_worlds.proofs.Owners.{there-hosted}
 use Rattle.dom_worlds.proofs.Plans.{IsKept}
+use Rattle.dom_worlds.proofs.Rules.{rules-kept}
 use Rattle.dom_worlds.proofs.ShadowRoots.{any-whole, IsOther, shadow-rules, may-do, found-absent, found-there}
 use Rattle.dom_worlds.proofs.WorldSteps.{HoldsIn, IsKeptIn, holds-with_part, holds-world_after, own-part}
 use Rattle.std.specs.List.{AllByRecursion}
@@ -78,16 +79,8 @@ page-read p i x = read-no_shadow p x i.1 (λ b. subst (λ o. MayBeShadow o x) i.
 -- the rules hold
 page-rules : IsKept PageKinds MakesNoShadow (λ x. ⊤)
 page-rules =
-    record {
+    rules-kept (record {
       step = λ p s i m. (owner-part_step p s ∙ i.0, kinds-step p s i.1 m);
-      placing = λ x parent before h. tt;
-      making_room = λ parent index count. tt;
-      taking_out = λ x. tt;
-      document = λ x d. tt;
-      data_replaced = λ x offset count new. tt;
-      split = λ x offset new parent index. tt;
-      join = λ x size next parent index. tt;
-      range = λ k range. tt;
       children_told = λ x added removed previous next. tt;
       data_told = λ x old. tt;
       new_text = λ x d text. text-no_shadow;
@@ -97,7 +90,7 @@ page-rules =
       new_node = λ p i. tt;
       children = λ p i x. all-from (λ y. ⊤) (λ y. tt) (children_of p.trees x);
       wholes = λ p i range. any-whole (pieces_of p.trees range);
-    }
+    })
 
 -- The rules of plans, for a component with its shadow root.
 record ComponentKinds (k : ComponentName) (p : Part) : Type 0 where

@@ -9,6 +9,7 @@ pub mod RangeLemmas
 pub mod TurnLemmas
 pub mod WorldLemmas
 mod Lists
+mod KindCases
 mod ShadowTrees
 mod Turns
 mod Trees
@@ -20,6 +21,7 @@ mod StepKeeps
 mod TreeChangeLaws
 mod PartSteps
 mod Plans
+mod Rules
 mod ShadowRoots
 mod WorldSteps
 mod OwnerSteps

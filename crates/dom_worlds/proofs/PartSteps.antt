@@ -8,8 +8,9 @@ use Rattle.dom_base.specs.declared.NodeName.{NodeName}
 use Rattle.dom_model.specs.Names.{Word, DomString, name_eq, is_in}
 use Rattle.dom_model.specs.Tree.{Trees, none, tree, Node, parent_of, inclusive_descendants, times_in, nodes, node_in, no_node, is_fragment}
 use Rattle.dom_model.specs.TreeChanges.{map_nodes, with_name, with_document, with_data_replaced, with_attribute}
+use Rattle.dom_model.specs.Output.{Change}
 use Rattle.dom_model.specs.Part.{Part, next_name}
-use Rattle.dom_model.specs.Steps.{Step, make, place, take_out, set_document, set_attribute, replace_data, part_step, leave}
+use Rattle.dom_model.specs.Steps.{Step, make, place, take_out, set_document, set_attribute, replace_data, queue_record, part_step, leave}
 use Rattle.dom_model.proofs.StepLaws.{owner-part_step}
 use Rattle.dom_model.proofs.OwnerLaws.{name_eq-true}
 use Rattle.dom_worlds.specs.Worlds.{AllNodes, IsShadowAt, IsRoot, IsPart, IsElementAt, IsHost, MayBeShadow, IsShadowOf, times_among, HasKinds}
@@ -83,10 +84,18 @@ kept-mapped f h ts r s =
       alone = λ s. root-map_nodes f (λ n. (h n).0) ts r;
     }
 
+-- What is asked of a step: one thing of a node that it makes, and one each of a node that it places, of an attribute that it sets, and of what
+-- it records. Nothing is asked of others.
+abbrev pub Asked : (Node → Type 0) → (NodeName → Type 0) → (Word → Type 0) → (Change NodeName → Type 0) → Step → Type 0
+Asked Makes Places Sets Tells (make n) = Makes n
+Asked Makes Places Sets Tells (place x parent before) = Places x
+Asked Makes Places Sets Tells (set_attribute x a v) = Sets a
+Asked Makes Places Sets Tells (queue_record c) = Tells c
+Asked Makes Places Sets Tells s = ⊤
+
 -- the steps that may be made with a shadow root r
 abbrev pub Allowed : NodeName → Step → Type 0
-Allowed r (place x parent before) = name_eq x r ≡ false
-Allowed r s = ⊤
+Allowed r = Asked (λ n. ⊤) (λ x. name_eq x r ≡ false) (λ a. ⊤) (λ c. ⊤)
 
 -- the step makes a node
 abbrev IsMake : Step → Type 0
@@ -237,8 +246,7 @@ module _ (P : Node → Type 0) (k : OfKinds P) where
 
 -- a step that makes no shadow root
 abbrev pub MakesNoShadow : Step → Type 0
-MakesNoShadow (make n) = n.kind ≢ Shadow
-MakesNoShadow s = ⊤
+MakesNoShadow = Asked (λ n. n.kind ≢ Shadow) (λ x. ⊤) (λ a. ⊤) (λ c. ⊤)
 
 -- numbers are given once
 pub count-grows : (p : Part) (s : Step) → p.node_count ≤ (part_step p s).node_count

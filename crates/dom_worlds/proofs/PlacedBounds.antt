@@ -22,9 +22,9 @@ use Rattle.dom_worlds.proofs.ChildCounts.{kids, one_at, kids-placed, kids-map_no
 use Rattle.dom_worlds.proofs.Roots.{node-taken_out, node-placed, node-map_nodes}
 use Rattle.dom_worlds.proofs.Lists.{all-then, either_way, all-from}
 use Rattle.dom_worlds.proofs.PlanChildren.{documented, Joins, each-by, inserting-by}
-use Rattle.dom_worlds.proofs.PlanPlaces.{may-place, MayGo, may-still, still, taken-step, telling-trees, root-adopting, after-append, emptied_of, leads-then}
-use Rattle.dom_worlds.proofs.PlanPlaces.{removing-each, leads-eased, placing-each, leads-removing, leads-adopting, leads-placing, leads-emptied}
-use Rattle.dom_worlds.proofs.PlanPlaces.{leads-making_room, placed-may}
+use Rattle.dom_worlds.proofs.PlanPlaces.{may-place, MayGo, may-still, still, taken-step, telling-trees, root-adopting, after-append, emptied_of}
+use Rattle.dom_worlds.proofs.PlanPlaces.{removing-each, leads-eased, placing-each, leads-removing, leads-adopting, leads-placing}
+use Rattle.dom_worlds.proofs.PlanPlaces.{roomed, leads-roomed, roomed-may}
 use Rattle.dom_worlds.proofs.Reached.{root-alone}
 use Rattle.dom_worlds.proofs.TableSteps.{HasNode}
 use Rattle.dom_worlds.proofs.TreeChangeLaws.{HasRoot, root-placed, root-map_nodes}
@@ -150,24 +150,19 @@ module _ (how : Observing) (node parent : NodeName) (before : Option NodeName) (
       Distinct moved → kids q.trees parent ≡ kids p.trees parent → kids (after p (insert_plan how node parent before p)).trees parent
       ≡ kids p.trees parent + length moved
   kids-inserted roots distinct same =
-      let spot = Some parent in
       let moved = placed_nodes p.trees node in
-      let told = telling how (child_list parent moved [] (sibling_before p.trees parent before) before) in
+      let record_of = child_list parent moved [] (sibling_before p.trees parent before) before in
       let one = emptied_of p node p in
-      let a = leads-eased spot p one (leads-emptied node p i) in
       let q = after p one in
-      let two = making_room parent before (length moved) q in
-      let r = after p (one ++ two) in
-      let r_trees : r.trees ≡ q.trees = ap (λ (s : Part). s.trees) (after-append p one two) ∙ unmoved before (length moved) q in
-      let ab = leads-then spot p one two a (leads-eased spot q two (leads-making_room parent before (length moved) q a.changed.part)) in
-      let three = in_turn (placing parent before) moved r in
-      let placed_all = kids-roots_placed parent before moved ab.changed.part
-      (all-then (MayGo parent p) (MayGo parent r) (λ y. may-still parent p r y ab.changed) moved (placed-may parent p node i m))
+      let front = roomed node parent before p in
+      let r_trees : (after p front).trees ≡ q.trees =
+      ap (λ (s : Part). s.trees) (after-append p one (making_room parent before (length moved) q)) ∙ unmoved before (length moved) q in
+      let three = in_turn (placing parent before) moved (after p front) in
+      let placed_all = kids-roots_placed parent before moved (leads-roomed node parent before i).changed.part (roomed-may node parent before i m)
       (subst (λ ts. AllByRecursion (HasRoot ts) moved) (sym r_trees) roots) distinct in
-      let s = after p ((one ++ two) ++ three) in
-      let s_trees = ap (λ (t : Part). kids t.trees parent) (after-append p (one ++ two) three) in
-      let end = ap (λ (t : Part). kids t.trees parent) (after-append p ((one ++ two) ++ three) told) in
-      let quiet = ap (λ ts. kids ts parent) (telling-trees how (child_list parent moved [] (sibling_before p.trees parent before) before) s) in
+      let s_trees = ap (λ (t : Part). kids t.trees parent) (after-append p front three) in
+      let end = ap (λ (t : Part). kids t.trees parent) (after-append p (front ++ three) (telling how record_of)) in
+      let quiet = ap (λ ts. kids ts parent) (telling-trees how record_of (after p (front ++ three))) in
       let before_all = ap (λ ts. kids ts parent) r_trees in
       from (is_empty moved) moved refl (inserting_nodes how node moved parent before p) (omega arith)
     where

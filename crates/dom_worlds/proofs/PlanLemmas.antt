@@ -2,6 +2,7 @@
 pub use Rattle.dom_worlds.proofs.Plans.{AllWhole, AreFit, IsKept, Keeps, keeps-adopting, keeps-deleting, keeps-extracting, keeps-inserting}
 pub use Rattle.dom_worlds.proofs.Plans.{keeps-inserting_into_range, keeps-normalizing, keeps-removing, keeps-replacing, keeps-replacing_data}
 pub use Rattle.dom_worlds.proofs.Plans.{keeps-setting_attribute, keeps-setting_text, keeps-splitting, keeps-unsetting_attribute, kept-after}
+pub use Rattle.dom_worlds.proofs.Rules.{AreRules, rules-kept}
 pub use Rattle.dom_worlds.proofs.ShadowRoots.{IsClonable, any-whole, common_below, fit-apart, fit-pieces, whole-pieces}
 pub use Rattle.dom_worlds.proofs.PlanPlaces.{Changed, Leads, MayGo, after-append, leads-adopting, leads-eased, leads-inserting, leads-nothing, leads-one}
 pub use Rattle.dom_worlds.proofs.PlanPlaces.{leads-removing, leads-then, still}
@@ -11,6 +12,6 @@ pub use Rattle.dom_worlds.proofs.PlanContents.{OldIn, leads-deleting, leads-extr
 pub use Rattle.dom_worlds.proofs.PlanContents.{old-there}
 pub use Rattle.dom_worlds.proofs.PlanRoots.{ends-at}
 pub use Rattle.dom_worlds.proofs.PartSteps.{Allowed, IsOwn, KeepsNames, attribute-keeps, count-step, next-absent, next-other, own-step, part-step, rest-step}
-pub use Rattle.dom_worlds.proofs.PartSteps.{some-keeps}
+pub use Rattle.dom_worlds.proofs.PartSteps.{Asked, some-keeps}
 pub use Rattle.dom_worlds.proofs.TableSteps.{Fits, HasNode, MadeIn}
 pub use Rattle.dom_worlds.proofs.TableRecords.{IfSome, all-get, tables-after}

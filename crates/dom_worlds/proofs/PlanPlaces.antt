@@ -315,6 +315,27 @@ leads-emptied node p i = from (is_fragment (kind_of p.trees node))
     from true = leads-emptying node (placed_nodes p.trees node) p i
     from false = leads-nothing None p i
 
+-- what comes before the placing: the fragment, if it is one, is emptied, and room is made
+module _ (node parent : NodeName) (before : Option NodeName) where
+  abbrev pub roomed : Plan
+  roomed p = emptied_of p node p ++ making_room parent before (length (placed_nodes p.trees node)) (after p (emptied_of p node p))
+
+  pub leads-roomed : {p : Part} → IsPart p → Leads (Some parent) p (roomed p)
+  leads-roomed {p} i =
+      let one = emptied_of p node p in
+      let a = leads-eased (Some parent) p one (leads-emptied node p i) in
+      let count = length (placed_nodes p.trees node) in
+      let two = making_room parent before count (after p one) in
+      leads-then (Some parent) p one two a
+      (leads-eased (Some parent) (after p one) two (leads-making_room parent before count (after p one) a.changed.part))
+
+  -- what is placed may still go below the parent
+  pub roomed-may : {p : Part} → IsPart p → MayGo parent p node → AllByRecursion (MayGo parent (after p (roomed p))) (placed_nodes p.trees node)
+  roomed-may {p} i m =
+      let r = after p (roomed p) in
+      all-then (MayGo parent p) (MayGo parent r) (λ y. may-still parent p r y (leads-roomed i).changed) (placed_nodes p.trees node)
+      (placed-may parent p node i m)
+
 -- an insertion
 pub leads-inserting : {p : Part} (how : Observing) (node parent : NodeName) (before : Option NodeName) → IsPart p → MayGo parent p node →
     Leads (Some parent) p (insert_plan how node parent before p)
@@ -322,22 +343,14 @@ leads-inserting {p = p} how node parent before i m =
     let spot = Some parent in
     let moved = placed_nodes p.trees node in
     let told = telling how (child_list parent moved [] (sibling_before p.trees parent before) before) in
-    let one = emptied_of p node p in
-    let a = leads-eased spot p one (leads-emptied node p i) in
-    let q = after p one in
-    let two = making_room parent before (length moved) q in
-    let b = leads-eased spot q two (leads-making_room parent before (length moved) q a.changed.part) in
-    let ab = leads-then spot p one two a b in
-    let r = after p (one ++ two) in
-    let three = in_turn (placing parent before) moved r in
-    let c = leads-each (placing-each parent before) moved r ab.changed.part
-    (all-then (MayGo parent p) (MayGo parent r) (λ y. may-still parent p r y ab.changed) moved (placed-may parent p node i m)) in
-    let abc = leads-then spot p (one ++ two) three ab c in
-    let d = leads-eased spot (after p ((one ++ two) ++ three)) told
-    (leads-telling how (child_list parent moved [] (sibling_before p.trees parent before) before) (after p ((one ++ two) ++ three))
-    abc.changed.part) in
-    leads-if (is_empty moved) (leads-nothing spot p i)
-    (leads-then spot p ((one ++ two) ++ three) told abc d)
+    let front = roomed node parent before p in
+    let three = in_turn (placing parent before) moved (after p front) in
+    let ab = leads-roomed node parent before i in
+    let abc = leads-then spot p front three ab
+    (leads-each (placing-each parent before) moved (after p front) ab.changed.part (roomed-may node parent before i m)) in
+    let d = leads-eased spot (after p (front ++ three)) told
+    (leads-telling how (child_list parent moved [] (sibling_before p.trees parent before) before) (after p (front ++ three)) abc.changed.part) in
+    leads-if (is_empty moved) (leads-nothing spot p i) (leads-then spot p (front ++ three) told abc d)
 
 -- insertions of nodes behind the children of one
 pub inserting-each : (x : NodeName) → LeadsEach (Some x) (MayGo x) (λ y. insert_plan suppressed y x None)

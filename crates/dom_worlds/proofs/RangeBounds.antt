@@ -20,8 +20,8 @@ use Rattle.dom_worlds.proofs.Bounds.{room-take, room-replace, room-make}
 use Rattle.dom_worlds.proofs.ChildCounts.{one_at}
 use Rattle.dom_worlds.proofs.Lists.{all-then, by_cases, either_way, by_some}
 use Rattle.dom_worlds.proofs.PlanPlaces.{may-place, Changed, Leads, MayGo, may-still, root-adopting, after-append, emptied_of, leads-then, leads-eased}
-use Rattle.dom_worlds.proofs.PlanPlaces.{leads-one, leads-removing, leads-adopting, leads-placing, leads-emptied, leads-making_room, placed-may, still}
-use Rattle.dom_worlds.proofs.PlanPlaces.{leads-inserting}
+use Rattle.dom_worlds.proofs.PlanPlaces.{leads-one, leads-removing, leads-adopting, leads-placing, still}
+use Rattle.dom_worlds.proofs.PlanPlaces.{leads-inserting, roomed, leads-roomed, roomed-may}
 use Rattle.dom_worlds.proofs.TableSteps.{HasNode}
 use Rattle.dom_model.specs.TreeChanges.{with_name}
 use Rattle.dom_model.specs.Extract.{Pieces, nothing, whole, cut, clone, clone_part, making_below, taking}
@@ -144,26 +144,20 @@ room-making parent (Some child) count p h = room-made (at_node parent count) par
 pub room-inserting : {node parent : NodeName} {p : Part} (how : Observing) (before : Option NodeName) → IsRoomy nowhere p → MayEnter parent p node →
     HasRoom nowhere (after p (insert_plan how node parent before p))
 room-inserting {node} {parent} {p} how before w m =
-    let spot = Some parent in
     let moved = placed_nodes p.trees node in
-    let told = telling how (child_list parent moved [] (sibling_before p.trees parent before) before) in
-    let one = emptied_of p node p in
-    let a = leads-eased spot p one (leads-emptied node p w.part) in
-    let q = after p one in
-    let two = making_room parent before (length moved) q in
-    let b = leads-eased spot q two (leads-making_room parent before (length moved) q a.changed.part) in
-    let ab = leads-then spot p one two a b in
-    let r = after p (one ++ two) in
-    let three = in_turn (placing parent before) moved r in
-    let made : HasRoom (at_node parent (length moved)) r =
-    room-then (at_node parent (length moved)) p one two (room-making parent before (length moved) q (room-emptied nowhere node p w.part w.room)) in
-    let put = room-each parent before moved (record { part = ab.changed.part; room = made })
-    (all-then (MayGo parent p) (MayGo parent r) (λ y. may-still parent p r y ab.changed) moved (placed-may parent p node w.part m.go))
+    let record_of = child_list parent moved [] (sibling_before p.trees parent before) before in
+    let front = roomed node parent before p in
+    let three = in_turn (placing parent before) moved (after p front) in
+    let ab = leads-roomed node parent before w.part in
+    let q = after p (emptied_of p node p) in
+    let made : HasRoom (at_node parent (length moved)) (after p front) =
+    room-then (at_node parent (length moved)) p (emptied_of p node p) (making_room parent before (length moved) q)
+    (room-making parent before (length moved) q (room-emptied nowhere node p w.part w.room)) in
+    let put = room-each parent before moved (record { part = ab.changed.part; room = made }) (roomed-may node parent before w.part m.go)
     (open-still ab.changed parent m.go.below m.open_parent) in
     either_way (λ steps. HasRoom nowhere (after p steps)) (is_empty moved) [] (inserting_nodes how node moved parent before p) w.room
-    (room-then nowhere p ((one ++ two) ++ three) told
-    (room-telling nowhere how (child_list parent moved [] (sibling_before p.trees parent before) before) (after p ((one ++ two) ++ three))
-    (room-then nowhere p (one ++ two) three put)))
+    (room-then nowhere p (front ++ three) (telling how record_of)
+    (room-telling nowhere how record_of (after p (front ++ three)) (room-then nowhere p front three put)))
 
 -- Replacements, attributes and data.
 pub room-replacing : {parent node : NodeName} {p : Part} (child : NodeName) → IsRoomy nowhere p → MayEnter parent p node →

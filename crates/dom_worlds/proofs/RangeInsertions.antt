@@ -6,7 +6,6 @@ use Rattle.std.specs.List.{AllByRecursion}
 use Rattle.std.specs.Option.{option_map_or, option_and_then}
 use Rattle.std.proofs.lemmas.Bool.{cond-true, cond-false}
 use Rattle.dom_base.specs.declared.Kind.{Kind}
-use Rattle.dom_base.specs.declared.Kind.TheVariants.{Document, Fragment, Shadow, Element, Text, Comment}
 use Rattle.dom_base.specs.declared.NodeName.{NodeName}
 use Rattle.dom_model.specs.Names.{name_eq, is_empty, first_of, items_after}
 use Rattle.dom_model.specs.Tree.{Trees, Node, node_in, kind_of, is_text, is_fragment, has_data, children_of, ancestors, parent_of, next_sibling, index_of}
@@ -43,6 +42,7 @@ use Rattle.dom_worlds.proofs.TableRecords.{IfSome, first-all, after-all, all-get
 use Rattle.dom_worlds.proofs.TextBounds.{none-among, among-behind, children-among, text-data, room-splitting}
 use Rattle.dom_worlds.proofs.TreeChangeLaws.{HasRoot, root-taken_out}
 use Rattle.dom_worlds.proofs.Trees.{all-both}
+use Rattle.dom_worlds.proofs.KindCases.{failing, of_kinds}
 
 -- Children of a fragment: each is another.
 distinct-among : (xs : List NodeName) → ((z : NodeName) → times_among xs z ≤ 1) → Distinct xs
@@ -136,12 +136,7 @@ kids-fragment {node} {parent} {p} how before i m k =
 
 -- a fragment has no data
 fragment-open : (k : Kind) → is_fragment k ≡ true → has_data k ≡ false
-fragment-open Fragment h = refl
-fragment-open Document h = absurd (true≢false (sym h))
-fragment-open Shadow h = absurd (true≢false (sym h))
-fragment-open Element h = absurd (true≢false (sym h))
-fragment-open Text h = absurd (true≢false (sym h))
-fragment-open Comment h = absurd (true≢false (sym h))
+fragment-open = of_kinds (λ k. is_fragment k ≡ true → has_data k ≡ false) failing (λ h. refl) failing failing failing failing
 
 -- so many children more: those of a fragment, or one
 kids-more : {node parent : NodeName} {p : Part} (before : Option NodeName) → IsPart p → MayGo parent p node → HasRoot p.trees node →

@@ -13,6 +13,7 @@ use Rattle.dom_model.specs.Extract.{common_ancestor, is_in_one_data, pieces_apar
 use Rattle.std.proofs.lemmas.Bool.{and_parts, cond-true, cond-false, not-false}
 use Rattle.dom_worlds.specs.Worlds.{AllNodes, IsShadowAt}
 use Rattle.dom_worlds.proofs.Plans.{AreFit, AllWhole, IsKept}
+use Rattle.dom_worlds.proofs.Rules.{rules-kept}
 use Rattle.dom_worlds.proofs.Lists.{by_cases, either_way, which_way}
 use Rattle.dom_worlds.proofs.TreeChangeLaws.{nodes-then, nodes-listed, nodes-named, root-below_none}
 use Rattle.std.specs.List.{AllByRecursion}
@@ -271,16 +272,8 @@ module _ (r : NodeName) where
   -- The rules of plans, for a part with its shadow root r, which no step places.
   pub shadow-rules : IsKept (IsOwn r) (Allowed r) (IsOther r)
   shadow-rules =
-      record {
+      rules-kept (record {
         step = own-step r;
-        placing = λ x parent before h. h;
-        making_room = λ parent index count. tt;
-        taking_out = λ x. tt;
-        document = λ x d. tt;
-        data_replaced = λ x offset count new. tt;
-        split = λ x offset new parent index. tt;
-        join = λ x size next parent index. tt;
-        range = λ k range. tt;
         children_told = λ x added removed previous next. tt;
         data_told = λ x old. tt;
         new_text = λ x d text. tt;
@@ -290,7 +283,7 @@ module _ (r : NodeName) where
         new_node = next-other r;
         children = λ p o x. absent-other (trees_below (subtree p.trees x)) (root-below_none p.trees o.part.unique r o.root.alone x);
         wholes = whole-of;
-      }
+      })
 
 -- What an accepted command places is no shadow root.
 pub may-do : (r : NodeName) (p : Part) → IsOwn r p → (c : Command) → own_refusal p c ≡ None → MayDo (Allowed r) (IsOther r) p c

@@ -127,25 +127,32 @@ ends-collapsed ts true r h = record { start = h.start; end = h.start; one_root =
 ends-collapsed ts false r h = record { start = h.end; end = h.end; one_root = roots-same ts r.end.node r.end.node refl }
 
 -- Iterators and walkers move to nodes that are there.
-pub iterator-next : (ts : Trees) (i : Iterator) → Once ts → IsIteratorIn ts i → IfSome (StandsIn ts i.root) (iterator_next_node ts i)
-iterator-next ts i u h =
-    let P = StandsIn ts i.root in
-    let items = items_after name_eq i.reference (inclusive_descendants ts i.root) in
-    let behind = after-all P i.reference (inclusive_descendants ts i.root) (all-stand ts i.root u) in
-    first-all P (filter (accepts ts i.filter) (nodes_ahead ts i))
-    (all-filter P (accepts ts i.filter) (nodes_ahead ts i)
-    (either_way (AllByRecursion P) i.before (i.reference ∷ items) items ((h.reference, h.within), behind) behind))
+module _ (ts : Trees) (i : Iterator) (u : Once ts) (h : IsIteratorIn ts i) where
+  abbrev Stands : NodeName → Type 0
+  Stands = StandsIn ts i.root
 
--- backwards
-pub iterator-previous : (ts : Trees) (i : Iterator) → Once ts → IsIteratorIn ts i → IfSome (StandsIn ts i.root) (iterator_previous_node ts i)
-iterator-previous ts i u h =
-    let P = StandsIn ts i.root in
-    let items = items_before name_eq i.reference (inclusive_descendants ts i.root) in
-    let front = before-all P i.reference (inclusive_descendants ts i.root) (all-stand ts i.root u) in
-    last-all P (filter (accepts ts i.filter) (nodes_passed ts i))
-    (all-filter P (accepts ts i.filter) (nodes_passed ts i)
-    (either_way (AllByRecursion P) i.before items (items ++ i.reference ∷ []) front
-    (all-append P items (i.reference ∷ []) front ((h.reference, h.within), tt))))
+  abbrev around : List NodeName
+  around = inclusive_descendants ts i.root
+
+  -- those of some nodes that the filter accepts
+  accepted-stand : (xs : List NodeName) → AllByRecursion Stands xs → AllByRecursion Stands (filter (accepts ts i.filter) xs)
+  accepted-stand xs a = all-filter Stands (accepts ts i.filter) xs a
+
+  pub iterator-next : IfSome Stands (iterator_next_node ts i)
+  iterator-next =
+      let behind = after-all Stands i.reference around (all-stand ts i.root u) in
+      first-all Stands (filter (accepts ts i.filter) (nodes_ahead ts i)) (accepted-stand (nodes_ahead ts i)
+      (either_way (AllByRecursion Stands) i.before (i.reference ∷ items_after name_eq i.reference around) (items_after name_eq i.reference around)
+      ((h.reference, h.within), behind) behind))
+
+  -- backwards
+  pub iterator-previous : IfSome Stands (iterator_previous_node ts i)
+  iterator-previous =
+      let passed = items_before name_eq i.reference around in
+      let front = before-all Stands i.reference around (all-stand ts i.root u) in
+      last-all Stands (filter (accepts ts i.filter) (nodes_passed ts i)) (accepted-stand (nodes_passed ts i)
+      (either_way (AllByRecursion Stands) i.before passed (passed ++ i.reference ∷ []) front
+      (all-append Stands passed (i.reference ∷ []) front ((h.reference, h.within), tt))))
 
 -- an iterator that moves
 pub tables-iterator : {p : Part} {i : Iterator} (k : ℕ) (before : Bool) (o : Option NodeName) → HasTables p → IsIteratorIn p.trees i →

@@ -44,12 +44,12 @@ use Rattle.dom_model.proofs.OwnerLaws.{component_made-other}
 use Rattle.dom_model.proofs.PartLaws.{part_of-with_part-other, owner-part_of}
 use Rattle.dom_model.proofs.StepLaws.{Component-IsNoPage}
 use Rattle.dom_worlds.specs.Reached.{IsReached}
-use Rattle.dom_worlds.specs.Wholes.{FirstIsWhole, StepKeepsWhole, EndingKeepsWhole, FinishKeepsWhole, ScriptsStayWhole}
+use Rattle.dom_worlds.specs.Keeping.{FirstHas, StepLeaves, EndingLeaves, FinishLeaves, ScriptsLeave}
 use Rattle.dom_worlds.proofs.InsideAncestors.{times-has_node}
 use Rattle.dom_worlds.proofs.KindLines.{attach-free}
 use Rattle.dom_worlds.proofs.Owners.{absent-part, next-absent, there-hosted}
 use Rattle.dom_worlds.proofs.Reached.{first-is_reached, IsSound, reached-of, sound-keeps, sound-of, shadow_roots-are_roots}
-use Rattle.dom_worlds.proofs.TableSteps.{Grows}
+use Rattle.dom_worlds.proofs.TableSteps.{Grows, tables-telling}
 use Rattle.dom_worlds.proofs.TableRecords.{queues-set}
 use Rattle.dom_worlds.proofs.TableWorlds.{Ground, ground-of, Frame, frame-with_part, frame-world_after}
 use Rattle.dom_worlds.proofs.Invariants.{Any, Keeps, both-keep, kept-ending_other, kept-ending_turn, kept-finish, kept-lines, kept-step}
@@ -150,21 +150,25 @@ after-visit P e v d h =
     either_way (λ (s : Dispatching NodeName). AllByRecursion P s.listeners) d.stopped d (fold (after_inner_invoke name_eq e v) d hearing) h
     (after-calls P e v hearing d h)
 
--- visits in the world
-frame-visits : (e : EventWords) (vs : List (Visit NodeName)) (w : World) (d : Dispatching NodeName) → Frame w → Frame (fold (world_visit e) (w, d) vs).0
-frame-visits e [] w d f = f
-frame-visits e (v ∷ vs) w d f =
+-- visits in the world keep what each of them keeps
+module _ (P : World → Type 0) (e : EventWords) (each : (v : Visit NodeName) (w : World) (d : Dispatching NodeName) → P w → P (world_visit e (w, d) v).0) where
+  pub visits-keep : (vs : List (Visit NodeName)) (w : World) (d : Dispatching NodeName) → P w → P (fold (world_visit e) (w, d) vs).0
+  visits-keep [] w d h = h
+  visits-keep (v ∷ vs) w d h = visits-keep vs (world_visit e (w, d) v).0 (world_visit e (w, d) v).1 (each v w d h)
+
+-- one visit
+frame-visit : (e : EventWords) (v : Visit NodeName) (w : World) (d : Dispatching NodeName) → Frame w → Frame (world_visit e (w, d) v).0
+frame-visit e v w d f =
     let o = v.current.owner in
     let p = part_of w o in
     let heard = after_invoke name_eq e (record d { listeners = p.listeners }) v in
     let t = tables-listeners p heard.listeners (f.tables o)
     (after-visit (IsListenerIn p.trees) e v (record d { listeners = p.listeners }) (f.tables o).listeners) in
-    frame-visits e vs (with_part w (record p { listeners = heard.listeners })) heard
-    (frame-with_part w (record p { listeners = heard.listeners }) o (owner-part_of w o) t (f.records o) (λ y h. h) f)
+    frame-with_part w (record p { listeners = heard.listeners }) o (owner-part_of w o) t (f.records o) (λ y h. h) f
 
 -- a dispatch
 pub frame-dispatch : (w : World) (x : NodeName) (related : Option NodeName) (e : EventWords) → Frame w → Frame (dispatch_in w x related e).run.0
-frame-dispatch w x related e f = frame-visits e (visits_of name_eq e.bubbles (views w x related e.composed)) w (begun []) f
+frame-dispatch w x related e f = visits-keep Frame e (frame-visit e) (visits_of name_eq e.bubbles (views w x related e.composed)) w (begun []) f
 
 -- Notifications, and the endings of turns.
 tables-notified : (p : Part) → HasTables p → HasTables (notified p)
@@ -172,17 +176,9 @@ tables-notified p h =
     let same = queues-set (λ queues k. []) p.pending p.record_queues in
     let more = length (notified p).record_queues in
     let left = filter (λ (r : Registration NodeName). not (is_transient r.source && is_in nat_eq r.observer p.pending)) p.registrations in
-    record {
-      hosts = h.hosts;
-      ranges = h.ranges;
-      iterators = h.iterators;
-      walkers = h.walkers;
-      registrations = more-registered p.trees (length p.record_queues) more (omega arith) left
-          (all-filter (IsRegistrationIn p.trees (length p.record_queues))
-          (λ (r : Registration NodeName). not (is_transient r.source && is_in nat_eq r.observer p.pending)) p.registrations h.registrations);
-      pending = tt;
-      listeners = h.listeners;
-    }
+    tables-telling h (more-registered p.trees (length p.record_queues) more (omega arith) left
+    (all-filter (IsRegistrationIn p.trees (length p.record_queues))
+    (λ (r : Registration NodeName). not (is_transient r.source && is_in nat_eq r.observer p.pending)) p.registrations h.registrations)) tt h.listeners
 
 -- a notification, before its events
 pub frame-told : (w : World) (o : Owner) → Frame w → Frame (with_part (without_signals w o) (notified (part_of w o)))
@@ -314,23 +310,23 @@ frame-first = record { tables = tables; records = records; first = refl; signall
     tables (Component k) = record { hosts = tt; ranges = tt; iterators = tt; walkers = tt; registrations = tt; pending = tt; listeners = tt }
 
 -- is such
-pub first-is_whole : FirstIsWhole
+pub first-is_whole : FirstHas IsWhole
 first-is_whole = whole-of first_world (first-is_reached false) frame-first
 
 -- each line keeps it
-pub step-keeps_whole : StepKeepsWhole
+pub step-keeps_whole : StepLeaves IsWhole IsWhole
 step-keeps_whole b w l r h = whole-framed (step w l).0 (kept-step framed-keeps framed-ending_turn w l (any-line w l) (framed-of w r h))
 
 -- the ending of another component's turn
-pub ending-keeps_whole : EndingKeepsWhole
+pub ending-keeps_whole : EndingLeaves IsWhole IsWhole
 ending-keeps_whole b w o r h = whole-framed (ending_other_turn w o).0 (kept-ending_other framed-ending_turn w o (framed-of w r h))
 
 -- the end of input
-pub finish-keeps_whole : FinishKeepsWhole
+pub finish-keeps_whole : FinishLeaves IsWhole IsWhole
 finish-keeps_whole b w r h = whole-framed (finish w).0 (kept-finish framed-ending_turn w (framed-of w r h))
 
 -- scripts
-pub scripts-stay_whole : {L : Type 0} (read : L → Line) → ScriptsStayWhole read
+pub scripts-stay_whole : {L : Type 0} (read : L → Line) → ScriptsLeave IsWhole read
 scripts-stay_whole read ls =
     whole-framed (run_lines first_world (map read ls)).0
     (kept-lines framed-keeps framed-ending_turn any-line read ls first_world (framed-of first_world (first-is_reached false) first-is_whole))

@@ -29,11 +29,11 @@ use Rattle.dom_worlds.proofs.Trees.{nodes-there, root-there}
 use Rattle.dom_worlds.proofs.TreeChangeLaws.{root-subtree}
 use Rattle.dom_worlds.proofs.PartSteps.{part-step}
 use Rattle.dom_worlds.proofs.KindLines.{has_node-times}
-use Rattle.dom_worlds.proofs.Descents.{ancestor-inside, inside-ancestor, inside-subtree, inside-left, inside-comparable, before-apart, descend-begins}
+use Rattle.dom_worlds.proofs.Descents.{ancestor-inside, inside-ancestor, inside-left, inside-comparable, before-apart, descend-begins}
 use Rattle.dom_worlds.proofs.Insides.{IsOutside, unique-taken_out, inside, inside-itself, inside-absent, inside-put_root, times-inside, times-taken_out_all}
-use Rattle.dom_worlds.proofs.InsideAncestors.{inside-nested, inside-no_ancestor, child-there, times-has_node}
+use Rattle.dom_worlds.proofs.InsideAncestors.{inside-nested, inside-subtree, inside-no_ancestor, child-there, times-has_node}
 use Rattle.dom_worlds.proofs.TableSteps.{Fits, MadeIn, Grows, grows-times, grows-step, ancestors-step, tables-trees, tables-ends, moves-insert, moves-removal}
-use Rattle.dom_worlds.proofs.TableSteps.{tables-ranges, moves-data, moves-split, moves-join, walker-grows, registration-grows}
+use Rattle.dom_worlds.proofs.TableSteps.{tables-ranges, tables-telling, moves-data, moves-split, moves-join, walker-grows, registration-grows}
 
 -- Records and transient registrations: of the registrations on a path.
 all-registered : (P : Registration NodeName → Type 0) (path : List NodeName) (rs : List (Registration NodeName)) → AllByRecursion P rs →
@@ -88,17 +88,10 @@ tables-told : (p : Part) (c : Change NodeName) → HasTables p → HasTables (to
 tables-told p c h =
     let who = interested_in p c in
     let same = queues-set (λ queues k. queue_of queues k ++ record_in p c k ∷ []) who p.record_queues in
-    record {
-      hosts = h.hosts;
-      ranges = h.ranges;
-      iterators = h.iterators;
-      walkers = h.walkers;
-      registrations = subst (λ k. AllByRecursion (IsRegistrationIn p.trees k) p.registrations) (sym same) h.registrations;
-      pending = subst (λ k. AllByRecursion (λ j. j < k) (told p c).pending) (sym same)
-          (all-appended (length p.record_queues) who p.pending
-          (all-interested p.trees (length p.record_queues) (inclusive_ancestors p.trees (target_of c)) p.registrations c h.registrations) h.pending);
-      listeners = h.listeners;
-    }
+    tables-telling h (subst (λ k. AllByRecursion (IsRegistrationIn p.trees k) p.registrations) (sym same) h.registrations)
+    (subst (λ k. AllByRecursion (λ j. j < k) (told p c).pending) (sym same)
+    (all-appended (length p.record_queues) who p.pending
+    (all-interested p.trees (length p.record_queues) (inclusive_ancestors p.trees (target_of c)) p.registrations c h.registrations) h.pending)) h.listeners
 
 -- Iterators at a removal: they move to nodes of their root's tree.
 pub all-descend : (ts : Trees) (x : NodeName) → AllByRecursion (IsNodeIn ts) (inclusive_descendants ts x)

@@ -37,7 +37,7 @@ use Rattle.dom_worlds.proofs.PlanTexts.{leads-replacing, leads-setting_attribute
 use Rattle.dom_worlds.proofs.PlanTexts.{leads-normalizing, leads-setting_text}
 use Rattle.dom_worlds.proofs.PlanContents.{range-ends, leads-extracting, leads-deleting, leads-inserting_into_range}
 use Rattle.dom_worlds.proofs.ShadowRoots.{not_taken}
-use Rattle.dom_worlds.proofs.TableSteps.{HasNode, MadeIn, tables-iterators, tables-ranges, tables-walkers}
+use Rattle.dom_worlds.proofs.TableSteps.{HasNode, MadeIn, tables-iterators, tables-ranges, tables-telling, tables-walkers}
 use Rattle.dom_worlds.proofs.PlanRoots.{ends-at}
 use Rattle.dom_worlds.proofs.TableRecords.{IfSome, all-get}
 use Rattle.dom_worlds.proofs.Roots.{roots-same}
@@ -55,15 +55,7 @@ all-heard P x w ls g h =
 -- with other listeners
 pub tables-listeners : (p : Part) (ls : List (Listener NodeName)) → HasTables p → AllByRecursion (IsListenerIn p.trees) ls →
     HasTables (record p { listeners = ls })
-tables-listeners p ls h g = record {
-  hosts = h.hosts;
-  ranges = h.ranges;
-  iterators = h.iterators;
-  walkers = h.walkers;
-  registrations = h.registrations;
-  pending = h.pending;
-  listeners = g;
-}
+tables-listeners p ls h g = tables-telling h h.registrations h.pending g
 
 -- Observers. What other options leave as it is, and what holds of a new registration of an observer at a node.
 record HoldsRegistered (P : Registration NodeName → Type 0) (k : ℕ) (x : NodeName) (o : ObserveWords) : Type 0 where
@@ -86,15 +78,7 @@ all-registered_with {P} {k} {x} {o} rs each h =
 tables-observers : {p : Part} (queues : _) (rs : List (Registration NodeName)) (ks : List ℕ) → HasTables p →
     AllByRecursion (IsRegistrationIn p.trees (length queues)) rs → AllByRecursion (λ k. k < length queues) ks →
     HasTables (record p { record_queues = queues; registrations = rs; pending = ks })
-tables-observers queues rs ks h g m = record {
-  hosts = h.hosts;
-  ranges = h.ranges;
-  iterators = h.iterators;
-  walkers = h.walkers;
-  registrations = g;
-  pending = m;
-  listeners = h.listeners;
-}
+tables-observers queues rs ks h g m = tables-telling h g m h.listeners
 
 -- of more observers
 pub more-registered : (ts : Trees) (j k : ℕ) → j ≤ k → (rs : List (Registration NodeName)) → AllByRecursion (IsRegistrationIn ts j) rs →

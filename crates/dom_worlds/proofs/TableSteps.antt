@@ -1,6 +1,6 @@
 -- A step that loses no node keeps the tables of its part, where what it names is there.
 use Rattle.std.proofs.Common.{◌≡◌, ◌≤◌, ℕ, Bool, true, false, not, ◌&&◌, ◌||◌, List, [], ◌∷◌, map, length, Option, Some, None, option_map, refl, sym, ap, ◌∙◌}
-use Rattle.std.proofs.Common.{arith, subst}
+use Rattle.std.proofs.Common.{arith, subst, ◌<◌}
 use Rattle.std.specs.Prelude.{if◌then◌else◌, IsTrue, ⊤, nat_eq, nat_lt, nat_le, ◌+◌, ◌-◌}
 use Rattle.std.specs.List.{AllByRecursion}
 use Rattle.std.specs.Option.{option_map_or}
@@ -12,6 +12,8 @@ use Rattle.dom_model.specs.TreeChanges.{map_nodes, with_name}
 use Rattle.dom_model.specs.Place.{Boundary}
 use Rattle.dom_model.specs.Ranges.{Range, at, map_ends, boundary_eq, after_insert, after_removal, after_replace_data, after_split, after_join}
 use Rattle.dom_model.specs.Traversal.{Iterator, Walker}
+use Rattle.dom_model.specs.Output.{Change}
+use Rattle.dom_model.specs.Listeners.{Listener}
 use Rattle.dom_model.specs.Observers.{Registration, Source, asked_for, copied_from, copied_from_transient}
 use Rattle.dom_model.specs.Part.{Part, next_name}
 use Rattle.dom_model.specs.Steps.{Step, make, place, take_out, set_document, set_attribute, replace_data, split_at, join_at, set_range, part_step, leave}
@@ -190,41 +192,44 @@ ranges-moved ts f m rs h = all-map (EndsIn ts) (option_map (map_ends f)) rs
 
 -- The tables of a part, with others in one of them.
 module _ {p : Part} (h : HasTables p) where
-  -- ranges
-  pub tables-ranges : {xs : List (Option (Range NodeName))} → AllByRecursion (EndsIn p.trees) xs → HasTables (record p { ranges = xs })
-  tables-ranges g = record {
+  -- ranges, iterators and walkers
+  tables-standing : {rs : List (Option (Range NodeName))} {is : List Iterator} {ws : List Walker} → AllByRecursion (EndsIn p.trees) rs →
+      AllByRecursion (IsIteratorIn p.trees) is → AllByRecursion (IsWalkerIn p.trees) ws → HasTables (record p { ranges = rs; iterators = is; walkers = ws })
+  tables-standing r i w = record {
     hosts = h.hosts;
-    ranges = g;
-    iterators = h.iterators;
-    walkers = h.walkers;
+    ranges = r;
+    iterators = i;
+    walkers = w;
     registrations = h.registrations;
     pending = h.pending;
     listeners = h.listeners;
   }
+
+  -- what is told: registrations, who is pending, and listeners
+  pub tables-telling : {queues : List (List (Change NodeName))} {rs : List (Registration NodeName)} {ks : List ℕ} {ls : List (Listener NodeName)} →
+      AllByRecursion (IsRegistrationIn p.trees (length queues)) rs → AllByRecursion (λ k. k < length queues) ks → AllByRecursion (IsListenerIn p.trees) ls →
+      HasTables (record p { record_queues = queues; registrations = rs; pending = ks; listeners = ls })
+  tables-telling r k l = record {
+    hosts = h.hosts;
+    ranges = h.ranges;
+    iterators = h.iterators;
+    walkers = h.walkers;
+    registrations = r;
+    pending = k;
+    listeners = l;
+  }
+
+  -- ranges
+  pub tables-ranges : {xs : List (Option (Range NodeName))} → AllByRecursion (EndsIn p.trees) xs → HasTables (record p { ranges = xs })
+  tables-ranges g = tables-standing g h.iterators h.walkers
 
   -- iterators
   pub tables-iterators : {xs : List Iterator} → AllByRecursion (IsIteratorIn p.trees) xs → HasTables (record p { iterators = xs })
-  tables-iterators g = record {
-    hosts = h.hosts;
-    ranges = h.ranges;
-    iterators = g;
-    walkers = h.walkers;
-    registrations = h.registrations;
-    pending = h.pending;
-    listeners = h.listeners;
-  }
+  tables-iterators g = tables-standing h.ranges g h.walkers
 
   -- walkers
   pub tables-walkers : {xs : List Walker} → AllByRecursion (IsWalkerIn p.trees) xs → HasTables (record p { walkers = xs })
-  tables-walkers g = record {
-    hosts = h.hosts;
-    ranges = h.ranges;
-    iterators = h.iterators;
-    walkers = g;
-    registrations = h.registrations;
-    pending = h.pending;
-    listeners = h.listeners;
-  }
+  tables-walkers g = tables-standing h.ranges h.iterators g
 
 -- a part with its boundaries moved
 pub tables-ends : (p : Part) (f : Boundary NodeName → Boundary NodeName) → MovesIn p.trees f → HasTables p → HasTables (with_ends f p)

@@ -1,13 +1,12 @@
 -- The plans of texts keep the ends of ranges within their nodes.
 use Rattle.std.proofs.Common.{◌≡◌, ◌≤◌, ℕ, ◌+◌, ◌-◌, Bool, true, false, not, ◌&&◌, List, [], ◌∷◌, ◌++◌, map, filter, flat_map, drop, length, take_while, Option}
-use Rattle.std.proofs.Common.{Some, None, refl, sym, ap, ◌∙◌, arith, true≢false, subst, length-append, length-drop}
+use Rattle.std.proofs.Common.{Some, None, refl, sym, ap, ◌∙◌, arith, subst, length-append, length-drop}
 use Rattle.std.specs.Prelude.{if◌then◌else◌, ◌==◌, min}
 use Rattle.std.specs.List.{AllByRecursion}
 use Rattle.std.specs.Option.{option_map_or}
 use Rattle.std.proofs.lemmas.Bool.{cond-true, cond-false}
 use Rattle.dom_base.specs.declared.NodeName.{NodeName}
 use Rattle.dom_base.specs.declared.Kind.{Kind}
-use Rattle.dom_base.specs.declared.Kind.TheVariants.{Document, Fragment, Shadow, Element, Text, Comment}
 use Rattle.dom_model.specs.Names.{DomString, name_eq, is_empty, items_after, first_of}
 use Rattle.dom_model.specs.Tree.{Trees, none, tree, Node, node_in, kind_of, is_text, is_document, is_fragment, has_data, subtree, trees_below, times_in}
 use Rattle.dom_model.specs.Tree.{children_of, parent_of, siblings, next_sibling, index_of, length_of, descendants, inclusive_descendants, inclusive_ancestors}
@@ -37,6 +36,7 @@ use Rattle.dom_worlds.proofs.TreeChangeLaws.{HasRoot, root-put_root_new, root-fi
 use Rattle.dom_laws.proofs.Counts.{times-here, times-elsewhere, times-more, times_subtree}
 use Rattle.dom_laws.proofs.Paths.{path_none}
 use Rattle.dom_worlds.proofs.Trees.{all-both, where-here, where-later, put_root-where, put_where}
+use Rattle.dom_worlds.proofs.KindCases.{failing, of_kinds}
 
 -- A new node changes no ancestors.
 ancestors-followed : (new ts : Trees) (x : NodeName) → times_in new x ≡ 0 → inclusive_ancestors (followed_by new ts) x ≡ inclusive_ancestors ts x
@@ -65,12 +65,7 @@ parent-with_node n ts x e =
 
 -- a Text has data
 pub text-data : (k : Kind) → is_text k ≡ true → has_data k ≡ true
-text-data Text h = refl
-text-data Document h = absurd (true≢false (sym h))
-text-data Fragment h = absurd (true≢false (sym h))
-text-data Shadow h = absurd (true≢false (sym h))
-text-data Element h = absurd (true≢false (sym h))
-text-data Comment h = absurd (true≢false (sym h))
+text-data = of_kinds (λ k. is_text k ≡ true → has_data k ≡ true) failing failing failing failing (λ h. refl) failing
 
 -- who has children is no Text
 pub kids-open : (p : Part) (x : NodeName) → HasRoom nowhere p → 1 ≤ kids p.trees x → IsOpen p x

@@ -2,6 +2,7 @@
 pub mod Worlds
 pub mod Tables
 pub mod Reached
+pub mod Keeping
 pub mod Wholes
 pub mod Follows
 pub mod Sights

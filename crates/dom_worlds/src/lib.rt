@@ -8,11 +8,12 @@ ghost use Rattle.dom_model.specs.World.{World};
 ghost use Rattle.dom_worlds.specs.Reached.{IsReached, IsQuiet, FirstIsReached, StepKeepsReached, EndingKeepsReached, FinishKeepsReached};
 ghost use Rattle.dom_worlds.specs.Reached.{ScriptsReach, QuietScriptsReach, ShadowRootsAreRoots, NoOtherShadowRoots, AttachedAreThere};
 ghost use Rattle.dom_worlds.specs.Reached.{OwnersHaveWords, HostsAreTheirs, AssignedAreSiblings};
-ghost use Rattle.dom_worlds.specs.Wholes.{FirstIsWhole, StepKeepsWhole, EndingKeepsWhole, FinishKeepsWhole, ScriptsStayWhole, FirstHasOneRoots};
-ghost use Rattle.dom_worlds.specs.Wholes.{StepKeepsOneRoots, EndingKeepsOneRoots, FinishKeepsOneRoots, ScriptsKeepOneRoots};
+ghost use Rattle.dom_worlds.specs.Tables.{IsWhole};
+ghost use Rattle.dom_worlds.specs.Keeping.{FirstHas, StepLeaves, EndingLeaves, FinishLeaves, ScriptsLeave};
+ghost use Rattle.dom_worlds.specs.Wholes.{RangesHaveOneRoot};
 ghost use Rattle.dom_worlds.specs.Follows.{PathFollowsParents};
 ghost use Rattle.dom_worlds.specs.Sights.{HiddenByRoots, RetargetedByRoots};
-ghost use Rattle.dom_worlds.specs.Bounds.{FirstIsBounded, StepKeepsBounds, EndingKeepsBounds, FinishKeepsBounds, ScriptsStayBounded};
+ghost use Rattle.dom_worlds.specs.Bounds.{IsBounded, StepKeepsBounds};
 
 /// What holds of every world that the machine reaches, whatever its components' listeners do, and where they only log.
 pub fn reached_worlds()
@@ -35,29 +36,29 @@ pub fn reached_worlds()
 /// registrations, listeners and signalled slots are at nodes of their owners, both ends of a range in one tree, queued records
 /// name nodes of their owners, observers have their record queues, and each owner that is there has its first node.
 pub fn whole_worlds()
-    ensures first { FirstIsWhole }
-    ensures kept { StepKeepsWhole }
-    ensures ending { EndingKeepsWhole }
-    ensures finish { FinishKeepsWhole }
-    ensures script { (read : List ℕ → Line) → ScriptsStayWhole read }
+    ensures first { FirstHas IsWhole }
+    ensures kept { StepLeaves IsWhole IsWhole }
+    ensures ending { EndingLeaves IsWhole IsWhole }
+    ensures finish { FinishLeaves IsWhole IsWhole }
+    ensures script { (read : List ℕ → Line) → ScriptsLeave IsWhole read }
 {}
 
 /// Both ends of each live range have one root, in every world that the machine reaches (DOM Standard, 5.3 and 5.5).
 pub fn ranges_have_one_root()
-    ensures first { FirstHasOneRoots }
-    ensures kept { StepKeepsOneRoots }
-    ensures ending { EndingKeepsOneRoots }
-    ensures finish { FinishKeepsOneRoots }
-    ensures script { (read : List ℕ → Line) → ScriptsKeepOneRoots read }
+    ensures first { FirstHas RangesHaveOneRoot }
+    ensures kept { StepLeaves IsWhole RangesHaveOneRoot }
+    ensures ending { EndingLeaves IsWhole RangesHaveOneRoot }
+    ensures finish { FinishLeaves IsWhole RangesHaveOneRoot }
+    ensures script { (read : List ℕ → Line) → ScriptsLeave RangesHaveOneRoot read }
 {}
 
 /// The ends of live ranges are within their nodes, in every world that the machine reaches (DOM Standard, 5.2 and 5.5).
 pub fn ranges_stay_bounded()
-    ensures first { FirstIsBounded }
+    ensures first { FirstHas IsBounded }
     ensures kept { StepKeepsBounds }
-    ensures ending { EndingKeepsBounds }
-    ensures finish { FinishKeepsBounds }
-    ensures script { (read : List ℕ → Line) → ScriptsStayBounded read }
+    ensures ending { EndingLeaves IsBounded IsBounded }
+    ensures finish { FinishLeaves IsBounded IsBounded }
+    ensures script { (read : List ℕ → Line) → ScriptsLeave IsBounded read }
 {}
 
 /// The whole path of an event begins at its target, goes from each node to its event parent, through slots and shadow roots, and
