@@ -131,26 +131,28 @@ module _ (g : Owner → Bool) (closed : KeepsMakers g) where
     attach-alike a =
         attaching-in w v s.same o h (named (part_of w o) a) ∙ ap (λ x. group_run g (attaching v o (named x a))) (same-part g closed w v s.same o h)
 
+    -- what is asked of a node, and is the same of it in both
+    asked-alike : {A : Type 0} (say : A → Value) (ask : World → NodeName → A) (a : NodeWord) →
+        ask w (named (part_of w o) a) ≡ ask v (named (part_of w o) a) →
+        group_run g (answering o (say (ask w (named (part_of w o) a))) w) ≡ group_run g (answering o (say (ask v (named (part_of v o) a))) v)
+    asked-alike say ask a same =
+        answered o (say (ask w (named (part_of w o) a))) w v s.same
+        ∙ ap (λ b. group_run g (answering o (say b) v)) same
+        ∙ ap (λ r. group_run g (answering o (say (ask v (named r a))) v)) (same-part g closed w v s.same o h)
+
     -- whether a node is connected
     pub connected-alike : (a : NodeWord) → group_run g (perform w o (Command.connected a)) ≡ group_run g (perform v o (Command.connected a))
     connected-alike a =
         let x = named (part_of w o) a in
-        let mine = named-inside a in
-        answered o (a_truth (is_connected w x)) w v s.same
-        ∙ ap (λ b. group_run g (answering o (a_truth b) v))
-        (sym (connected-group w (ground-of w s.first.world) x mine) ∙ ap (λ u. is_connected u x) s.same ∙ connected-group v (ground-of v s.second.world) x mine)
-        ∙ ap (λ r. group_run g (answering o (a_truth (is_connected v (named r a))) v)) (same-part g closed w v s.same o h)
+        asked-alike a_truth is_connected a (sym (connected-group w (ground-of w s.first.world) x (named-inside a))
+        ∙ ap (λ u. is_connected u x) s.same ∙ connected-group v (ground-of v s.second.world) x (named-inside a))
 
     -- what is assigned to a slot
     pub assigned-alike : (a : NodeWord) → group_run g (perform w o (Command.assigned a)) ≡ group_run g (perform v o (Command.assigned a))
     assigned-alike a =
         let x = named (part_of w o) a in
-        let mine = named-inside a in
-        answered o (a_list (assigned_nodes w x)) w v s.same
-        ∙ ap (λ b. group_run g (answering o (a_list b) v))
-        (sym (assigned-in g closed w (ground-of w s.first.world) x mine) ∙ ap (λ u. assigned_nodes u x) s.same
-        ∙ assigned-in g closed v (ground-of v s.second.world) x mine)
-        ∙ ap (λ r. group_run g (answering o (a_list (assigned_nodes v (named r a))) v)) (same-part g closed w v s.same o h)
+        asked-alike a_list assigned_nodes a (sym (assigned-in g closed w (ground-of w s.first.world) x (named-inside a))
+        ∙ ap (λ u. assigned_nodes u x) s.same ∙ assigned-in g closed v (ground-of v s.second.world) x (named-inside a))
 
     -- a microtask
     pub micro-alike : (a : Word) → group_run g (perform w o (Command.micro a)) ≡ group_run g (perform v o (Command.micro a))

@@ -18,7 +18,7 @@ use Rattle.dom_worlds.specs.Worlds.{AllNodes}
 use Rattle.dom_isolation.specs.Words.{HasNoFeed}
 use Rattle.dom_worlds.proofs.ListLemmas.{all-append, all-from, all-set, either_way}
 use Rattle.dom_worlds.proofs.TreeLemmas.{nodes-with_node, nodes-taken_out, nodes-placed, nodes-map_nodes, nodes-listed}
-use Rattle.dom_worlds.proofs.PlanLemmas.{IsKept, any-whole}
+use Rattle.dom_worlds.proofs.PlanLemmas.{Asked, IsKept, any-whole, rules-kept}
 
 -- A node, a listener and a change with such words.
 abbrev pub IsPlainAttribute : Attribute → Type 0
@@ -48,10 +48,7 @@ IsPlainPart p = AllNodes IsPlainNode p.trees × AllByRecursion IsPlainListener p
 
 -- a step that brings such words
 abbrev pub IsPlainStep : Step → Type 0
-IsPlainStep (make n) = IsPlainNode n
-IsPlainStep (set_attribute x a v) = HasNoFeed a
-IsPlainStep (queue_record c) = IsPlainChange c
-IsPlainStep s = ⊤
+IsPlainStep = Asked IsPlainNode (λ x. ⊤) HasNoFeed IsPlainChange
 
 -- a queue that is read
 pub plain-queue : (queues : List (List (Change NodeName))) (k : ℕ) → AllByRecursion IsPlainQueue queues → IsPlainQueue (queue_of queues k)
@@ -154,16 +151,8 @@ plain-node_in p x i = plain-found x (nodes p.trees) (nodes-listed IsPlainNode p.
 -- the rules hold
 pub plain-rules : IsKept IsPlainPart IsPlainStep (λ x. ⊤)
 plain-rules =
-    record {
+    rules-kept (record {
       step = plain-part_step;
-      placing = λ x parent before h. tt;
-      making_room = λ parent index count. tt;
-      taking_out = λ x. tt;
-      document = λ x d. tt;
-      data_replaced = λ x offset count new. tt;
-      split = λ x offset new parent index. tt;
-      join = λ x size next parent index. tt;
-      range = λ k range. tt;
       children_told = λ x added removed previous next. tt;
       data_told = λ x old. tt;
       new_text = λ x d text. (tt, tt);
@@ -173,4 +162,4 @@ plain-rules =
       new_node = λ p i. tt;
       children = λ p i x. all-from (λ y. ⊤) (λ y. tt) (children_of p.trees x);
       wholes = λ p i range. any-whole (pieces_of p.trees range);
-    }
+    })

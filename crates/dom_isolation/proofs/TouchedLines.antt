@@ -92,6 +92,11 @@ module _ (g : Owner → Bool) (closed : KeepsMakers g) where
       same = opening-in g closed w v s.same o (record { mine = h; first = a; second = b });
     }
 
+    -- a command of which the group sees the same in both, and of which nothing is told
+    seen-follows : (c : Command) → refusal w o c ≡ None → refusal v o c ≡ None → (rest : List Interference) →
+        group_run g (accepted w o c) ≡ group_run g (accepted v o c) → Follows g closed (accepted w o c) (untold rest (accepted v o c)) rest
+    seen-follows c d e rest alike = untold-follows rest alike (accepted-world s.first o a c d) (accepted-world s.second o b c e)
+
     -- An accepted command.
     accepted-follows : (c : Command) → refusal w o c ≡ None → refusal v o c ≡ None → (rest : List Interference) →
         Follows g closed (accepted w o c) (accepted_under g (v, accepted_records g w o c ++ rest) o c) rest
@@ -107,20 +112,11 @@ module _ (g : Owner → Bool) (closed : KeepsMakers g) where
         subst (λ q. Follows g closed (accepted w o (Command.dispatch x e r)) (done q) rest)
         (same-part g closed (opening_turn w o) (opening_turn v o) opened-same.same o h)
         (dispatch-follows opened-same o e (words-inside g closed opened-same o h x r) rest)
-    accepted-follows (Command.attach x) d e rest =
-        untold-follows rest (attach-alike g closed opened-same o h x) (accepted-world s.first o a (Command.attach x) d)
-        (accepted-world s.second o b (Command.attach x) e)
-    accepted-follows (Command.connected x) d e rest =
-        untold-follows rest (connected-alike g closed opened-same o h x) (accepted-world s.first o a (Command.connected x) d)
-        (accepted-world s.second o b (Command.connected x) e)
-    accepted-follows (Command.assigned x) d e rest =
-        untold-follows rest (assigned-alike g closed opened-same o h x) (accepted-world s.first o a (Command.assigned x) d)
-        (accepted-world s.second o b (Command.assigned x) e)
-    accepted-follows (Command.micro x) d e rest =
-        untold-follows rest (micro-alike g closed opened-same o h x) (accepted-world s.first o a (Command.micro x) d)
-        (accepted-world s.second o b (Command.micro x) e)
-    accepted-follows c d e rest =
-        untold-follows rest (effect-alike g closed opened-same o h c) (accepted-world s.first o a c d) (accepted-world s.second o b c e)
+    accepted-follows (Command.attach x) d e rest = seen-follows (Command.attach x) d e rest (attach-alike g closed opened-same o h x)
+    accepted-follows (Command.connected x) d e rest = seen-follows (Command.connected x) d e rest (connected-alike g closed opened-same o h x)
+    accepted-follows (Command.assigned x) d e rest = seen-follows (Command.assigned x) d e rest (assigned-alike g closed opened-same o h x)
+    accepted-follows (Command.micro x) d e rest = seen-follows (Command.micro x) d e rest (micro-alike g closed opened-same o h x)
+    accepted-follows c d e rest = seen-follows c d e rest (effect-alike g closed opened-same o h c)
 
     -- A command, refused or accepted.
     pub command-follows : (c : Command) (rest : List Interference) →
