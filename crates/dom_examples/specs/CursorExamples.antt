@@ -1,6 +1,6 @@
 -- Node iterators and tree walkers. Scripts with their answers, which come from outside.
-use Rattle.std.specs.Prelude.{codes, [], ◌∷◌}
-use Rattle.dom_examples.specs.Example.{Example}
+use Rattle.std.specs.Prelude.{codes, [], ◌∷◌, ◌++◌}
+use Rattle.dom_examples.specs.Example.{Example, first_nodes, oks}
 
 -- the reference of an iterator is removed
 abbrev pub reference_removed : Example
@@ -21,15 +21,10 @@ reference_removed = record {
       codes "p iter-next i0" ∷
       [];
   answers =
-      codes "p ok n1" ∷
-      codes "p ok n2" ∷
-      codes "p ok n3" ∷
-      codes "p ok" ∷
-      codes "p ok" ∷
+      first_nodes 3 ++
+      oks 2 ++
       codes "p ok i0" ∷
-      codes "p ok n1" ∷
-      codes "p ok n2" ∷
-      codes "p ok n3" ∷
+      first_nodes 3 ++
       codes "p ok n3" ∷
       codes "p ok" ∷
       codes "p ok n2 after" ∷
@@ -60,13 +55,8 @@ walkers_and_filters = record {
       codes "p walk-at w1" ∷
       [];
   answers =
-      codes "p ok n1" ∷
-      codes "p ok n2" ∷
-      codes "p ok n3" ∷
-      codes "p ok n4" ∷
-      codes "p ok" ∷
-      codes "p ok" ∷
-      codes "p ok" ∷
+      first_nodes 4 ++
+      oks 3 ++
       codes "p ok w0" ∷
       codes "p ok n4" ∷
       codes "p ok n1" ∷

@@ -1,6 +1,6 @@
 -- Slots, listeners, and events that are retargeted. Scripts with their answers, which come from outside.
-use Rattle.std.specs.Prelude.{codes, [], ◌∷◌}
-use Rattle.dom_examples.specs.Example.{Example, continued}
+use Rattle.std.specs.Prelude.{codes, [], ◌∷◌, ◌++◌, replicate}
+use Rattle.dom_examples.specs.Example.{Example, continued, oks, first_nodes}
 
 -- a slotted child of the page
 abbrev pub slotted_child : Example
@@ -29,14 +29,9 @@ slotted_child = record {
       codes "p ok" ∷
       codes "p ok c1" ∷
       codes "p ok n2" ∷
-      codes "p ok" ∷
-      codes "p ok" ∷
-      codes "p ok" ∷
-      codes "p ok" ∷
+      oks 4 ++
       codes "c1 ok m1" ∷
-      codes "c1 ok" ∷
-      codes "c1 ok" ∷
-      codes "c1 ok" ∷
+      replicate 3 (codes "c1 ok") ++
       codes "c1 ok [n2]" ∷
       codes "c1 event t slotchange phase=2 target=m1 current=m1 related=null path=[m1,m0]" ∷
       codes "c1 ok" ∷
@@ -77,8 +72,7 @@ slots_by_name = record {
       codes "p ok n1" ∷
       codes "p ok c1" ∷
       codes "p ok n2" ∷
-      codes "p ok" ∷
-      codes "p ok" ∷
+      oks 2 ++
       codes "p ! syntax" ∷
       codes "p ok" ∷
       codes "c1 ok m1" ∷
@@ -120,16 +114,13 @@ events_from_inside = record {
       codes "p ok n1" ∷
       codes "p ok" ∷
       codes "p ok c1" ∷
-      codes "p ok" ∷
-      codes "p ok" ∷
+      oks 2 ++
       codes "c1 ok m1" ∷
       codes "c1 ok m2" ∷
       codes "c1 ok" ∷
       codes "c1 ok" ∷
       codes "p event a ping phase=2 target=n1 current=n1 related=null path=[n1,n0]" ∷
-      codes "c1 ok true" ∷
-      codes "c1 ok true" ∷
-      codes "c1 ok true" ∷
+      replicate 3 (codes "c1 ok true") ++
       codes "c1 ok m3" ∷
       codes "c1 ! type" ∷
       [];
@@ -161,14 +152,9 @@ slotted_host = record {
       codes "p ok n2" ∷
       codes "p ok" ∷
       codes "p ok c2" ∷
-      codes "p ok" ∷
-      codes "p ok" ∷
-      codes "p ok" ∷
+      oks 3 ++
       codes "c1 ok m1" ∷
-      codes "c1 ok" ∷
-      codes "c1 ok" ∷
-      codes "c1 ok" ∷
-      codes "c1 ok" ∷
+      replicate 4 (codes "c1 ok") ++
       [];
 }
 
@@ -209,8 +195,7 @@ listener_words = record {
       codes "p event h go phase=2 target=n1 current=n1 related=null path=[n1]" ∷
       codes "p ok true" ∷
       codes "p ok true" ∷
-      codes "p ok" ∷
-      codes "p ok" ∷
+      oks 2 ++
       codes "p event k go phase=2 target=n1 current=n1 related=null path=[n1]" ∷
       codes "p ok false" ∷
       [];
@@ -234,16 +219,11 @@ stops_and_labels = record {
       codes "p dispatch n1 e cancelable" ∷
       [];
   answers =
-      codes "p ok n1" ∷
-      codes "p ok n2" ∷
-      codes "p ok" ∷
-      codes "p ok" ∷
-      codes "p ok" ∷
-      codes "p ok" ∷
+      first_nodes 2 ++
+      oks 4 ++
       codes "p event x e phase=2 target=n2 current=n2 related=null path=[n2,n1]" ∷
       codes "p ok true" ∷
-      codes "p ok" ∷
-      codes "p ok" ∷
+      oks 2 ++
       codes "p event y e phase=2 target=n2 current=n2 related=null path=[n2,n1]" ∷
       codes "p event w e phase=2 target=n2 current=n2 related=null path=[n2,n1]" ∷
       codes "p ok true" ∷

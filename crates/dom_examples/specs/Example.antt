@@ -1,5 +1,5 @@
 -- What an example is, and what it claims of the definitions.
-use Rattle.std.specs.Prelude.{◌≡◌, ℕ, List, [], ◌∷◌, ◌++◌, map}
+use Rattle.std.specs.Prelude.{◌≡◌, ℕ, List, [], ◌∷◌, ◌++◌, map, take, replicate, codes}
 use Rattle.dom_base.specs.declared.Owner.{Owner}
 use Rattle.dom_model.specs.DocumentMachine.{outputs_of}
 use Rattle.dom_model.specs.Trace.{trace_of}
@@ -12,6 +12,15 @@ use Rattle.dom_text.specs.Text.{output_text}
 pub record Example : Type 0 where
   pub lines : List (List ℕ)
   pub answers : List (List ℕ)
+
+-- the answers to so many lines of the page that only change something
+abbrev pub oks : ℕ → List (List ℕ)
+oks n = replicate n (codes "p ok")
+
+-- the answers to the making of so many nodes of the page
+abbrev pub first_nodes : ℕ → List (List ℕ)
+first_nodes n =
+    take n (codes "p ok n1" ∷ codes "p ok n2" ∷ codes "p ok n3" ∷ codes "p ok n4" ∷ codes "p ok n5" ∷ codes "p ok n6" ∷ codes "p ok n7" ∷ [])
 
 -- a script that goes on where another one ends
 abbrev pub continued : Example → Example → Example

@@ -1,6 +1,6 @@
 -- Components inside components. Scripts with their answers, which come from outside.
-use Rattle.std.specs.Prelude.{codes, [], ◌∷◌}
-use Rattle.dom_examples.specs.Example.{Example, continued}
+use Rattle.std.specs.Prelude.{codes, [], ◌∷◌, ◌++◌, replicate}
+use Rattle.dom_examples.specs.Example.{Example, continued, oks}
 
 -- the page attaches to an element, and the component makes one
 abbrev pub host_in_component : Example
@@ -17,23 +17,40 @@ host_in_component = record {
       codes "p ok n1" ∷
       codes "p ok" ∷
       codes "p ok c1" ∷
-      codes "p ok" ∷
-      codes "p ok" ∷
+      oks 2 ++
       codes "c1 ok m1" ∷
       [];
 }
 
--- a component attached by another one: its events, its names and its word
-abbrev pub component_in_component : Example
-component_in_component = continued host_in_component (record {
+-- the element is placed below the component's root
+abbrev pub placed_host : Example
+placed_host = continued host_in_component (record { lines = codes "c1 append m0 m1" ∷ []; answers = codes "c1 ok" ∷ [] })
+
+-- the component attaches to the element, and its component has an element and a listener
+abbrev pub inner_component : Example
+inner_component = record {
   lines =
-      codes "c1 append m0 m1" ∷
       codes "c1 attach m1" ∷
       codes "c1 listen m1 e b log" ∷
       codes "c1 ." ∷
       codes "c1.1 new element i" ∷
       codes "c1.1 append m0 m1" ∷
       codes "c1.1 listen m1 e c log" ∷
+      [];
+  answers =
+      codes "c1 ok c1.1" ∷
+      codes "c1 ok" ∷
+      codes "c1 ok" ∷
+      codes "c1.1 ok m1" ∷
+      codes "c1.1 ok" ∷
+      codes "c1.1 ok" ∷
+      [];
+}
+
+-- a component attached by another one: its events, its names and its word
+abbrev pub component_in_component : Example
+component_in_component = continued (continued placed_host inner_component) (record {
+  lines =
       codes "c1.1 dispatch m1 e composed" ∷
       codes "c1.1 dispatch m1 e composed related m0" ∷
       codes "c1.1 remove c1:m1" ∷
@@ -46,13 +63,6 @@ component_in_component = continued host_in_component (record {
       codes "p attach n2" ∷
       [];
   answers =
-      codes "c1 ok" ∷
-      codes "c1 ok c1.1" ∷
-      codes "c1 ok" ∷
-      codes "c1 ok" ∷
-      codes "c1.1 ok m1" ∷
-      codes "c1.1 ok" ∷
-      codes "c1.1 ok" ∷
       codes "c1.1 event c e phase=2 target=m1 current=m1 related=null path=[m1,m0,c1:m1,c1:m0,n1,n0]" ∷
       codes "c1 event b e phase=2 target=m1 current=m1 related=null path=[m1,m0,n1,n0]" ∷
       codes "p event a e phase=2 target=n1 current=n1 related=null path=[n1,n0]" ∷
@@ -112,22 +122,15 @@ slots_of_two_trees = record {
       codes "p ok c1" ∷
       codes "p ok" ∷
       codes "p ok n2" ∷
-      codes "p ok" ∷
-      codes "p ok" ∷
+      oks 2 ++
       codes "c1 ok m1" ∷
       codes "c1 ok m2" ∷
       codes "c1 ok m3" ∷
       codes "c1 ok c1.1" ∷
       codes "c1 ok c1.2" ∷
-      codes "c1 ok" ∷
-      codes "c1 ok" ∷
-      codes "c1 ok" ∷
-      codes "c1 ok" ∷
+      replicate 4 (codes "c1 ok") ++
       codes "c1.1 ok m1" ∷
-      codes "c1.1 ok" ∷
-      codes "c1.1 ok" ∷
-      codes "c1.1 ok" ∷
-      codes "c1.1 ok" ∷
+      replicate 4 (codes "c1.1 ok") ++
       codes "c1.2 ok m1" ∷
       codes "c1.2 ok" ∷
       codes "c1.2 ok" ∷
@@ -205,8 +208,7 @@ adopted_with_inner_trees = record {
       codes "c1.1 ok true" ∷
       codes "c1.1 ok n0" ∷
       codes "c1.1 ok" ∷
-      codes "p ok" ∷
-      codes "p ok" ∷
+      oks 2 ++
       codes "c1.1 ok n2" ∷
       codes "c1.1 ok n2" ∷
       codes "c1.1 ok n0" ∷
@@ -217,8 +219,7 @@ adopted_with_inner_trees = record {
       codes "c1 ok n2" ∷
       codes "c1 ok n0" ∷
       codes "c1 ok" ∷
-      codes "p ok" ∷
-      codes "p ok" ∷
+      oks 2 ++
       codes "c1.1 ok true" ∷
       codes "c1 ok" ∷
       codes "c1.1 ok false" ∷
@@ -229,25 +230,13 @@ adopted_with_inner_trees = record {
 
 -- an event from a tree whose host is in no tree ends there, until the host is placed
 abbrev pub detached_inner_host : Example
-detached_inner_host = continued host_in_component (record {
+detached_inner_host = continued (continued host_in_component inner_component) (record {
   lines =
-      codes "c1 attach m1" ∷
-      codes "c1 listen m1 e b log" ∷
-      codes "c1 ." ∷
-      codes "c1.1 new element i" ∷
-      codes "c1.1 append m0 m1" ∷
-      codes "c1.1 listen m1 e c log" ∷
       codes "c1.1 dispatch m1 e composed" ∷
       codes "c1 append m0 m1" ∷
       codes "c1.1 dispatch m1 e composed" ∷
       [];
   answers =
-      codes "c1 ok c1.1" ∷
-      codes "c1 ok" ∷
-      codes "c1 ok" ∷
-      codes "c1.1 ok m1" ∷
-      codes "c1.1 ok" ∷
-      codes "c1.1 ok" ∷
       codes "c1.1 event c e phase=2 target=m1 current=m1 related=null path=[m1,m0,c1:m1]" ∷
       codes "c1 event b e phase=2 target=m1 current=m1 related=null path=[m1]" ∷
       codes "c1.1 ok true" ∷

@@ -1,6 +1,6 @@
 -- What mutation observers are told. Scripts with their answers, which come from outside.
-use Rattle.std.specs.Prelude.{codes, [], ◌∷◌}
-use Rattle.dom_examples.specs.Example.{Example}
+use Rattle.std.specs.Prelude.{codes, [], ◌∷◌, ◌++◌}
+use Rattle.dom_examples.specs.Example.{Example, first_nodes, oks}
 
 -- the last child appended again
 abbrev pub last_child_again : Example
@@ -15,12 +15,10 @@ last_child_again = record {
       codes "p ." ∷
       [];
   answers =
-      codes "p ok n1" ∷
-      codes "p ok n2" ∷
+      first_nodes 2 ++
       codes "p ok" ∷
       codes "p ok o0" ∷
-      codes "p ok" ∷
-      codes "p ok" ∷
+      oks 2 ++
       codes "p record o0 childList n1 added=[] removed=[n2] prev=null next=null" ∷
       codes "p record o0 childList n1 added=[n2] removed=[] prev=n2 next=null" ∷
       codes "p ok" ∷
@@ -45,16 +43,12 @@ fragments_into_document = record {
       codes "p tree n1" ∷
       [];
   answers =
-      codes "p ok n1" ∷
-      codes "p ok n2" ∷
-      codes "p ok n3" ∷
-      codes "p ok" ∷
-      codes "p ok" ∷
+      first_nodes 3 ++
+      oks 2 ++
       codes "p ! hierarchy" ∷
       codes "p ok n4" ∷
       codes "p ok o0" ∷
-      codes "p ok" ∷
-      codes "p ok" ∷
+      oks 2 ++
       codes "p ok 0" ∷
       codes "p ok (n1 fragment (n2 element a) (n3 element b))" ∷
       [];
@@ -78,16 +72,10 @@ replace_by_next_sibling = record {
       codes "p children n1" ∷
       [];
   answers =
-      codes "p ok n1" ∷
-      codes "p ok n2" ∷
-      codes "p ok n3" ∷
-      codes "p ok n4" ∷
-      codes "p ok" ∷
-      codes "p ok" ∷
-      codes "p ok" ∷
+      first_nodes 4 ++
+      oks 3 ++
       codes "p ok o0" ∷
-      codes "p ok" ∷
-      codes "p ok" ∷
+      oks 2 ++
       codes "p record o0 childList n1 added=[] removed=[n3] prev=null next=n4" ∷
       codes "p record o0 childList n1 added=[n3] removed=[n2] prev=null next=n4" ∷
       codes "p ok 2" ∷
@@ -114,20 +102,13 @@ transient_registrations = record {
       codes "p take o0" ∷
       [];
   answers =
-      codes "p ok n1" ∷
-      codes "p ok n2" ∷
+      first_nodes 2 ++
       codes "p ok" ∷
       codes "p ok o0" ∷
-      codes "p ok" ∷
-      codes "p ok" ∷
-      codes "p ok" ∷
+      oks 3 ++
       codes "p record o0 childList n1 added=[] removed=[n2] prev=null next=null" ∷
       codes "p record o0 attributes n2 name=id old=null" ∷
-      codes "p ok" ∷
-      codes "p ok" ∷
-      codes "p ok" ∷
-      codes "p ok" ∷
-      codes "p ok" ∷
+      oks 5 ++
       codes "p record o0 attributes n1 name=class old=null" ∷
       codes "p record o0 attributes n1 name=class old=\"k\"" ∷
       codes "p ok 2" ∷
@@ -151,17 +132,14 @@ text_replaced = record {
       codes "p take o0" ∷
       [];
   answers =
-      codes "p ok n1" ∷
-      codes "p ok n2" ∷
+      first_nodes 2 ++
       codes "p ok" ∷
       codes "p ok o0" ∷
       codes "p ! type" ∷
-      codes "p ok" ∷
-      codes "p ok" ∷
+      oks 2 ++
       codes "p record o0 childList n1 added=[n3] removed=[n2] prev=null next=null" ∷
       codes "p ok 1" ∷
-      codes "p ok" ∷
-      codes "p ok" ∷
+      oks 2 ++
       codes "p ok 0" ∷
       [];
 }
@@ -186,14 +164,11 @@ old_data_and_filter = record {
       codes "p ok n1" ∷
       codes "p ! unknown" ∷
       codes "p ok o0" ∷
-      codes "p ok" ∷
-      codes "p ok" ∷
+      oks 2 ++
       codes "p record o0 characterData n1 old=\"ab\"" ∷
       codes "p ok" ∷
       codes "p ok n2" ∷
-      codes "p ok" ∷
-      codes "p ok" ∷
-      codes "p ok" ∷
+      oks 3 ++
       codes "p record o0 attributes n2 name=id old=null" ∷
       codes "p ok 1" ∷
       [];

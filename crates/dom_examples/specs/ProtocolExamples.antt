@@ -1,6 +1,6 @@
 -- Owners, turns, refusals by spelling, and pairs of worlds. Scripts with their answers, which come from outside.
-use Rattle.std.specs.Prelude.{codes, [], ◌∷◌}
-use Rattle.dom_examples.specs.Example.{Example, continued}
+use Rattle.std.specs.Prelude.{codes, [], ◌∷◌, ◌++◌, replicate, List, ℕ}
+use Rattle.dom_examples.specs.Example.{Example, continued, oks}
 use Rattle.dom_examples.specs.EventExamples.{slotted_host, host_slotted_into_host, events_from_inside}
 
 -- refusals by spelling and by look-up, and a component in an open turn of the page
@@ -54,10 +54,19 @@ page_before = record {
       codes "p ok" ∷
       codes "p ok c1" ∷
       codes "p ok o0" ∷
-      codes "p ok" ∷
-      codes "p ok" ∷
+      oks 2 ++
       [];
 }
+
+-- the page's lines behind those of the component
+abbrev pub page_behind : List (List ℕ)
+page_behind =
+    codes "p new text \"x\"" ∷
+    codes "p append n1 n2" ∷
+    codes "p micro k" ∷
+    codes "p set n1 id \"v\"" ∷
+    codes "p ." ∷
+    []
 
 -- a component with a slot and a listener, which hears of a child of its host
 abbrev pub with_component : Example
@@ -67,21 +76,12 @@ with_component = continued page_before (record {
       codes "c1 append m0 m1" ∷
       codes "c1 listen m1 slotchange t log" ∷
       codes "c1 ." ∷
-      codes "p new text \"x\"" ∷
-      codes "p append n1 n2" ∷
-      codes "p micro k" ∷
-      codes "p set n1 id \"v\"" ∷
-      codes "p ." ∷
-      [];
+      page_behind;
   answers =
       codes "c1 ok m1" ∷
-      codes "c1 ok" ∷
-      codes "c1 ok" ∷
-      codes "c1 ok" ∷
+      replicate 3 (codes "c1 ok") ++
       codes "p ok n2" ∷
-      codes "p ok" ∷
-      codes "p ok" ∷
-      codes "p ok" ∷
+      oks 3 ++
       codes "c1 event t slotchange phase=2 target=m1 current=m1 related=null path=[m1,m0]" ∷
       codes "p micro k" ∷
       codes "p record o0 attributes n1 name=id old=null" ∷
@@ -92,18 +92,10 @@ with_component = continued page_before (record {
 -- the first example without the lines of the component: the lines of the page are equal
 abbrev pub without_component : Example
 without_component = continued page_before (record {
-  lines =
-      codes "p new text \"x\"" ∷
-      codes "p append n1 n2" ∷
-      codes "p micro k" ∷
-      codes "p set n1 id \"v\"" ∷
-      codes "p ." ∷
-      [];
+  lines = page_behind;
   answers =
       codes "p ok n2" ∷
-      codes "p ok" ∷
-      codes "p ok" ∷
-      codes "p ok" ∷
+      oks 3 ++
       codes "p micro k" ∷
       codes "p record o0 attributes n1 name=id old=null" ∷
       codes "p ok" ∷

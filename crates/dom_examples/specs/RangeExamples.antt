@@ -1,6 +1,6 @@
 -- Live ranges under changes, and what is taken out of them. Scripts with their answers, which come from outside.
-use Rattle.std.specs.Prelude.{codes, [], ◌∷◌}
-use Rattle.dom_examples.specs.Example.{Example}
+use Rattle.std.specs.Prelude.{codes, [], ◌∷◌, ◌++◌}
+use Rattle.dom_examples.specs.Example.{Example, first_nodes, oks}
 
 -- extract, insert and delete
 abbrev pub extract_insert_delete : Example
@@ -31,20 +31,10 @@ extract_insert_delete = record {
       codes "p range-get r0" ∷
       [];
   answers =
-      codes "p ok n1" ∷
-      codes "p ok n2" ∷
-      codes "p ok n3" ∷
-      codes "p ok n4" ∷
-      codes "p ok n5" ∷
-      codes "p ok n6" ∷
-      codes "p ok" ∷
-      codes "p ok" ∷
-      codes "p ok" ∷
-      codes "p ok" ∷
-      codes "p ok" ∷
+      first_nodes 6 ++
+      oks 5 ++
       codes "p ok r0" ∷
-      codes "p ok" ∷
-      codes "p ok" ∷
+      oks 2 ++
       codes "p ok \"bcdef\"" ∷
       codes "p ok n7" ∷
       codes "p ok (n7 fragment (n8 element b (n9 text \"bcd\")) (n6 element hr) (n10 element i (n11 text \"ef\")))" ∷
@@ -80,17 +70,10 @@ normalize_texts = record {
       codes "p range-get r0" ∷
       [];
   answers =
-      codes "p ok n1" ∷
-      codes "p ok n2" ∷
-      codes "p ok n3" ∷
-      codes "p ok n4" ∷
-      codes "p ok" ∷
-      codes "p ok" ∷
-      codes "p ok" ∷
+      first_nodes 4 ++
+      oks 3 ++
       codes "p ok r0" ∷
-      codes "p ok" ∷
-      codes "p ok" ∷
-      codes "p ok" ∷
+      oks 3 ++
       codes "p ok n3 2 n3 3" ∷
       codes "p ok (n1 element p (n3 text \"abcd\"))" ∷
       codes "p ok" ∷
@@ -163,21 +146,10 @@ extract_behind_start = record {
       codes "p range-get r0" ∷
       [];
   answers =
-      codes "p ok n1" ∷
-      codes "p ok n2" ∷
-      codes "p ok n3" ∷
-      codes "p ok n4" ∷
-      codes "p ok n5" ∷
-      codes "p ok n6" ∷
-      codes "p ok" ∷
-      codes "p ok" ∷
-      codes "p ok" ∷
-      codes "p ok" ∷
-      codes "p ok" ∷
+      first_nodes 6 ++
+      oks 5 ++
       codes "p ok r0" ∷
-      codes "p ok" ∷
-      codes "p ok" ∷
-      codes "p ok" ∷
+      oks 3 ++
       codes "p ok n3 2 n1 1" ∷
       codes "p ok n7" ∷
       codes "p ok (n7 fragment (n8 element b (n9 text \"cd\") (n4 element c (n5 element d))))" ∷
@@ -216,21 +188,10 @@ extract_both_sides = record {
       codes "p range-get r0" ∷
       [];
   answers =
-      codes "p ok n1" ∷
-      codes "p ok n2" ∷
-      codes "p ok n3" ∷
-      codes "p ok n4" ∷
-      codes "p ok n5" ∷
-      codes "p ok n6" ∷
-      codes "p ok" ∷
-      codes "p ok" ∷
-      codes "p ok" ∷
-      codes "p ok" ∷
-      codes "p ok" ∷
+      first_nodes 6 ++
+      oks 5 ++
       codes "p ok r0" ∷
-      codes "p ok" ∷
-      codes "p ok" ∷
-      codes "p ok" ∷
+      oks 3 ++
       codes "p ok n7" ∷
       codes "p ok" ∷
       codes "p ok n4 0 n1 3" ∷

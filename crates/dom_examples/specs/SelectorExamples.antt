@@ -1,6 +1,6 @@
 -- Queries and matches. Scripts with their answers, which come from outside.
-use Rattle.std.specs.Prelude.{codes, [], ◌∷◌}
-use Rattle.dom_examples.specs.Example.{Example, continued}
+use Rattle.std.specs.Prelude.{codes, [], ◌∷◌, ◌++◌}
+use Rattle.dom_examples.specs.Example.{Example, continued, oks}
 use Rattle.dom_examples.specs.TreeExamples.{closed_tree}
 
 -- selectors
@@ -26,8 +26,7 @@ query_and_match = record {
       codes "p ok n1" ∷
       codes "p ok" ∷
       codes "p ok n2" ∷
-      codes "p ok" ∷
-      codes "p ok" ∷
+      oks 2 ++
       codes "p ok n3" ∷
       codes "p ok" ∷
       codes "p ok [n3]" ∷

@@ -1,6 +1,6 @@
 -- Nodes made, placed, moved and removed, and what is refused. Scripts with their answers, which come from outside.
-use Rattle.std.specs.Prelude.{codes, [], ◌∷◌}
-use Rattle.dom_examples.specs.Example.{Example}
+use Rattle.std.specs.Prelude.{codes, [], ◌∷◌, ◌++◌, replicate}
+use Rattle.dom_examples.specs.Example.{Example, first_nodes, oks}
 
 -- an element is appended and removed
 abbrev pub append_and_remove : Example
@@ -81,9 +81,7 @@ closed_tree = record {
       codes "p ok" ∷
       codes "c1 ok m1" ∷
       codes "c1 ok" ∷
-      codes "c1 ! foreign" ∷
-      codes "c1 ! foreign" ∷
-      codes "c1 ! foreign" ∷
+      replicate 3 (codes "c1 ! foreign") ++
       codes "c1 ! not-supported" ∷
       codes "c1 ok (m0 shadow (m1 element b))" ∷
       codes "c2 ! unknown" ∷
@@ -109,8 +107,7 @@ validity_order = record {
       codes "p tree n1" ∷
       [];
   answers =
-      codes "p ok n1" ∷
-      codes "p ok n2" ∷
+      first_nodes 2 ++
       codes "p ok" ∷
       codes "p ! hierarchy" ∷
       codes "p ok n3" ∷
@@ -136,13 +133,11 @@ split_surrogates = record {
       codes "p tree n1" ∷
       [];
   answers =
-      codes "p ok n1" ∷
-      codes "p ok n2" ∷
+      first_nodes 2 ++
       codes "p ok (n1 text \"a\\ud83d\")" ∷
       codes "p ok (n2 text \"\\ude00\")" ∷
       codes "p ! index-size" ∷
-      codes "p ok" ∷
-      codes "p ok" ∷
+      oks 2 ++
       codes "p ok (n1 text \"ab\")" ∷
       [];
 }
@@ -170,8 +165,7 @@ documents_and_attaching = record {
       codes "p micro z" ∷
       [];
   answers =
-      codes "p ok n1" ∷
-      codes "p ok n2" ∷
+      first_nodes 2 ++
       codes "p ok" ∷
       codes "p ok true" ∷
       codes "p ok" ∷
