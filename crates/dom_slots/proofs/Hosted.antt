@@ -9,12 +9,12 @@ use Rattle.dom_model.specs.Names.{DomString, name_eq, is_in}
 use Rattle.dom_model.specs.Tree.{Node, node_in, nodes, parent_of, subtree}
 use Rattle.dom_model.specs.Slots.{has_slot_name, slottable_name, slot_in}
 use Rattle.dom_model.proofs.OwnerLaws.{name_eq-other}
-use Rattle.dom_tree.specs.Forest.{name_at}
+use Rattle.dom_tree.specs.Forest.{NamedTrees, name_at}
 use Rattle.dom_tree.specs.Apart.{TellApart}
 use Rattle.dom_laws.proofs.Lists.{name_eq-from}
 use Rattle.node_arena.specs.contracts.key.KeyPartialEq.TheImpl as KeyImpl
 use Rattle.dom_slots.specs.Hosts.{ShadowHost, HostsAreNodes, host_of_root, root_of_host, host_named, root_named}
-use Rattle.dom_slots.specs.Shadows.{ShadowTrees, slot_at}
+use Rattle.dom_slots.specs.Shadows.{ShadowTrees, shadows, slot_at}
 
 -- a value that is there has a name
 pub is_some-named : {X Y : Type 0} (f : X → Y) (o : Option X) → is_some o ≡ is_some (option_map f o)
@@ -79,6 +79,17 @@ module _ (names : List NodeName) (distinct : TellApart names) where
       option_map (name_at names) (root_of_host hosts k) ≡ root_named names hosts (name_at names k)
   root-named = found-named (λ h. h.host) (λ h. h.root) (λ h i j. i)
 
+  -- a host that is found by the key of a root has the name of the host of that root
+  pub host-found : (hosts : List ShadowHost) → HostsAreNodes names hosts → {o : Option ℕ} {k : ℕ} {root : NodeName} → o ≡ host_of_root hosts k →
+      k < length names → name_at names k ≡ root → option_map (name_at names) o ≡ host_named names hosts root
+  host-found hosts within {o} {k} e node is = ap (option_map (name_at names)) e ∙ (host-named hosts within k node ∙ ap (host_named names hosts) is)
+
+  -- and one that is not found, as the code tests it, is not there
+  pub none-found : (hosts : List ShadowHost) → HostsAreNodes names hosts → {o : Option ℕ} {k : ℕ} {root : NodeName} {b : Bool} → o ≡ host_of_root hosts k →
+      k < length names → name_at names k ≡ root → is_some o ≡ not b → b ≡ is_none (host_named names hosts root)
+  none-found hosts within {o} {k} {root} {b} e node is told =
+      is_none-named (name_at names) o (host_named names hosts root) b told (host-found hosts within e node is)
+
   -- whether a key is the one found, by names
   pub found-test : (o : Option ℕ) (k : ℕ) → ForSome o (λ j. j < length names) → k < length names →
       option_eq KeyImpl.ghosts.eq o (Some k) ≡ is_in name_eq (name_at names k) (option_to_list (option_map (name_at names) o))
@@ -126,3 +137,10 @@ module _ (s : ShadowTrees) (x p : NodeName) (up : Some p ≡ parent_of s.trees x
       ap (option_and_then (λ a. option_map (λ (n : Node). n.name) (find (has_slot_name a) (nodes (subtree s.trees r))))) is
       ∙ (ap (option_and_then (λ q. slot_in (subtree s.trees q) (node_in s.trees x))) e
       ∙ ap (λ o. option_and_then (λ q. slot_in (subtree s.trees q) (node_in s.trees x)) (option_and_then s.shadow_of o)) up)
+
+-- a node whose parent has no shadow root has no slot
+module _ (f : NamedTrees) (distinct : TellApart f.names) (hosts : List ShadowHost) (within : HostsAreNodes f.names hosts) where
+  pub slot-rootless : (x : NodeName) {p : ℕ} → Some (name_at f.names p) ≡ parent_of f.trees x → p < length f.names → None ≡ root_of_host hosts p →
+      None ≡ slot_at (shadows f hosts) x
+  slot-rootless x {p} up node none =
+      slot-no_root (shadows f hosts) x (name_at f.names p) up (ap (option_map (name_at f.names)) none ∙ root-named f.names distinct hosts within p node)

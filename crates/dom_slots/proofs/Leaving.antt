@@ -1,18 +1,22 @@
 -- Lists that a node leaves.
-use Rattle.std.proofs.Common.{◌≡◌, ℕ, ◌<◌, Bool, true, false, not, ◌&&◌, ◌||◌, List, [], ◌∷◌, All, map, length, refl, sym, ap, ◌∙◌, true≢false}
-use Rattle.std.specs.Prelude.{nat_eq, if◌then◌else◌}
+use Rattle.std.proofs.Common.{◌≡◌, ℕ, ◌<◌, Bool, true, false, not, ◌&&◌, ◌||◌, ◌==◌, List, [], ◌∷◌, ◌++◌, All, map, filter, length, Option, Some, refl, sym}
+use Rattle.std.proofs.Common.{ap, subst, ◌∙◌, true≢false}
+use Rattle.std.specs.Prelude.{nat_eq, if◌then◌else◌, option_to_list}
+use Rattle.std.specs.Option.{option_map}
 use Rattle.std.proofs.lemmas.Bool.{eqb-true, eq-eqb, or_parts, false_from_ne_true}
-use Rattle.std.proofs.lemmas.List.Elements.{All-head, All-tail}
+use Rattle.std.proofs.lemmas.List.Elements.{All-head, All-tail, All-filter}
 use Rattle.dom_base.specs.declared.NodeName.{NodeName}
-use Rattle.dom_model.specs.Names.{name_eq, list_eq, is_in}
+use Rattle.dom_model.specs.Names.{name_eq, list_eq, is_in, append_once}
 use Rattle.dom_model.proofs.OwnerLaws.{name_eq-turned}
-use Rattle.dom_tree.specs.Forest.{name_at}
+use Rattle.dom_tree.specs.Forest.{NamedTrees, name_at}
 use Rattle.dom_tree.specs.Apart.{TellApart}
 use Rattle.node_arena.specs.Nodes.{without}
-use Rattle.dom_slots.specs.Renewals.{names_but}
+use Rattle.dom_slots.specs.Hosts.{ShadowHost}
+use Rattle.dom_slots.specs.Renewals.{AreRenewed, Renews, names_but}
+use Rattle.dom_slots.specs.Shadows.{shadows, assigned_at}
 use Rattle.dom_slots.specs.Tables.{SlotTable, list_of}
 use Rattle.dom_slots.proofs.Hosted.{key-test}
-use Rattle.dom_slots.proofs.Renewing.{same_keys}
+use Rattle.dom_slots.proofs.Renewing.{same_keys, renewed-more}
 
 -- ---- keys
 
@@ -80,3 +84,22 @@ module _ (names : List NodeName) (distinct : TellApart names) (n : ℕ) (node : 
       by false false is rest = ap (λ ys. name_at names k ∷ ys) rest
       by true false is rest = absurd (true≢false is)
       by false true is rest = absurd (true≢false (sym is))
+
+-- A node was taken out of the list of a slot.
+module _ (f : NamedTrees) (distinct : TellApart f.names) (hosts : List ShadowHost) {slot : Option ℕ} {k : ℕ} (is : slot ≡ Some k)
+    (within : k < length f.names) (node : ℕ) {inside table new : SlotTable} (same : inside ≡ table) {stood : Bool}
+    (told : stood ≡ is_in nat_eq node (list_of inside k))
+    (lists : (j : ℕ) → list_of new j ≡ (if nat_eq k j then without node (list_of inside j) else list_of inside j))
+    (right : (j : ℕ) → slot ≡ Some j → map (name_at f.names) (without node (list_of table j)) ≡ assigned_at (shadows f hosts) (name_at f.names j)) where
+  -- its list is renewed, and it is signalled where the node stood there
+  pub renews-left : {keys next : List ℕ} → next ≡ (if stood then append_once nat_eq keys k else keys) →
+      Renews f hosts (option_to_list (option_map (name_at f.names) slot)) table keys new next
+  renews-left {keys} {next} are p old done told_before r =
+      subst (λ o. AreRenewed f hosts p old (done ++ option_to_list (option_map (name_at f.names) o))
+      (told_before ++ filter p (option_to_list (option_map (name_at f.names) o))) new next) (sym is)
+      (renewed-more f distinct hosts p old done told_before table keys r k within (without node (list_of table k)) (right k is)
+      (All-filter (λ j. not (j == node)) (λ j. j < length f.names) (list_of table k) (r.nodes k)) new
+      (at-slot (without node) k table new
+      (λ j. lists j ∙ ap (λ (t : SlotTable). if nat_eq k j then without node (list_of t j) else list_of t j) same)) next
+      (are ∙ ap (λ (b : Bool). if b then append_once nat_eq keys k else keys)
+      (told ∙ (ap (λ (t : SlotTable). is_in nat_eq node (list_of t k)) same ∙ without-differs node (list_of table k)))))

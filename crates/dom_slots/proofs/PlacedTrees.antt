@@ -158,6 +158,11 @@ pub record Splits (ts : Trees) (x : NodeName) : Type 0 where
   pub alone : subtree ts x ≡ tree node below none
   pub whole : ts ≡ grafted node below spot (without x ts)
 
+-- where they split as a part of them does
+split-in : {ts us : Trees} {x : NodeName} (s : Splits us x) (spot : Spot) → subtree ts x ≡ subtree us x → ts ≡ grafted s.node s.below spot (without x ts) →
+    Splits ts x
+split-in s spot same whole = record { node = s.node; below = s.below; spot = spot; name = s.name; alone = same ∙ s.alone; whole = whole }
+
 pub splits : (ts : Trees) (x : NodeName) → Once ts → Has ts x → Splits ts x
 splits none x once h = absurd h
 splits (tree n c r) x once (inl e) = record {
@@ -170,30 +175,16 @@ splits (tree n c r) x once (inl e) = record {
 }
 splits (tree n c r) x once (inr (inl h)) =
     let s = splits c x (once_apart n c r once).3 h in
-    record {
-      node = s.node;
-      below = s.below;
-      spot = Below s.spot;
-      name = s.name;
-      alone = subtree-below n c r x once h ∙ s.alone;
-      whole =
-          rw (name_eq-other n.name x (λ e. (once_apart n c r once).0 (subst (Has c) (sym e) h)))
-          (ap (λ (ts : Trees). tree n ts r) s.whole ∙
-          ap (tree n (grafted s.node s.below s.spot (without x c))) (sym (without-absent r x (λ i. (once_apart n c r once).2 x h i))));
-    }
+    split-in s (Below s.spot) (subtree-below n c r x once h)
+    (rw (name_eq-other n.name x (λ e. (once_apart n c r once).0 (subst (Has c) (sym e) h)))
+    (ap (λ (ts : Trees). tree n ts r) s.whole ∙
+    ap (tree n (grafted s.node s.below s.spot (without x c))) (sym (without-absent r x (λ i. (once_apart n c r once).2 x h i)))))
 splits (tree n c r) x once (inr (inr h)) =
     let s = splits r x (once_apart n c r once).4 h in
-    record {
-      node = s.node;
-      below = s.below;
-      spot = Behind s.spot;
-      name = s.name;
-      alone = subtree-beside n c r x once h ∙ s.alone;
-      whole =
-          rw (name_eq-other n.name x (λ e. (once_apart n c r once).1 (subst (Has r) (sym e) h)))
-          (ap (tree n c) s.whole ∙
-          ap (λ (ts : Trees). tree n ts (grafted s.node s.below s.spot (without x r))) (sym (without-absent c x (λ i. (once_apart n c r once).2 x i h))));
-    }
+    split-in s (Behind s.spot) (subtree-beside n c r x once h)
+    (rw (name_eq-other n.name x (λ e. (once_apart n c r once).1 (subst (Has r) (sym e) h)))
+    (ap (tree n c) s.whole ∙
+    ap (λ (ts : Trees). tree n ts (grafted s.node s.below s.spot (without x r))) (sym (without-absent c x (λ i. (once_apart n c r once).2 x i h)))))
 
 module _ (m : Node) (d : Trees) where
   -- a tree put in by the order of names

@@ -13,7 +13,7 @@ use Rattle.dom_tree.specs.Forest.{NamedTrees, name_at}
 use Rattle.dom_tree.specs.Apart.{TellApart}
 use Rattle.dom_laws.proofs.Lists.{In, In-parts, In-from, is_in-from, filter-yes, filter-no, filter-none}
 use Rattle.dom_slots.specs.Hosts.{ShadowHost}
-use Rattle.dom_slots.specs.Renewals.{AreRenewed}
+use Rattle.dom_slots.specs.Renewals.{AreRenewed, Renews}
 use Rattle.dom_slots.specs.Insides.{AreRight}
 use Rattle.dom_slots.specs.Shadows.{shadows, assigned_at}
 use Rattle.dom_slots.specs.Tables.{SlotTable, list_of}
@@ -239,28 +239,34 @@ renewed-right {f} {hosts} {q} {old} ys nodes right start = record {
         (right k w.1 (ap (λ z. is_in name_eq z ys) w.2 ∙ is_in-from y ys i)) ∙ ap not (list_eq-self (assigned_at (shadows f hosts) (name_at f.names k)))))
 
 -- Slots are renewed one after another.
-module _ (f : NamedTrees) (hosts : List ShadowHost) (p : NodeName → Bool) (old : SlotTable) (done told : List NodeName) where
-  -- before the first
-  pub none_yet : (table : SlotTable) (keys : List ℕ) → AreRenewed f hosts p old done told table keys →
-      AreRenewed f hosts p old (done ++ []) (told ++ []) table keys
-  none_yet table keys r = subst (λ ds. AreRenewed f hosts p old ds (told ++ []) table keys) (sym (append-nil done))
+module _ {f : NamedTrees} {hosts : List ShadowHost} {table : SlotTable} {keys : List ℕ} where
+  -- none
+  pub renews-none : Renews f hosts [] table keys table keys
+  renews-none p old done told r = subst (λ ds. AreRenewed f hosts p old ds (told ++ []) table keys) (sym (append-nil done))
       (subst (λ ts. AreRenewed f hosts p old done ts table keys) (sym (append-nil told)) r)
 
-  -- one more
-  pub one_more : {table : SlotTable} {keys : List ℕ} (slots : List ℕ) (i s : ℕ) → s ≡ get_or slots i s → i < length slots
-      → AreRenewed f hosts p old ((done ++ map (name_at f.names) (take i slots)) ++ name_at f.names s ∷ [])
-      ((told ++ filter p (map (name_at f.names) (take i slots))) ++ filter p (name_at f.names s ∷ [])) table keys
-      → AreRenewed f hosts p old (done ++ map (name_at f.names) (take (i + 1) slots)) (told ++ filter p (map (name_at f.names) (take (i + 1) slots))) table keys
-  one_more {table} {keys} slots i s at within r =
-      let longer : map (name_at f.names) (take (i + 1) slots) ≡ map (name_at f.names) (take i slots) ++ name_at f.names s ∷ [] =
-      ap (map (name_at f.names)) (take_more slots i s within ∙ ap (λ j. take i slots ++ j ∷ []) (sym at)) ∙
-      map-append (name_at f.names) (take i slots) (s ∷ []) in
-      subst (λ xs. AreRenewed f hosts p old (done ++ xs) (told ++ filter p xs) table keys) (sym longer)
-      (subst (λ ts. AreRenewed f hosts p old (done ++ (map (name_at f.names) (take i slots) ++ name_at f.names s ∷ [])) ts table keys)
-      (append_assoc told (filter p (map (name_at f.names) (take i slots))) (filter p (name_at f.names s ∷ [])) ∙
-      ap (λ ys. told ++ ys) (sym (filter-append p (map (name_at f.names) (take i slots)) (name_at f.names s ∷ []))))
-      (subst (λ ds. AreRenewed f hosts p old ds ((told ++ filter p (map (name_at f.names) (take i slots))) ++ filter p (name_at f.names s ∷ [])) table keys)
-      (append_assoc done (map (name_at f.names) (take i slots)) (name_at f.names s ∷ [])) r))
+  -- these, and then others
+  pub renews-then : (xs ys : List NodeName) {mid new : SlotTable} {more next : List ℕ} → Renews f hosts xs table keys mid more →
+      Renews f hosts ys mid more new next → Renews f hosts (xs ++ ys) table keys new next
+  renews-then xs ys {mid} {new} {more} {next} first second p old done told r =
+      subst (λ ts. AreRenewed f hosts p old (done ++ (xs ++ ys)) ts new next)
+      (append_assoc told (filter p xs) (filter p ys) ∙ ap (λ zs. told ++ zs) (sym (filter-append p xs ys)))
+      (subst (λ ds. AreRenewed f hosts p old ds ((told ++ filter p xs) ++ filter p ys) new next) (append_assoc done xs ys)
+      (second p old (done ++ xs) (told ++ filter p xs) (first p old done told r)))
+
+  -- one more of a list
+  module _ (slots : List ℕ) (i s : ℕ) (at : s ≡ get_or slots i s) (within : i < length slots) where
+    pub renews-next : {hs : List ShadowHost} {mid new : SlotTable} {more next : List ℕ} → hs ≡ hosts →
+        Renews f hosts (map (name_at f.names) (take i slots)) table keys mid more → Renews f hs (name_at f.names s ∷ []) mid more new next →
+        Renews f hosts (map (name_at f.names) (take (i + 1) slots)) table keys new next
+    renews-next {hs} {mid} {new} {more} {next} same first second =
+        subst (λ xs. Renews f hosts xs table keys new next) (sym longer)
+        (renews-then (map (name_at f.names) (take i slots)) (name_at f.names s ∷ []) first
+        (subst (λ hosts. Renews f hosts (name_at f.names s ∷ []) mid more new next) same second))
+      where
+        longer : map (name_at f.names) (take (i + 1) slots) ≡ map (name_at f.names) (take i slots) ++ name_at f.names s ∷ []
+        longer = ap (map (name_at f.names)) (take_more slots i s within ∙ ap (λ j. take i slots ++ j ∷ []) (sym at)) ∙
+            map-append (name_at f.names) (take i slots) (s ∷ [])
 
 -- Slots were renewed.
 module _ {f : NamedTrees} {hosts : List ShadowHost} {p : NodeName → Bool} {old : SlotTable} {done told : List NodeName} {table : SlotTable}

@@ -6,6 +6,7 @@ use Rattle.dom_base.specs.declared.NodeName.{NodeName}
 use Rattle.dom_model.specs.Names.{name_eq, first_of, items_after, items_before}
 use Rattle.dom_model.specs.Tree.{Trees, parent_of, children_of, siblings, next_sibling, inclusive_descendants, subtree}
 use Rattle.dom_tree.specs.Forest.{NamedTrees, name_at}
+use Rattle.dom_tree.proofs.Standing.{StandOnce, StandAlone, Once-forest, Has-forest}
 use Rattle.dom_laws.proofs.Lists.{In, Single, Single-apart, no_first, first_split, split_at, after-split, after-in}
 use Rattle.dom_laws.proofs.Lists.{name_eq-from}
 use Rattle.dom_laws.proofs.Counts.{Once}
@@ -104,3 +105,20 @@ length-next f xs {k} {at} next is e =
     let longer : length (from_item xs (option_map (name_at f.names) at)) ≡ suc (length (items_after name_eq (name_at f.names k) xs)) =
     ap (λ o. length (from_item xs (option_map (name_at f.names) o))) is in
     omega (arith, longer, ap (length {A = NodeName}) e)
+
+-- a walk along the children of h goes on from a child to the next one: what is left is less, and begins there
+pub record GoesOn (f : NamedTrees) (h : NodeName) (k : ℕ) (at next : Option ℕ) : Type 0 where
+  pub left : items_after name_eq (name_at f.names k) (children_of f.trees h) ≡ from_item (children_of f.trees h) (option_map (name_at f.names) next)
+  pub child : ForSome next (IsChild f h)
+  pub less : length (from_item (children_of f.trees h) (option_map (name_at f.names) next)) < length
+      (from_item (children_of f.trees h) (option_map (name_at f.names) at))
+
+module _ (f : NamedTrees) (once : StandOnce f) (only : StandAlone f) (host : ℕ) (node : host < length f.names) where
+  pub goes-on : {k : ℕ} {at next : Option ℕ} → at ≡ Some k → ForSome at (IsChild f (name_at f.names host))
+      → option_map (name_at f.names) next ≡ next_sibling f.trees (name_at f.names k) → ForSome next (λ j. j < length f.names)
+      → GoesOn f (name_at f.names host) k at next
+  goes-on {k} {at} {next} is children found nodes =
+      let h = name_at f.names host in
+      let child = children k is in
+      let step = next_step f (Once-forest f once only) h (Has-forest f once host node) k child (Has-forest f once k child.node) next found nodes in
+      record { left = step.0; child = step.1; less = length-next f (children_of f.trees h) next is step.0 }

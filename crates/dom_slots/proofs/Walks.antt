@@ -2,8 +2,9 @@
 use Rattle.std.proofs.Common.{◌≡◌, ℕ, ◌<◌, Bool, true, false, List, [], ◌∷◌, ◌++◌, All, map, length, Option, Some, filter, sym, ap, subst, ◌∙◌, append_assoc}
 use Rattle.std.proofs.lemmas.List.{map-append}
 use Rattle.std.proofs.lemmas.List.Elements.{All-push}
-use Rattle.std.specs.Option.{ForSome}
+use Rattle.std.specs.Option.{option_map, ForSome}
 use Rattle.dom_base.specs.declared.NodeName.{NodeName}
+use Rattle.dom_model.specs.Names.{first_of}
 use Rattle.dom_model.specs.Tree.{inclusive_descendants}
 use Rattle.dom_tree.specs.Forest.{NamedTrees, name_at}
 use Rattle.dom_laws.specs.Within.{behind, from_node}
@@ -12,7 +13,7 @@ use Rattle.dom_laws.proofs.Lists.{filter-yes, filter-no}
 use Rattle.dom_tree.proofs.Standing.{StandOnce, StandAlone}
 use Rattle.dom_laws.proofs.Order.{above-within}
 use Rattle.dom_laws.proofs.Steps.{ordered, top_places}
-use Rattle.dom_tree.proofs.Searching.{IsWithin-itself}
+use Rattle.dom_tree.proofs.Searching.{IsWithin-itself, following_step, length-behind}
 
 module _ (f : NamedTrees) (once : StandOnce f) (only : StandAlone f) (top : ℕ) (node : top < length f.names) where
   -- from the top on are all
@@ -28,6 +29,21 @@ module _ (f : NamedTrees) (once : StandOnce f) (only : StandAlone f) (top : ℕ)
       λ k is.
       let same : k ≡ top = cc in
       rw same record { node = node; within = above-within f.trees (name_at f.names top) (name_at f.names top) (IsWithin-itself f once only top node) }
+
+-- a walk through the tree of a node goes on from a node to the one behind it: what is left is less, and begins there
+pub record WalksOn (f : NamedTrees) (top k : ℕ) (at next : Option ℕ) : Type 0 where
+  pub left : behind f.trees (name_at f.names top) (name_at f.names k) ≡ from_node f.trees (name_at f.names top) (option_map (name_at f.names) next)
+  pub stands : ForSome next (StandsIn f top)
+  pub less : length (from_node f.trees (name_at f.names top) (option_map (name_at f.names) next)) < length
+      (from_node f.trees (name_at f.names top) (option_map (name_at f.names) at))
+
+module _ (f : NamedTrees) (once : StandOnce f) (only : StandAlone f) where
+  pub walks-on : {top k : ℕ} {at next : Option ℕ} → at ≡ Some k → ForSome at (StandsIn f top)
+      → option_map (name_at f.names) next ≡ first_of (behind f.trees (name_at f.names top) (name_at f.names k)) → ForSome next (λ j. j < length f.names)
+      → WalksOn f top k at next
+  walks-on {top} {k} {at} {next} is stands found node =
+      let step = following_step f once only top k next (stands k is) found node in
+      record { left = step.0; stands = step.1; less = length-behind f top k at next is step.0 }
 
 -- Keys of nodes are collected along a list of names: those found so far and those that are left make the whole.
 module _ (names : List NodeName) (p : NodeName → Bool) (found : List ℕ) (k : ℕ) (node : k < length names) (xs all : List NodeName)

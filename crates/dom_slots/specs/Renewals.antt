@@ -1,5 +1,5 @@
 -- Slots whose lists are renewed one after another.
-use Rattle.std.specs.Prelude.{◌≡◌, ℕ, ◌<◌, ◌≤◌, nat_eq, Bool, true, false, not, List, [], All, map, filter, fold, length, Option, Some, option_map}
+use Rattle.std.specs.Prelude.{◌≡◌, ℕ, ◌<◌, ◌≤◌, nat_eq, Bool, true, false, not, List, [], ◌++◌, All, map, filter, fold, length, Option, Some, option_map}
 use Rattle.dom_base.specs.declared.NodeName.{NodeName}
 use Rattle.dom_model.specs.Names.{name_eq, list_eq, is_in, append_once}
 use Rattle.dom_tree.specs.Forest.{NamedTrees, name_at}
@@ -23,6 +23,11 @@ pub record AreRenewed (f : NamedTrees) (hosts : List ShadowHost) (p : NodeName �
   pub keys_nodes : All (λ k. k < length f.names) keys
   pub keys_are : map (name_at f.names) keys ≡ fold (append_once name_eq) [] told
   pub among : (y : NodeName) → is_in name_eq y done ≡ true → p y ≡ true → is_in name_eq y told ≡ true
+
+-- from a table and keys to others these slots were renewed, whichever were renewed before
+abbrev pub Renews : NamedTrees → List ShadowHost → List NodeName → SlotTable → List ℕ → SlotTable → List ℕ → Type 0
+Renews f hosts slots table keys new next = (p : NodeName → Bool) (old : SlotTable) (done told : List NodeName) →
+    AreRenewed f hosts p old done told table keys → AreRenewed f hosts p old (done ++ slots) (told ++ filter p slots) new next
 
 -- names without one
 abbrev pub names_but : NodeName → List NodeName → List NodeName

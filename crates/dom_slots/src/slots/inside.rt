@@ -1,5 +1,5 @@
 //! Steps that are made inside of shadow trees.
-ghost use Rattle.std.specs.Prelude.{◌≡◌, ◌⊎◌, ℕ, ◌++◌, [], false, Bool as Truth, List, map, filter, All, OnOk, IfOk};
+ghost use Rattle.std.specs.Prelude.{◌≡◌, ◌⊎◌, ◌++◌, [], false, Bool as Truth, List, map, filter, All, OnOk, IfOk};
 ghost use Rattle.std.specs.Option.{ForSome};
 ghost use Rattle.dom_base.specs.declared.NodeName.{NodeName as Name};
 ghost use Rattle.dom_model.specs.Slots.{is_slot_element, slots_among};
@@ -7,7 +7,7 @@ ghost use Rattle.dom_model.specs.Tree.{node_in, subtree};
 ghost use Rattle.dom_tree.specs.Forest.{IsNode, name_of};
 ghost use Rattle.dom_slots.specs.Hosts.{HostsAreNodes};
 ghost use Rattle.dom_slots.specs.Insides.{tree_slots, bare_around, left_slots, AreRight, AreSilent, MovesNone, MayMove, IsInside};
-ghost use Rattle.dom_slots.specs.Renewals.{AreRenewed, IsButFor};
+ghost use Rattle.dom_slots.specs.Renewals.{AreRenewed, Renews, IsButFor};
 ghost use Rattle.dom_slots.specs.Shadows.{shadows, is_bare_at};
 ghost use Rattle.dom_slots.specs.Steps.{StepHasNodes, step_node, is_move};
 ghost use Rattle.dom_slots.specs.Tables.{SlotTable};
@@ -212,10 +212,8 @@ impl Slots {
         requires hosts { HostsAreNodes forest.now.names self.old.hosts }
         requires node { IsNode forest.now node }
         ensures hosts { OnOk result (self.new.hosts ≡ self.old.hosts) }
-        ensures renewed { (p : Name → Truth) (old : SlotTable) (done told : List Name) →
-            AreRenewed forest.now self.old.hosts p old done told self.old.table signals.old.items →
-            OnOk result (AreRenewed forest.now self.old.hosts p old (done ++ tree_slots forest.now.trees (name_of forest.now node))
-            (told ++ filter p (tree_slots forest.now.trees (name_of forest.now node))) self.new.table signals.new.items) }
+        ensures renewed { OnOk result (Renews forest.now self.old.hosts (tree_slots forest.now.trees (name_of forest.now node)) self.old.table
+            signals.old.items self.new.table signals.new.items) }
     {
         forest.law_nodes_stand_once();
         let root = forest.root(node);

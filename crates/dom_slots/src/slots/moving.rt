@@ -1,5 +1,5 @@
 //! Steps that move no slot: their node leaves the list of its old slot and joins that of its new one.
-ghost use Rattle.std.specs.Prelude.{◌≡◌, ℕ, ◌++◌, [], true, Bool as Truth, List, Some, None, map, filter, option_to_list, OnOk, IfOk};
+ghost use Rattle.std.specs.Prelude.{◌≡◌, ℕ, [], true, Bool as Truth, Some, None, map, filter, option_to_list, OnOk, IfOk};
 ghost use Rattle.std.specs.Prelude.{if◌then◌else◌};
 ghost use Rattle.std.specs.Option.{option_map, ForSome};
 ghost use Rattle.dom_base.specs.declared.NodeName.{NodeName as Name};
@@ -10,10 +10,10 @@ ghost use Rattle.dom_tree.specs.Forest.{IsNode, name_of};
 ghost use Rattle.node_arena.specs.Nodes.{without};
 ghost use Rattle.dom_slots.specs.Hosts.{HostsAreNodes, host_named};
 ghost use Rattle.dom_slots.specs.Insides.{own_slots};
-ghost use Rattle.dom_slots.specs.Renewals.{AreRenewed, IsButFor, names_but};
+ghost use Rattle.dom_slots.specs.Renewals.{AreRenewed, Renews, IsButFor, names_but};
 ghost use Rattle.dom_slots.specs.Shadows.{shadows, slot_at, assigned_at, looks_for};
 ghost use Rattle.dom_slots.specs.Steps.{step_node, is_move};
-ghost use Rattle.dom_slots.specs.Tables.{SlotTable, list_of};
+ghost use Rattle.dom_slots.specs.Tables.{list_of};
 ghost use Rattle.dom_slots.specs.declared.step.Step.{Step};
 
 use crate::Slots;
@@ -68,12 +68,10 @@ impl Slots {
         requires node { IsNode forest.now node }
         requires slot { ForSome slot (IsNode forest.now) }
         ensures hosts { OnOk result (self.new.hosts ≡ self.old.hosts) }
-        ensures renewed { (p : Name → Truth) (old : SlotTable) (done told : List Name) →
-            ((k : ℕ) → slot ≡ Some k → map (name_of forest.now) (without node (list_of self.old.table k)) ≡ assigned_at
+        ensures renewed { ((k : ℕ) → slot ≡ Some k → map (name_of forest.now) (without node (list_of self.old.table k)) ≡ assigned_at
             (shadows forest.now self.old.hosts) (name_of forest.now k)) →
-            AreRenewed forest.now self.old.hosts p old done told self.old.table signals.old.items →
-            OnOk result (AreRenewed forest.now self.old.hosts p old (done ++ option_to_list (option_map (name_of forest.now) slot))
-            (told ++ filter p (option_to_list (option_map (name_of forest.now) slot))) self.new.table signals.new.items) }
+            OnOk result (Renews forest.now self.old.hosts (option_to_list (option_map (name_of forest.now) slot)) self.old.table signals.old.items
+            self.new.table signals.new.items) }
     {
         forest.law_nodes_stand_once();
         let Some(key) = slot else {
@@ -99,19 +97,17 @@ impl Slots {
         requires slot { ForSome slot (IsNode forest.now) }
         requires own { option_map (name_of forest.now) slot ≡ slot_at (shadows forest.now self.old.hosts) (name_of forest.now node) }
         ensures hosts { OnOk result (self.new.hosts ≡ self.old.hosts) }
-        ensures renewed { (p : Name → Truth) (old : SlotTable) (done told : List Name) →
-            ((k : ℕ) → slot ≡ Some k → map (name_of forest.now) (list_of self.old.table k) ≡ names_but (name_of forest.now node)
+        ensures renewed { ((k : ℕ) → slot ≡ Some k → map (name_of forest.now) (list_of self.old.table k) ≡ names_but (name_of forest.now node)
             (assigned_at (shadows forest.now self.old.hosts) (name_of forest.now k))) →
-            AreRenewed forest.now self.old.hosts p old done told self.old.table signals.old.items →
-            OnOk result (AreRenewed forest.now self.old.hosts p old (done ++ option_to_list (option_map (name_of forest.now) slot))
-            (told ++ filter p (option_to_list (option_map (name_of forest.now) slot))) self.new.table signals.new.items) }
+            OnOk result (Renews forest.now self.old.hosts (option_to_list (option_map (name_of forest.now) slot)) self.old.table signals.old.items
+            self.new.table signals.new.items) }
     {
         forest.law_nodes_stand_once();
         let Some(key) = slot else {
             return Ok(());
         };
         if !self.is_of_parent(forest, key, node) {
-            return self.renew_slot(forest, key, signals);
+            return self.renew(forest, &[key], signals);
         }
         let before = self.sibling_behind(forest, key, node);
         self.table.put(self.alloc, key, node, before)?;

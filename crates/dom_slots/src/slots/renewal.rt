@@ -1,11 +1,9 @@
 //! The lists of slots that a step may have changed.
-ghost use Rattle.std.specs.Prelude.{◌≡◌, ℕ, ◌++◌, ◌∷◌, [], Bool as Truth, List, map, filter, All, OnOk};
-ghost use Rattle.dom_base.specs.declared.NodeName.{NodeName as Name};
+ghost use Rattle.std.specs.Prelude.{◌≡◌, ℕ, ◌∷◌, [], List, map, All, OnOk};
 ghost use Rattle.dom_tree.specs.Forest.{IsNode, name_of};
 ghost use Rattle.dom_slots.specs.Hosts.{HostsAreNodes};
-ghost use Rattle.dom_slots.specs.Renewals.{AreRenewed};
+ghost use Rattle.dom_slots.specs.Renewals.{Renews};
 ghost use Rattle.dom_slots.specs.Shadows.{shadows, assigned_at};
-ghost use Rattle.dom_slots.specs.Tables.{SlotTable};
 ghost use Rattle.dom_slots.specs.Waiting.{waiting_under, Serves};
 
 use crate::Slots;
@@ -27,34 +25,14 @@ impl Slots {
         requires hosts { HostsAreNodes forest.now.names self.old.hosts }
         requires nodes { All (IsNode forest.now) slots.now }
         ensures hosts { OnOk result (self.new.hosts ≡ self.old.hosts) }
-        ensures renewed { (p : Name → Truth) (old : SlotTable) (done told : List Name) →
-            AreRenewed forest.now self.old.hosts p old done told self.old.table signals.old.items →
-            OnOk result (AreRenewed forest.now self.old.hosts p old (done ++ map (name_of forest.now) slots.now)
-            (told ++ filter p (map (name_of forest.now) slots.now)) self.new.table signals.new.items) }
+        ensures renewed { OnOk result (Renews forest.now self.old.hosts (map (name_of forest.now) slots.now) self.old.table
+            signals.old.items self.new.table signals.new.items) }
     {
         for slot in slots {
-            self.renew_slot(forest, *slot, signals)?;
+            let list = self.assigned_now(forest, *slot)?;
+            self.renew_as(forest, *slot, list, signals)?;
         }
         Ok(())
-    }
-
-    /// Renews the list of a slot, and adds the slot to the signals where its list was another one.
-    pub(super) fn renew_slot(
-        &mut self,
-        forest: &Forest,
-        slot: Key,
-        signals: &mut Vec<Key>,
-    ) -> Result<(), AllocError>
-        requires hosts { HostsAreNodes forest.now.names self.old.hosts }
-        requires node { IsNode forest.now slot }
-        ensures hosts { OnOk result (self.new.hosts ≡ self.old.hosts) }
-        ensures renewed { (p : Name → Truth) (old : SlotTable) (done told : List Name) →
-            AreRenewed forest.now self.old.hosts p old done told self.old.table signals.old.items →
-            OnOk result (AreRenewed forest.now self.old.hosts p old (done ++ name_of forest.now slot ∷ [])
-            (told ++ filter p (name_of forest.now slot ∷ [])) self.new.table signals.new.items) }
-    {
-        let list = self.assigned_now(forest, slot)?;
-        self.renew_as(forest, slot, list, signals)
     }
 
     /// Renews the lists of slots, one after another, with the children that wait for them, and adds those to the signals whose lists
@@ -71,10 +49,8 @@ impl Slots {
         requires served { Serves forest.now self.old.hosts (waiting_under waiting) slots.now }
         requires waiting_nodes { (name : List ℕ) → All (IsNode forest.now) (waiting_under waiting name) }
         ensures hosts { OnOk result (self.new.hosts ≡ self.old.hosts) }
-        ensures renewed { (p : Name → Truth) (old : SlotTable) (done told : List Name) →
-            AreRenewed forest.now self.old.hosts p old done told self.old.table signals.old.items →
-            OnOk result (AreRenewed forest.now self.old.hosts p old (done ++ map (name_of forest.now) slots.now)
-            (told ++ filter p (map (name_of forest.now) slots.now)) self.new.table signals.new.items) }
+        ensures renewed { OnOk result (Renews forest.now self.old.hosts (map (name_of forest.now) slots.now) self.old.table
+            signals.old.items self.new.table signals.new.items) }
     {
         for slot in slots {
             let list = waiting.take(slot_name(forest, *slot));
@@ -95,10 +71,8 @@ impl Slots {
         requires right { map (name_of forest.now) list.items ≡ assigned_at (shadows forest.now self.old.hosts) (name_of forest.now slot) }
         requires nodes { All (IsNode forest.now) list.items }
         ensures hosts { OnOk result (self.new.hosts ≡ self.old.hosts) }
-        ensures renewed { (p : Name → Truth) (old : SlotTable) (done told : List Name) →
-            AreRenewed forest.now self.old.hosts p old done told self.old.table signals.old.items →
-            OnOk result (AreRenewed forest.now self.old.hosts p old (done ++ name_of forest.now slot ∷ [])
-            (told ++ filter p (name_of forest.now slot ∷ [])) self.new.table signals.new.items) }
+        ensures renewed { OnOk result (Renews forest.now self.old.hosts (name_of forest.now slot ∷ []) self.old.table
+            signals.old.items self.new.table signals.new.items) }
     {
         forest.law_nodes_stand_once();
         if self.table.has_other(slot, &list) {

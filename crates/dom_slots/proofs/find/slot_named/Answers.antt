@@ -8,10 +8,10 @@ use Rattle.dom_model.specs.Tree.{node_in}
 use Rattle.dom_tree.specs.Forest.{name_at}
 use Rattle.dom_laws.specs.Within.{from_node}
 use Rattle.dom_tree.proofs.Standing.{Once-forest}
-use Rattle.dom_tree.proofs.Searching.{following_step, length-behind, left-behind}
+use Rattle.dom_tree.proofs.Searching.{left-behind}
 use Rattle.dom_laws.proofs.Lists.{first-hit}
 use Rattle.dom_slots.proofs.NamesOfNodes.{named-first}
-use Rattle.dom_slots.proofs.Walks.{from-top, stands-top}
+use Rattle.dom_slots.proofs.Walks.{from-top, stands-top, walks-on}
 use Rattle.dom_slots.proofs.find.slot_named.Goals as goal
 
 pub loop-at-init : goal.loop-at-init
@@ -25,21 +25,17 @@ loop-at-init c =
 
 pub loop-at-smaller : goal.loop-at-smaller
 loop-at-smaller c =
-    let f = c.args.forest.now in
     let e = c.law_nodes_stand_once.ensures in
-    let step = following_step f e.once e.only c.args.top c.in-Some.key c.following-at.result
-    (c.loop-at.invariant.stands c.in-Some.key c.in-Some.is) c.following-at.ensures.value c.following-at.ensures.node in
-    length-behind f c.args.top c.in-Some.key c.loop-at.at c.following-at.result c.in-Some.is step.0
+    (walks-on c.args.forest.now e.once e.only c.in-Some.is c.loop-at.invariant.stands c.following-at.ensures.value c.following-at.ensures.node).less
 
 pub loop-at-preserved : goal.loop-at-preserved
 loop-at-preserved c =
     let f = c.args.forest.now in
     let e = c.law_nodes_stand_once.ensures in
-    let step = following_step f e.once e.only c.args.top c.in-Some.key c.following-at.result
-    (c.loop-at.invariant.stands c.in-Some.key c.in-Some.is) c.following-at.ensures.value c.following-at.ensures.node in
+    let step = walks-on f e.once e.only c.in-Some.is c.loop-at.invariant.stands c.following-at.ensures.value c.following-at.ensures.node in
     record {
-      stands = step.1;
-      left = left-behind f c.args.top c.in-Some.key c.loop-at.at c.following-at.result c.in-Some.is step.0
+      stands = step.stands;
+      left = left-behind f c.args.top c.in-Some.key c.loop-at.at c.following-at.result c.in-Some.is step.left
           (λ y. has_slot_name c.args.name.now (node_in f.trees y)) (sym c.if-has_name.ensures) ∙ c.loop-at.invariant.left;
     }
 

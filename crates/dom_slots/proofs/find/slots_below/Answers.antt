@@ -8,9 +8,8 @@ use Rattle.dom_model.specs.Tree.{node_in, inclusive_descendants}
 use Rattle.dom_tree.specs.Forest.{name_at}
 use Rattle.dom_laws.specs.Within.{from_node, behind}
 use Rattle.dom_tree.proofs.Standing.{Once-forest}
-use Rattle.dom_tree.proofs.Searching.{following_step, length-behind}
 use Rattle.dom_slots.proofs.NamesOfNodes.{named-filter}
-use Rattle.dom_slots.proofs.Walks.{from-top, stands-top, collect-yes, collect-no}
+use Rattle.dom_slots.proofs.Walks.{from-top, stands-top, walks-on, collect-yes, collect-no}
 use Rattle.dom_slots.proofs.find.slots_below.Goals as goal
 use Rattle.dom_slots.proofs.find.slots_below.Goals.{then-is_slot+in_ok-push, else-is_slot}
 
@@ -28,18 +27,14 @@ loop-at-init c =
 
 pub loop-at-smaller : goal.loop-at-smaller
 loop-at-smaller c =
-    let f = c.args.forest.now in
     let e = c.law_nodes_stand_once.ensures in
-    let step = following_step f e.once e.only c.args.top c.in-Some.key c.following-at.result
-    (c.loop-at.invariant.stands c.in-Some.key c.in-Some.is) c.following-at.ensures.value c.following-at.ensures.node in
-    length-behind f c.args.top c.in-Some.key c.loop-at.at c.following-at.result c.in-Some.is step.0
+    (walks-on c.args.forest.now e.once e.only c.in-Some.is c.loop-at.invariant.stands c.following-at.ensures.value c.following-at.ensures.node).less
 
 pub loop-at-preserved : goal.loop-at-preserved
 loop-at-preserved c =
     let f = c.args.forest.now in
     let e = c.law_nodes_stand_once.ensures in
-    let step = following_step f e.once e.only c.args.top c.in-Some.key c.following-at.result
-    (c.loop-at.invariant.stands c.in-Some.key c.in-Some.is) c.following-at.ensures.value c.following-at.ensures.node in
+    let step = walks-on f e.once e.only c.in-Some.is c.loop-at.invariant.stands c.following-at.ensures.value c.following-at.ensures.node in
     let test : NodeName → Bool = λ y. is_slot_element (node_in f.trees y) in
     let all = filter test (inclusive_descendants f.trees (name_at f.names c.args.top)) in
     let xs = behind f.trees (name_at f.names c.args.top) (name_at f.names c.in-Some.key) in
@@ -56,7 +51,7 @@ loop-at-preserved c =
       | else-is_slot w ↦ collect-no f.names test c.loop-at.keys.items c.in-Some.key node xs all c.loop-at.invariant.nodes left new
           (ap (λ v. v.items) w.keys-is) (sym w.if-is_slot.ensures)
     ] in
-    record { stands = step.1; nodes = is.0; left = ap (λ ys. map (name_at f.names) new ++ filter test ys) (sym step.0) ∙ is.1 }
+    record { stands = step.stands; nodes = is.0; left = ap (λ ys. map (name_at f.names) new ++ filter test ys) (sym step.left) ∙ is.1 }
 
 pub returns-clause-value : goal.returns-clause-value
 returns-clause-value c =

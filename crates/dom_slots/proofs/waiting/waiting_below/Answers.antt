@@ -9,7 +9,7 @@ use Rattle.dom_tree.specs.Forest.{name_at}
 use Rattle.dom_tree.proofs.Standing.{Once-forest, Has-forest}
 use Rattle.dom_slots.specs.Shadows.{looks_for}
 use Rattle.dom_slots.specs.Waiting.{waiting_under}
-use Rattle.dom_slots.proofs.Siblings.{from_item, first_step, next_step, length-next}
+use Rattle.dom_slots.proofs.Siblings.{from_item, first_step, goes-on}
 use Rattle.dom_slots.proofs.Walks.{collect-yes, collect-no}
 use Rattle.dom_slots.proofs.waiting.waiting_below.Goals as goal
 
@@ -44,25 +44,19 @@ next-at-requires c = (c.loop-at.invariant.child c.in-Some.child c.in-Some.is).no
 
 pub loop-at-smaller : goal.loop-at-smaller
 loop-at-smaller c =
-    let f = c.args.forest.now in
-    let h = name_at f.names c.args.host in
     let e = c.law_nodes_stand_once.ensures in
-    let k = c.in-Some.child in
-    let child = c.loop-at.invariant.child k c.in-Some.is in
-    let step = next_step f (Once-forest f e.once e.only) h (Has-forest f e.once c.args.host c.requires) k child
-    (Has-forest f e.once k child.node) c.next-at.result c.next-at.ensures.value c.next-at.ensures.node in
-    length-next f (children_of f.trees h) c.next-at.result c.in-Some.is step.0
+    (goes-on c.args.forest.now e.once e.only c.args.host c.requires c.in-Some.is c.loop-at.invariant.child c.next-at.ensures.value
+    c.next-at.ensures.node).less
 
 pub loop-at-preserved : goal.loop-at-preserved
 loop-at-preserved c =
     let f = c.args.forest.now in
-    let h = name_at f.names c.args.host in
     let e = c.law_nodes_stand_once.ensures in
     let k = c.in-Some.child in
-    let child = c.loop-at.invariant.child k c.in-Some.is in
-    let step = next_step f (Once-forest f e.once e.only) h (Has-forest f e.once c.args.host c.requires) k child
-    (Has-forest f e.once k child.node) c.next-at.result c.next-at.ensures.value c.next-at.ensures.node in
-    let all = children_of f.trees h in
+    let node = (c.loop-at.invariant.child k c.in-Some.is).node in
+    let step = goes-on f e.once e.only c.args.host c.requires c.in-Some.is c.loop-at.invariant.child c.next-at.ensures.value
+    c.next-at.ensures.node in
+    let all = children_of f.trees (name_at f.names c.args.host) in
     let xs = items_after name_eq (name_at f.names k) all in
     let test : List ℕ → NodeName → Bool = λ name y. looks_for name (node_in f.trees y) in
     let left : (name : List ℕ) → map (name_at f.names) (waiting_under c.loop-at.waiting name) ++ filter (test name) (name_at f.names k ∷ xs) ≡
@@ -73,12 +67,12 @@ loop-at-preserved c =
     let now : (name : List ℕ) → All (λ j. j < length f.names) (waiting_under c.add.new.self name) ×
     (map (name_at f.names) (waiting_under c.add.new.self name) ++ filter (test name) xs ≡ filter (test name) all) =
     λ name.
-    added f.names (test name) (waiting_under c.loop-at.waiting name) k child.node xs (filter (test name) all) (c.loop-at.invariant.nodes name) (left name)
+    added f.names (test name) (waiting_under c.loop-at.waiting name) k node xs (filter (test name) all) (c.loop-at.invariant.nodes name) (left name)
     (test name (name_at f.names k)) refl (waiting_under c.add.new.self name) (c.in_ok-add.ensures name) in
     record {
-      child = step.1;
+      child = step.child;
       nodes = λ name. (now name).0;
-      left = λ name. ap (λ ys. map (name_at f.names) (waiting_under c.add.new.self name) ++ filter (test name) ys) (sym step.0) ∙ (now name).1;
+      left = λ name. ap (λ ys. map (name_at f.names) (waiting_under c.add.new.self name) ++ filter (test name) ys) (sym step.left) ∙ (now name).1;
     }
 
 pub returns-clause-names : goal.returns-clause-names

@@ -1,11 +1,9 @@
 use Rattle.std.proofs.Common.{◌≡◌, [], map, ap, sym, subst, ◌∙◌}
 use Rattle.std.specs.Prelude.{IfOk}
-use Rattle.std.specs.Option.{option_map, option_map_or}
-use Rattle.dom_model.specs.Tree.{root_of}
+use Rattle.std.specs.Option.{option_map_or}
 use Rattle.dom_tree.specs.Forest.{name_at}
-use Rattle.dom_slots.specs.Hosts.{host_named}
 use Rattle.dom_slots.specs.Shadows.{shadows, assigned_under}
-use Rattle.dom_slots.proofs.Hosted.{host-named, host-node}
+use Rattle.dom_slots.proofs.Hosted.{host-found, host-node}
 use Rattle.dom_slots.proofs.slots.Slots.assigned_now.Goals as goal
 
 pub assigned_under-requires-clause-host_is_node : goal.assigned_under-requires-clause-host_is_node
@@ -16,23 +14,15 @@ pub returns-in-Some-clause-value : goal.returns-in-Some-clause-value
 returns-in-Some-clause-value c =
     let f = c.args.forest.now in
     let hosts = c.args.self.now.hosts in
-    let y = name_at f.names c.args.slot in
-    let hosted : option_map (name_at f.names) c.host_of.result ≡ host_named f.names hosts (root_of f.trees y) =
-    ap (option_map (name_at f.names)) c.host_of.ensures ∙
-    (host-named f.names c.law_nodes_stand_once.ensures.distinct hosts c.requires.hosts c.root.result c.root.ensures.node ∙
-    ap (host_named f.names hosts) c.root.ensures.value) in
     subst (λ xs. IfOk c.assigned_under.result (λ keys. map (name_at f.names) keys.items ≡ xs))
-    (ap (λ o. option_map_or (assigned_under (shadows f hosts) y) o []) (ap (option_map (name_at f.names)) (sym c.in-Some.is) ∙ hosted))
-    c.assigned_under.ensures.value
+    (ap (λ o. option_map_or (assigned_under (shadows f hosts) (name_at f.names c.args.slot)) o [])
+    (host-found f.names c.law_nodes_stand_once.ensures.distinct hosts c.requires.hosts (sym c.in-Some.is ∙ c.host_of.ensures) c.root.ensures.node
+    c.root.ensures.value)) c.assigned_under.ensures.value
 
 pub returns-in-None-clause-value : goal.returns-in-None-clause-value
 returns-in-None-clause-value c =
     let f = c.args.forest.now in
     let hosts = c.args.self.now.hosts in
-    let y = name_at f.names c.args.slot in
-    let hosted : option_map (name_at f.names) c.host_of.result ≡ host_named f.names hosts (root_of f.trees y) =
-    ap (option_map (name_at f.names)) c.host_of.ensures ∙
-    (host-named f.names c.law_nodes_stand_once.ensures.distinct hosts c.requires.hosts c.root.result c.root.ensures.node ∙
-    ap (host_named f.names hosts) c.root.ensures.value) in
-    ap (map (name_at f.names)) c.new.ensures.items ∙ ap (λ o. option_map_or (assigned_under (shadows f hosts) y) o [])
-    (ap (option_map (name_at f.names)) (sym c.in-None.is) ∙ hosted)
+    ap (map (name_at f.names)) c.new.ensures.items ∙ ap (λ o. option_map_or (assigned_under (shadows f hosts) (name_at f.names c.args.slot)) o [])
+    (host-found f.names c.law_nodes_stand_once.ensures.distinct hosts c.requires.hosts (sym c.in-None.is ∙ c.host_of.ensures) c.root.ensures.node
+    c.root.ensures.value)

@@ -12,7 +12,7 @@ use Rattle.dom_tree.proofs.Standing.{Once-forest, Has-forest}
 use Rattle.dom_laws.proofs.Lists.{filter-none}
 use Rattle.dom_slots.specs.Shadows.{shadows, is_assigned_at, looks_for}
 use Rattle.dom_slots.proofs.Firsts.{assigned-first}
-use Rattle.dom_slots.proofs.Siblings.{from_item, first_step, next_step, length-next}
+use Rattle.dom_slots.proofs.Siblings.{from_item, first_step, goes-on}
 use Rattle.dom_slots.proofs.Walks.{collect-yes, collect-no}
 use Rattle.dom_slots.proofs.slots.Slots.assigned_under.Goals as goal
 use Rattle.dom_slots.proofs.slots.Slots.assigned_under.Goals.{then-looks_for+in_ok-push, else-looks_for}
@@ -41,24 +41,19 @@ next-at-requires c = (c.loop-at.invariant.child c.in-Some.child c.in-Some.is).no
 
 pub loop-at-smaller : goal.loop-at-smaller
 loop-at-smaller c =
-    let f = c.args.forest.now in
-    let h = name_at f.names c.args.host in
     let e = c.law_nodes_stand_once.ensures in
-    let k = c.in-Some.child in
-    let child = c.loop-at.invariant.child k c.in-Some.is in
-    let step = next_step f (Once-forest f e.once e.only) h (Has-forest f e.once c.args.host c.requires.host_is_node) k child
-    (Has-forest f e.once k child.node) c.next-at.result c.next-at.ensures.value c.next-at.ensures.node in
-    length-next f (children_of f.trees h) c.next-at.result c.in-Some.is step.0
+    (goes-on c.args.forest.now e.once e.only c.args.host c.requires.host_is_node c.in-Some.is c.loop-at.invariant.child c.next-at.ensures.value
+    c.next-at.ensures.node).less
 
 pub loop-at-preserved : goal.loop-at-preserved
 loop-at-preserved c =
     let f = c.args.forest.now in
-    let h = name_at f.names c.args.host in
     let e = c.law_nodes_stand_once.ensures in
     let k = c.in-Some.child in
-    let child = c.loop-at.invariant.child k c.in-Some.is in
-    let step = next_step f (Once-forest f e.once e.only) h (Has-forest f e.once c.args.host c.requires.host_is_node) k child
-    (Has-forest f e.once k child.node) c.next-at.result c.next-at.ensures.value c.next-at.ensures.node in
+    let node = (c.loop-at.invariant.child k c.in-Some.is).node in
+    let h = name_at f.names c.args.host in
+    let step = goes-on f e.once e.only c.args.host c.requires.host_is_node c.in-Some.is c.loop-at.invariant.child c.next-at.ensures.value
+    c.next-at.ensures.node in
     let test : NodeName → Bool = is_assigned_at (shadows f c.args.self.now.hosts) (name_at f.names c.args.slot) in
     let all = filter test (children_of f.trees h) in
     let xs = items_after name_eq (name_at f.names k) (children_of f.trees h) in
@@ -72,15 +67,16 @@ loop-at-preserved c =
     let n = node_in f.trees (name_at f.names k) in
     let tested : looks_for c.slot_name-name.result.now n ≡ test (name_at f.names k) =
     ap (λ a. looks_for a n) c.slot_name-name.ensures
-    ∙ (ap (λ b. b && looks_for own n) c.if-not-is_first.ensures ∙ sym (assigned-first s (Once-forest f e.once e.only) h y (name_at f.names k) child.parent)) in
+    ∙ (ap (λ b. b && looks_for own n) c.if-not-is_first.ensures
+    ∙ sym (assigned-first s (Once-forest f e.once e.only) h y (name_at f.names k) (c.loop-at.invariant.child k c.in-Some.is).parent)) in
     let is : All (λ j. j < length f.names) new × (map (name_at f.names) new ++ filter test xs ≡ all) = elim c.if-looks_for.branch [
       | then-looks_for+in_ok-push w ↦
-          collect-yes f.names test c.loop-at.keys.items k child.node xs all c.loop-at.invariant.nodes left new
+          collect-yes f.names test c.loop-at.keys.items k node xs all c.loop-at.invariant.nodes left new
           (ap (λ v. v.items) w.keys-is ∙ w.in_ok-push.ensures.items) (sym (w.if-looks_for.ensures ∙ tested))
-      | else-looks_for w ↦ collect-no f.names test c.loop-at.keys.items k child.node xs all c.loop-at.invariant.nodes left new
+      | else-looks_for w ↦ collect-no f.names test c.loop-at.keys.items k node xs all c.loop-at.invariant.nodes left new
           (ap (λ v. v.items) w.keys-is) (sym (w.if-looks_for.ensures ∙ tested))
     ] in
-    record { child = step.1; nodes = is.0; left = ap (λ ys. map (name_at f.names) new ++ filter test ys) (sym step.0) ∙ is.1 }
+    record { child = step.child; nodes = is.0; left = ap (λ ys. map (name_at f.names) new ++ filter test ys) (sym step.left) ∙ is.1 }
 
 pub returns-clause-value : goal.returns-clause-value
 returns-clause-value c =

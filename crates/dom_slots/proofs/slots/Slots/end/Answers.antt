@@ -1,4 +1,4 @@
-use Rattle.std.proofs.Common.{◌≡◌, ℕ, true, Result, Ok, Err, Vec, Global, map, filter, sym, ap, subst, ◌∙◌}
+use Rattle.std.proofs.Common.{◌≡◌, true, Result, Ok, Err, map, filter, sym, ap, subst, ◌∙◌}
 use Rattle.std.specs.Prelude.{IfOk}
 use Rattle.std.specs.Option.{option_map}
 use Rattle.std.proofs.lemmas.Bool.{and_parts}
@@ -21,7 +21,7 @@ use Rattle.dom_slots.proofs.slots.Slots.end.Goals as goal
 
 -- where the table is that of the trees now, and the hosts are those before, these are the slots
 module _ (f : NamedTrees) (s new : SlotsNow) where
-  slots_are : {E : Type 0} (result : Result (Vec ℕ Global) E) → HostsAreNodes f.names s.hosts → IfOk result (λ keys. IsTableOf f s.hosts new.table) →
+  slots_are : {T E : Type 0} (result : Result T E) → HostsAreNodes f.names s.hosts → IfOk result (λ keys. IsTableOf f s.hosts new.table) →
       IfOk result (λ keys. new.hosts ≡ s.hosts) → IfOk result (λ keys. AreSlotsOf f new)
   slots_are (Ok keys) nodes table same =
       record { hosts = subst (HostsAreNodes f.names) (sym same) nodes; table = subst (λ hosts. IsTableOf f hosts new.table) (sym same) table }
@@ -70,42 +70,38 @@ returns-then-is_far-clause-slots c =
 -- ---- a step inside of one
 
 module _ (c : After-inside_signals) where
-  abbrev f_in : NamedTrees
-  f_in = c.args.forest.now
-
-  abbrev s_in : SlotsNow
-  s_in = c.args.self.now
-
   stands_in : StandsOnce c.args.forest.now
   stands_in = record { once = c.law_nodes_stand_once.ensures.once; only = c.law_nodes_stand_once.ensures.only }
 
-  inside : (was : Trees) → IsEndOf was f_in s_in c.args.change → IfOk c.inside_signals.result (λ keys.
-      IsInside f_in s_in.hosts (is_changed_at (shadow_trees f_in.names was s_in.hosts) (shadows f_in s_in.hosts)) s_in.table c.args.change.step
-      c.args.change.left c.args.change.slot c.inside_signals.new.self.table keys.items)
+  inside : (was : Trees) → IsEndOf was c.args.forest.now c.args.self.now c.args.change → IfOk c.inside_signals.result (λ keys.
+      IsInside c.args.forest.now c.args.self.now.hosts (is_changed_at (shadow_trees c.args.forest.now.names was c.args.self.now.hosts)
+      (shadows c.args.forest.now c.args.self.now.hosts)) c.args.self.now.table c.args.change.step c.args.change.left c.args.change.slot
+      c.inside_signals.new.self.table keys.items)
   inside was h =
-      c.inside_signals.ensures.renewed (is_changed_at (shadow_trees f_in.names was s_in.hosts) (shadows f_in s_in.hosts))
-      (inside-but-for was f_in s_in c.args.change h stands_in c.law_nodes_stand_once.ensures.distinct)
-      (none-renewed was f_in s_in c.args.change h stands_in)
+      c.inside_signals.ensures.renewed _
+      (inside-but-for was c.args.forest.now c.args.self.now c.args.change h stands_in c.law_nodes_stand_once.ensures.distinct)
+      (none-renewed was c.args.forest.now c.args.self.now c.args.change h stands_in)
 
 pub returns-clause-value : goal.returns-clause-value
 returns-clause-value c = λ was h. IfOk-weaker c.inside_signals.result _ _
-    (λ keys r. inside-keys was (f_in c) (s_in c) c.args.change h (stands_in c) c.inside_signals.new.self.table keys.items r) (inside c was h)
+    (λ keys r. inside-keys was c.args.forest.now c.args.self.now c.args.change h (stands_in c) c.inside_signals.new.self.table keys.items r) (inside c was h)
 
 pub returns-clause-nodes : goal.returns-clause-nodes
 returns-clause-nodes c =
     let was = c.requires.0 in
     let h = c.requires.1 in
     IfOk-weaker c.inside_signals.result _ _
-    (λ keys r. inside-nodes was (f_in c) (s_in c) c.args.change h (stands_in c) c.inside_signals.new.self.table keys.items r) (inside c was h)
+    (λ keys r. inside-nodes was c.args.forest.now c.args.self.now c.args.change h (stands_in c) c.inside_signals.new.self.table keys.items r) (inside c was h)
 
 pub returns-clause-slots : goal.returns-clause-slots
 returns-clause-slots c =
     let was = c.requires.0 in
     let h = c.requires.1 in
     let new = c.inside_signals.new.self in
-    slots_are (f_in c) (s_in c) new c.inside_signals.result h.slots.hosts
-    (IfOk-weaker c.inside_signals.result _ (λ keys. IsTableOf (f_in c) c.args.self.now.hosts new.table)
-    (λ keys r. inside-table was (f_in c) (s_in c) c.args.change h (stands_in c) new.table keys.items r) (inside c was h)) c.inside_signals.ensures.hosts
+    slots_are c.args.forest.now c.args.self.now new c.inside_signals.result h.slots.hosts
+    (IfOk-weaker c.inside_signals.result _ (λ keys. IsTableOf c.args.forest.now c.args.self.now.hosts new.table)
+    (λ keys r. inside-table was c.args.forest.now c.args.self.now c.args.change h (stands_in c) new.table keys.items r) (inside c was h))
+    c.inside_signals.ensures.hosts
 
 pub returns-then-is_hostless-clause-value : goal.returns-then-is_hostless-clause-value
 returns-then-is_hostless-clause-value c =

@@ -1,4 +1,4 @@
-use Rattle.std.proofs.Common.{◌≡◌, true, ◌&&◌, sym, ap, ◌∙◌, true≢false}
+use Rattle.std.proofs.Common.{◌≡◌, true, ◌&&◌, refl, sym, ap, ◌∙◌, true≢false}
 use Rattle.std.specs.Prelude.{is_none}
 use Rattle.std.specs.Option.{option_map}
 use Rattle.dom_model.specs.Tree.{parent_of}
@@ -8,7 +8,7 @@ use Rattle.dom_slots.specs.Shadows.{shadows}
 use Rattle.dom_slots.specs.Steps.{step_node, is_outside}
 use Rattle.dom_slots.proofs.Choices.{all-three, second-fails}
 use Rattle.dom_slots.proofs.Ended.{node-within}
-use Rattle.dom_slots.proofs.Hosted.{is_none-named, host-named}
+use Rattle.dom_slots.proofs.Hosted.{none-found}
 use Rattle.dom_slots.proofs.slots.Slots.is_apart.Goals as goal
 use Rattle.dom_slots.proofs.slots.Slots.is_apart.Goals.{then-is_none, else-is_none}
 
@@ -17,11 +17,6 @@ returns-then-is_outside c =
     let f = c.args.forest.now in
     let hosts = c.args.self.now.hosts in
     let x = name_at f.names (step_node c.args.step) in
-    let hosted : option_map (name_at f.names) c.host_of.result ≡ host_named f.names hosts x =
-    ap (option_map (name_at f.names)) c.host_of.ensures
-    ∙ (ap (λ k. option_map (name_at f.names) (host_of_root hosts k)) c.node-node.ensures
-    ∙ host-named f.names c.law_nodes_stand_once.ensures.distinct hosts c.requires.hosts (step_node c.args.step)
-    (node-within f.names c.args.step c.requires.nodes)) in
     let last = is_outside (shadows f hosts) (parent_of f.trees x) in
     let up : c.is_outside-then-is_outside.result ≡ last =
     c.is_outside-then-is_outside.ensures ∙
@@ -30,7 +25,9 @@ returns-then-is_outside c =
     elim c.if-is_none.branch [
       | then-is_none w ↦
           let first : is_none (host_named f.names hosts x) ≡ true =
-          sym (is_none-named (name_at f.names) c.host_of.result _ c.is_none.result c.is_none.ensures hosted) ∙ w.if-is_none.true in
+          sym (none-found f.names c.law_nodes_stand_once.ensures.distinct hosts c.requires.hosts
+          (c.host_of.ensures ∙ ap (host_of_root hosts) c.node-node.ensures) (node-within f.names c.args.step c.requires.nodes) refl c.is_none.ensures)
+          ∙ w.if-is_none.true in
           let second : is_outside (shadows f hosts) (option_map (name_at f.names) c.args.left) ≡ true =
           sym w.is_outside.ensures ∙ (sym w.value-is ∙ c.if-is_outside.true) in
           up ∙ all-three (is_none (host_named f.names hosts x)) (is_outside (shadows f hosts) (option_map (name_at f.names) c.args.left)) last first second
@@ -39,22 +36,16 @@ returns-then-is_outside c =
 
 pub returns-else-is_outside : goal.returns-else-is_outside
 returns-else-is_outside c =
-    let f = c.args.forest.now in
-    let hosts = c.args.self.now.hosts in
-    let x = name_at f.names (step_node c.args.step) in
-    let hosted : option_map (name_at f.names) c.host_of.result ≡ host_named f.names hosts x =
-    ap (option_map (name_at f.names)) c.host_of.ensures
-    ∙ (ap (λ k. option_map (name_at f.names) (host_of_root hosts k)) c.node-node.ensures
-    ∙ host-named f.names c.law_nodes_stand_once.ensures.distinct hosts c.requires.hosts (step_node c.args.step)
-    (node-within f.names c.args.step c.requires.nodes)) in
-    let last = is_outside (shadows f hosts) (parent_of f.trees x) in
+    let s = shadows c.args.forest.now c.args.self.now.hosts in
+    let name = name_at c.args.forest.now.names in
+    let x = name (step_node c.args.step) in
+    let second = is_outside s (option_map name c.args.left) in
+    let last = is_outside s (parent_of c.args.forest.now.trees x) in
     elim c.if-is_none.branch [
       | then-is_none w ↦
-          c.if-is_outside.false
-          ∙ second-fails (is_none (host_named f.names hosts x)) (is_outside (shadows f hosts) (option_map (name_at f.names) c.args.left)) last
-          (sym w.is_outside.ensures ∙ (sym w.value-is ∙ c.if-is_outside.false))
-      | else-is_none w ↦
-          c.if-is_outside.false
-          ∙ ap (λ b. b && (is_outside (shadows f hosts) (option_map (name_at f.names) c.args.left) && last))
-          (sym w.if-is_none.false ∙ is_none-named (name_at f.names) c.host_of.result _ c.is_none.result c.is_none.ensures hosted)
+          c.if-is_outside.false ∙ second-fails (is_none (s.host_of x)) second last (sym w.is_outside.ensures ∙ (sym w.value-is ∙ c.if-is_outside.false))
+      | else-is_none w ↦ c.if-is_outside.false ∙ ap (λ b. b && (second && last)) (sym w.if-is_none.false
+          ∙ none-found c.args.forest.now.names c.law_nodes_stand_once.ensures.distinct c.args.self.now.hosts c.requires.hosts
+          (c.host_of.ensures ∙ ap (host_of_root c.args.self.now.hosts) c.node-node.ensures) (node-within c.args.forest.now.names c.args.step c.requires.nodes)
+          refl c.is_none.ensures)
     ]

@@ -1,7 +1,6 @@
 use Rattle.std.proofs.Common.{◌≡◌, ℕ, ◌&&◌, ◌==◌, not, [], ◌∷◌, List, length, map, refl, sym, ap, ◌∙◌, suc, arith}
 use Rattle.std.proofs.lemmas.Bool.{ne_eqb}
 use Rattle.std.specs.Prelude.{is_some}
-use Rattle.std.specs.Option.{option_map}
 use Rattle.std.specs.Vec.{vec_len}
 use Rattle.dom_base.specs.declared.NodeName.{NodeName}
 use Rattle.dom_model.specs.Names.{is_empty}
@@ -11,7 +10,7 @@ use Rattle.dom_tree.specs.Forest.{name_at}
 use Rattle.dom_slots.specs.Hosts.{host_named}
 use Rattle.dom_slots.specs.Shadows.{shadows, assigned_at}
 use Rattle.dom_slots.proofs.Choices.{all-three, second-fails}
-use Rattle.dom_slots.proofs.Hosted.{is_some-named, host-named}
+use Rattle.dom_slots.proofs.Hosted.{is_some-named, host-found}
 use Rattle.dom_slots.proofs.slots.Slots.is_bare.Goals as goal
 use Rattle.dom_slots.proofs.slots.Slots.is_bare.Goals.{then-not-is_slot-via-then-not-is_slot, then-not-is_slot-via-else-not-is_slot+then-is_none}
 
@@ -30,10 +29,8 @@ returns-then-not-is_slot c =
     elim c.then-not-is_slot.branch [
       | then-not-is_slot-via-then-not-is_slot w ↦ ap (λ b. b && (hosted && rest)) w.if-not-is_slot.ensures
       | then-not-is_slot-via-else-not-is_slot+then-is_none w ↦
-          let found : option_map (name_at f.names) w.host_of.result ≡ host_named f.names hosts (root_of f.trees y) =
-          ap (option_map (name_at f.names)) w.host_of.ensures ∙
-          (host-named f.names c.law_nodes_stand_once.ensures.distinct hosts c.requires.hosts w.root.result w.root.ensures.node ∙
-          ap (host_named f.names hosts) w.root.ensures.value) in
+          let found = host-found f.names c.law_nodes_stand_once.ensures.distinct hosts c.requires.hosts w.host_of.ensures w.root.ensures.node
+          w.root.ensures.value in
           second-fails (is_slot_element (node_in f.trees y)) hosted rest
           (sym (ap is_some found) ∙ (sym (is_some-named (name_at f.names) w.host_of.result) ∙ (w.is_none.ensures ∙ ap not w.if-is_none.true)))
     ]
@@ -45,10 +42,8 @@ returns c =
     let y = name_at f.names c.args.key in
     let hosted = is_some (host_named f.names hosts (root_of f.trees y)) in
     let rest = is_empty (assigned_at (shadows f hosts) y) in
-    let found : option_map (name_at f.names) c.host_of.result ≡ host_named f.names hosts (root_of f.trees y) =
-    ap (option_map (name_at f.names)) c.host_of.ensures ∙
-    (host-named f.names c.law_nodes_stand_once.ensures.distinct hosts c.requires.hosts c.root.result c.root.ensures.node ∙
-    ap (host_named f.names hosts) c.root.ensures.value) in
+    let found = host-found f.names c.law_nodes_stand_once.ensures.distinct hosts c.requires.hosts c.host_of.ensures c.root.ensures.node
+    c.root.ensures.value in
     let long : vec_len c.in_ok-list.list ≡ length c.in_ok-list.list.items = omega (arith, c.in_ok-list.list.ok) in
     c.is_empty.ensures ∙ (ap (λ n. n == 0) long ∙ (is_empty-named f.names c.in_ok-list.list.items ∙ (ap is_empty c.in_ok-list.ensures.value
     ∙ all-three (is_slot_element (node_in f.trees y)) hosted rest (sym c.if-not-is_slot.ensures)

@@ -1,5 +1,5 @@
 use Rattle.std.proofs.Common.{◌≡◌, ℕ, ◌++◌, true, not, filter, sym, ap, subst, ◌∙◌}
-use Rattle.std.specs.Prelude.{nat_eq, if◌then◌else◌, option_to_list}
+use Rattle.std.specs.Prelude.{nat_eq, if◌then◌else◌, option_to_list, OnOk}
 use Rattle.std.specs.Option.{option_map}
 use Rattle.std.proofs.lemmas.Result.{on_ok_weaker}
 use Rattle.dom_model.specs.Names.{append_once, list_eq}
@@ -7,16 +7,22 @@ use Rattle.dom_tree.specs.Forest.{name_at}
 use Rattle.dom_tree.proofs.Standing.{Once-forest, Has-forest}
 use Rattle.node_arena.specs.Nodes.{insert_before}
 use Rattle.dom_slots.specs.Kept.{SlotsNow}
-use Rattle.dom_slots.specs.Renewals.{AreRenewed}
+use Rattle.dom_slots.specs.Renewals.{AreRenewed, Renews}
 use Rattle.dom_slots.specs.Tables.{SlotTable, list_of}
 use Rattle.dom_slots.proofs.Joining.{inserted-differs, joined, not-listed, joined-inside}
 use Rattle.dom_slots.proofs.Leaving.{at-slot}
 use Rattle.dom_slots.proofs.Renewing.{renewed-more}
 use Rattle.dom_slots.proofs.slots.Slots.join.Goals as goal
 
+pub returns-then-not-is_of_parent-clause-renewed : goal.returns-then-not-is_of_parent-clause-renewed
+returns-then-not-is_of_parent-clause-renewed c =
+    λ right.
+    subst (λ o. OnOk c.renew.result (Renews c.args.forest.now c.args.self.now.hosts (option_to_list (option_map (name_at c.args.forest.now.names) o))
+    c.args.self.now.table c.args.signals.now.items c.renew.new.self.table c.renew.new.signals.items)) (sym c.in-Some.is) c.renew.ensures.renewed
+
 pub returns-clause-renewed : goal.returns-clause-renewed
 returns-clause-renewed c =
-    λ p old done told right r.
+    λ right.
     let f = c.args.forest.now in
     let e = c.law_nodes_stand_once.ensures in
     let once = Once-forest f e.once e.only in
@@ -33,6 +39,10 @@ returns-clause-renewed c =
     let at = Has-forest f e.once node c.requires.node in
     let own = sym c.requires.own ∙ ap (option_map (name_at f.names)) c.in-Some.is in
     let is = c.sibling_behind-before.ensures.value in
+    let lists = λ (j : ℕ). c.in_ok-put.ensures j ∙ ap (λ (t : SlotTable). if nat_eq k j then insert_before (list_of t j) node before else list_of t j) tables in
+    on_ok_weaker c.add_once.result
+    (λ (told_is : c.add_once.new.signals.items ≡ append_once nat_eq keys k).
+    λ p old done told r.
     let names = joined f once e.distinct s.hosts node k under.0 at under.2 under.1 own list (r.nodes k) (right k c.in-Some.is) before
     c.sibling_behind-before.ensures.node is in
     let within = joined-inside f once e.distinct s.hosts node k under.0 at under.2 under.1 own list (r.nodes k) (right k c.in-Some.is) before
@@ -40,9 +50,6 @@ returns-clause-renewed c =
     let off = not-listed f once e.distinct s.hosts node k under.0 at under.2 under.1 own list (r.nodes k) (right k c.in-Some.is) before
     c.sibling_behind-before.ensures.node is in
     let differs : true ≡ not (list_eq nat_eq list new) = inserted-differs node before list off in
-    let lists = λ (j : ℕ). c.in_ok-put.ensures j ∙ ap (λ (t : SlotTable). if nat_eq k j then insert_before (list_of t j) node before else list_of t j) tables in
-    on_ok_weaker c.add_once.result
-    (λ (told_is : c.add_once.new.signals.items ≡ append_once nat_eq keys k).
     subst (λ o. AreRenewed f s.hosts p old (done ++ option_to_list (option_map (name_at f.names) o))
     (told ++ filter p (option_to_list (option_map (name_at f.names) o))) c.put.new.self c.add_once.new.signals.items) (sym c.in-Some.is)
     (renewed-more f e.distinct s.hosts p old done told s.table keys r k (c.requires.slot k c.in-Some.is) new names within c.put.new.self

@@ -47,16 +47,16 @@ returns-clause-renewed c =
     let same : hs ≡ s.hosts = c.in_ok-leave.ensures.hosts in
     let left = c.leave.new.self.table in
     let first : AreRenewed f s.hosts p s.table mine (filter p mine) left c.leave.new.signals.items =
-    c.in_ok-leave.ensures.renewed p s.table [] []
+    c.in_ok-leave.ensures.renewed
     (λ k was. ap (λ n. map name (without n (list_of s.table k))) node_is ∙ leaves-right f distinct s.hosts step node slot new
-    c.slot_now-slot.ensures.node own s.table but start.nodes apart c.requires.slot k was)
+    c.slot_now-slot.ensures.node own s.table but start.nodes apart c.requires.slot k was) p s.table [] []
     (subst (AreRenewed f s.hosts p s.table [] [] s.table) (sym c.new-signals.ensures.items) start) in
     let right : (k : ℕ) → new ≡ Some k → map name (list_of left k) ≡ names_but (name c.args.node) (assigned_at (shadows f hs) (name k)) =
     λ k now.
     joins-right f distinct s.hosts step node slot new c.slot_now-slot.ensures.node own s.table but start.nodes apart c.requires.slot first k now
     ∙ (ap (λ n. names_but (name n) (assigned_at (shadows f s.hosts) (name k))) (sym node_is) ∙
     ap (λ hosts. names_but (name c.args.node) (assigned_at (shadows f hosts) (name k))) (sym same)) in
-    let second = c.in_ok-join.ensures.renewed p s.table mine (filter p mine) right
+    let second = c.in_ok-join.ensures.renewed right p s.table mine (filter p mine)
     (subst (λ hosts. AreRenewed f hosts p s.table mine (filter p mine) left c.leave.new.signals.items) (sym same) first) in
     both-slots f distinct s.hosts step node slot new c.slot_now-slot.ensures.node own p s.table c.join.new.self.table c.join.new.signals.items
     (subst (λ hosts. AreRenewed f hosts p s.table (mine ++ its) (filter p mine ++ filter p its) c.join.new.self.table c.join.new.signals.items) same second)

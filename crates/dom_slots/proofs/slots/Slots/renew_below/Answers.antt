@@ -1,6 +1,7 @@
-use Rattle.std.proofs.Common.{◌≡◌, map, sym, ap, subst, ◌∙◌}
+use Rattle.std.proofs.Common.{◌≡◌, ◌++◌, map, sym, ap, subst, ◌∙◌}
 use Rattle.std.proofs.lemmas.Bool.{eqb-true, or_right}
 use Rattle.std.proofs.lemmas.List.Folds.{list_any-append}
+use Rattle.std.proofs.lemmas.Result.{on_ok_weaker}
 use Rattle.dom_model.specs.Names.{name_eq, is_in}
 use Rattle.dom_model.specs.Slots.{slots_among}
 use Rattle.dom_model.specs.Tree.{root_of, subtree}
@@ -8,9 +9,19 @@ use Rattle.dom_tree.specs.Forest.{name_at}
 use Rattle.dom_tree.proofs.Standing.{Once-forest, Has-forest}
 use Rattle.dom_laws.proofs.Lists.{In, is_in-from}
 use Rattle.dom_slots.specs.Insides.{tree_slots}
+use Rattle.dom_slots.specs.Renewals.{Renews}
 use Rattle.dom_slots.proofs.Renewing.{renewed-again}
 use Rattle.dom_slots.proofs.TreeSlots.{below-root}
 use Rattle.dom_slots.proofs.slots.Slots.renew_below.Goals as goal
+
+pub returns-clause-renewed : goal.returns-clause-renewed
+returns-clause-renewed c =
+    λ p old done told r.
+    let f = c.args.forest.now in
+    on_ok_weaker c.renew.result
+    (λ (h : Renews f c.args.self.now.hosts (map (name_at f.names) c.args.moved.now) c.args.self.now.table c.args.signals.now.items
+    c.renew.new.self.table c.renew.new.signals.items).
+    h p old (done ++ tree_slots f.trees (name_at f.names c.args.around)) told r) c.renew.ensures.renewed
 
 pub returns-then-eq-clause-renewed : goal.returns-then-eq-clause-renewed
 returns-then-eq-clause-renewed c =

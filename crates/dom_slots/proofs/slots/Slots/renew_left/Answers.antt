@@ -1,23 +1,16 @@
-use Rattle.std.proofs.Common.{◌≡◌, Bool, Result, Ok, Err, [], filter, sym, ap, subst, ◌∙◌}
+use Rattle.std.proofs.Common.{◌≡◌, [], filter, sym, ap, subst, ◌∙◌}
 use Rattle.std.specs.Prelude.{OnOk}
 use Rattle.std.specs.Option.{option_map_or}
 use Rattle.std.proofs.lemmas.Bool.{eqb-true}
 use Rattle.std.proofs.lemmas.Result.{on_ok_weaker}
-use Rattle.dom_base.specs.declared.NodeName.{NodeName}
 use Rattle.dom_model.specs.Slots.{slots_among}
 use Rattle.dom_model.specs.Tree.{root_of, subtree}
 use Rattle.dom_tree.specs.Forest.{name_at}
 use Rattle.dom_slots.specs.Insides.{tree_slots, AreSilent}
-use Rattle.dom_slots.specs.Renewals.{AreRenewed}
+use Rattle.dom_slots.specs.Renewals.{AreRenewed, Renews}
 use Rattle.dom_slots.proofs.Renewing.{renewed-right}
 use Rattle.dom_slots.proofs.TreeSlots.{slot-key}
 use Rattle.dom_slots.proofs.slots.Slots.renew_left.Goals as goal
-
--- what holds of each test on a success holds of all on it
-on_ok : {E : Type 0} (r : Result (Unit {0}) E) (A B : (NodeName → Bool) → Type 0) → ((q : NodeName → Bool) → A q → OnOk r (B q)) →
-    OnOk r ((q : NodeName → Bool) → A q → B q)
-on_ok (Ok u) A B h = h
-on_ok (Err e) A B h = tt
 
 pub returns-clause-renewed : goal.returns-clause-renewed
 returns-clause-renewed c =
@@ -30,10 +23,9 @@ returns-clause-renewed c =
     let slots = tree_slots f.trees (name_at f.names c.in-Some.left) in
     let is = ap (λ o. option_map_or (λ k. tree_slots f.trees (name_at f.names k)) o []) (sym c.in-Some.is ∙ c.left_behind.ensures) in
     subst (λ ys. OnOk c.renew_tree.result (AreSilent f hosts ys old table)) is
-    (on_ok c.renew_tree.result _ _
-    (λ q start.
-    on_ok_weaker c.renew_tree.result (λ (r : AreRenewed f hosts q old slots (filter q slots) table keys). (keys, r))
-    (c.renew_tree.ensures.renewed q old [] [] (subst (AreRenewed f hosts q old [] [] old) (sym c.new-signals.ensures.items) start))))
+    (on_ok_weaker c.renew_tree.result
+    (λ (h : Renews f hosts slots old c.new-signals.result.items table keys).
+    λ q start. (keys, h q old [] [] (subst (AreRenewed f hosts q old [] [] old) (sym c.new-signals.ensures.items) start))) c.renew_tree.ensures.renewed)
 
 pub returns-then-eq-clause-renewed : goal.returns-then-eq-clause-renewed
 returns-then-eq-clause-renewed c =

@@ -1,17 +1,26 @@
-use Rattle.std.proofs.Common.{◌≡◌, ◌<◌, Some, length, map, sym, ap, subst, ◌∙◌}
+use Rattle.std.proofs.Common.{◌≡◌, ℕ, ◌<◌, List, Some, length, map, refl, sym, ap, subst, ◌∙◌}
+use Rattle.std.specs.Prelude.{OnOk}
 use Rattle.std.specs.Option.{option_map}
+use Rattle.dom_base.specs.declared.NodeName.{NodeName}
 use Rattle.dom_model.specs.Slots.{slots_among}
-use Rattle.dom_model.specs.Tree.{subtree}
-use Rattle.dom_tree.specs.Forest.{name_at}
+use Rattle.dom_model.specs.Tree.{root_of, subtree}
+use Rattle.dom_tree.specs.Forest.{NamedTrees, name_at}
 use Rattle.dom_tree.proofs.Standing.{Once-forest, Has-forest}
 use Rattle.dom_laws.proofs.Lists.{In}
 use Rattle.dom_slots.specs.Hosts.{host_named, root_named}
+use Rattle.dom_slots.specs.Insides.{tree_slots}
+use Rattle.dom_slots.specs.Renewals.{Renews}
 use Rattle.dom_slots.specs.Waiting.{waiting_under}
-use Rattle.dom_slots.proofs.Hosted.{host-named, root-named, host-node}
+use Rattle.dom_slots.proofs.Hosted.{host-found, root-named, host-node}
 use Rattle.dom_slots.proofs.Joining.{same-option}
 use Rattle.dom_slots.proofs.Serving.{all-served}
 use Rattle.dom_slots.proofs.TreeSlots.{slot-root}
 use Rattle.dom_slots.proofs.slots.Slots.renew_tree.Goals as goal
+
+-- the keys of the slots of the tree of a node
+of-tree : (f : NamedTrees) (x : NodeName) {ks js : List ℕ} {top : NodeName} → ks ≡ js → map (name_at f.names) js ≡ slots_among (subtree f.trees top) →
+    top ≡ root_of f.trees x → map (name_at f.names) ks ≡ tree_slots f.trees x
+of-tree f x same are root = ap (map (name_at f.names)) same ∙ (are ∙ ap (λ r. slots_among (subtree f.trees r)) root)
 
 pub waiting_below-requires : goal.waiting_below-requires
 waiting_below-requires c =
@@ -29,8 +38,7 @@ renew_waiting-requires-clause-served c =
     let root = name_at f.names key in
     let node : host < length f.names = host-node f.names hosts c.requires.hosts key host (sym c.host_of.ensures ∙ c.in-Some.is) in
     let hosted : host_named f.names hosts root ≡ Some (name_at f.names host) =
-    sym (host-named f.names e.distinct hosts c.requires.hosts key c.root-root.ensures.node) ∙
-    ap (option_map (name_at f.names)) (sym c.host_of.ensures ∙ c.in-Some.is) in
+    sym (host-found f.names e.distinct hosts c.requires.hosts (sym c.in-Some.is ∙ c.host_of.ensures) c.root-root.ensures.node refl) in
     let shadow : root_named f.names hosts (name_at f.names host) ≡ Some root =
     sym (root-named f.names e.distinct hosts c.requires.hosts host node) ∙
     ap (option_map (name_at f.names)) (sym c.root_of.ensures ∙ same-option c.root_of.result (Some key) (sym c.eq.ensures ∙ c.if-eq.true)) in
@@ -41,3 +49,15 @@ renew_waiting-requires-clause-served c =
     ∙ sym c.root-root.ensures.value)
     (waiting_under c.in_ok-waiting-in-Some.waiting) c.in_ok-waiting-in-Some.ensures.names c.deref.result.now
     (ap (map (name_at f.names)) c.deref.ensures.value ∙ c.in_ok-slots.ensures.value)
+
+pub returns-in-Some-clause-renewed : goal.returns-in-Some-clause-renewed
+returns-in-Some-clause-renewed c =
+    subst (λ xs. OnOk c.renew_waiting.result (Renews c.args.forest.now c.args.self.now.hosts xs c.args.self.now.table c.args.signals.now.items
+    c.renew_waiting.new.self.table c.renew_waiting.new.signals.items))
+    (of-tree c.args.forest.now _ c.deref.ensures.value c.in_ok-slots.ensures.value c.root-root.ensures.value) c.renew_waiting.ensures.renewed
+
+pub returns-clause-renewed : goal.returns-clause-renewed
+returns-clause-renewed c =
+    subst (λ xs. OnOk c.renew.result (Renews c.args.forest.now c.args.self.now.hosts xs c.args.self.now.table c.args.signals.now.items
+    c.renew.new.self.table c.renew.new.signals.items))
+    (of-tree c.args.forest.now _ c.deref-in_default.ensures.value c.in_ok-slots.ensures.value c.root-root.ensures.value) c.renew.ensures.renewed

@@ -1,4 +1,4 @@
-use Rattle.std.proofs.Common.{◌≡◌, ℕ, ◌<◌, ◌+◌, ◌++◌, ◌∷◌, [], Bool, true, false, List, All, map, filter, take, drop, length, refl, sym, ap, subst, ◌∙◌}
+use Rattle.std.proofs.Common.{◌≡◌, ℕ, ◌<◌, ◌+◌, ◌∷◌, [], Bool, true, false, List, All, map, drop, length, refl, sym, ap, subst, ◌∙◌}
 use Rattle.std.specs.Prelude.{if◌then◌else◌}
 use Rattle.std.proofs.lemmas.List.{take_all, drop_more}
 use Rattle.std.proofs.lemmas.List.Elements.{All-nil}
@@ -7,10 +7,10 @@ use Rattle.dom_model.specs.Slots.{slot_name}
 use Rattle.dom_model.specs.Tree.{node_in}
 use Rattle.dom_tree.specs.Forest.{NamedTrees, name_at}
 use Rattle.dom_slots.specs.Hosts.{ShadowHost}
-use Rattle.dom_slots.specs.Renewals.{AreRenewed}
+use Rattle.dom_slots.specs.Renewals.{Renews}
 use Rattle.dom_slots.specs.Shadows.{shadows, assigned_at}
 use Rattle.dom_slots.specs.Waiting.{waiting_under, Serves}
-use Rattle.dom_slots.proofs.Renewing.{none_yet, one_more}
+use Rattle.dom_slots.proofs.Renewing.{renews-none, renews-next}
 use Rattle.dom_slots.proofs.slots.Slots.renew_waiting.Goals as goal
 
 -- a slot is served, and then those behind it
@@ -36,7 +36,7 @@ nodes-stay n false was now e all = subst (All (λ k. k < n)) (sym e) all
 pub loop-slot-init : goal.loop-slot-init
 loop-slot-init c = record {
   hosts = refl;
-  renewed = λ p old done told r. none_yet c.args.forest.now c.args.self.now.hosts p old done told c.args.self.now.table c.args.signals.now.items r;
+  renewed = renews-none;
   served = c.requires.served;
   nodes = c.requires.waiting_nodes;
 }
@@ -63,19 +63,12 @@ loop-slot-preserved c =
     let slots = c.args.slots.now in
     let i = c.loop-slot.slot-index in
     let s = c.slot-item.result in
-    let names = map (name_at f.names) (take i slots) in
-    let same = c.loop-slot.invariant.hosts in
     let at : drop i slots ≡ s ∷ drop (i + 1) slots =
     drop_more slots i s c.loop-slot-test.true ∙ ap (λ k. k ∷ drop (i + 1) slots) (sym c.slot-item.is) in
     record {
-      hosts = c.in_ok-renew_as.ensures.hosts ∙ same;
-      renewed = λ p old done told r.
-          one_more f c.args.self.now.hosts p old done told slots i s c.slot-item.is c.loop-slot-test.true
-          (subst (λ hs. AreRenewed f hs p old ((done ++ names) ++ name_at f.names s ∷ []) ((told ++ filter p names) ++ filter p (name_at f.names s ∷ []))
-          c.renew_as.new.self.table c.renew_as.new.signals.items) same
-          (c.in_ok-renew_as.ensures.renewed p old (done ++ names) (told ++ filter p names)
-          (subst (λ hs. AreRenewed f hs p old (done ++ names) (told ++ filter p names) c.loop-slot.self.table c.loop-slot.signals.items)
-          (sym same) (c.loop-slot.invariant.renewed p old done told r))));
+      hosts = c.in_ok-renew_as.ensures.hosts ∙ c.loop-slot.invariant.hosts;
+      renewed = renews-next slots i s c.slot-item.is c.loop-slot-test.true c.loop-slot.invariant.hosts c.loop-slot.invariant.renewed
+          c.in_ok-renew_as.ensures.renewed;
       served = then-others f c.args.self.now.hosts slots i s at (waiting_under c.loop-slot.waiting) (waiting_under c.take-list.new.self)
           c.slot_name.result.now c.slot_name.ensures c.loop-slot.invariant.served c.take-list.ensures.others;
       nodes = λ name.
@@ -85,8 +78,6 @@ loop-slot-preserved c =
 
 pub returns-clause-renewed : goal.returns-clause-renewed
 returns-clause-renewed c =
-    λ p old done told r.
-    let f = c.args.forest.now in
-    subst (λ ks. AreRenewed f c.args.self.now.hosts p old (done ++ map (name_at f.names) ks) (told ++ filter p (map (name_at f.names) ks))
-    c.loop-slot.self.table c.loop-slot.signals.items)
-    (take_all c.loop-slot.slot-index c.args.slots.now c.loop-slot-test.false) (c.loop-slot.invariant.renewed p old done told r)
+    subst (λ ks. Renews c.args.forest.now c.args.self.now.hosts (map (name_at c.args.forest.now.names) ks) c.args.self.now.table
+    c.args.signals.now.items c.loop-slot.self.table c.loop-slot.signals.items)
+    (take_all c.loop-slot.slot-index c.args.slots.now c.loop-slot-test.false) c.loop-slot.invariant.renewed

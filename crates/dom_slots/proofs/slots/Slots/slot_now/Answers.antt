@@ -2,18 +2,15 @@ use Rattle.std.proofs.Common.{ap, sym, ◌∙◌}
 use Rattle.std.specs.Option.{option_map}
 use Rattle.dom_tree.specs.Forest.{name_at}
 use Rattle.dom_slots.specs.Shadows.{shadows}
-use Rattle.dom_slots.proofs.Hosted.{root-named, root-node, slot-no_root, slot-searched}
+use Rattle.dom_slots.proofs.Hosted.{root-named, root-node, slot-rootless, slot-searched}
 use Rattle.dom_slots.proofs.slots.Slots.slot_now.Goals as goal
 
 pub returns-in_err-root-clause-value : goal.returns-in_err-root-clause-value
 returns-in_err-root-clause-value c =
-    let f = c.args.forest.now in
-    let hosts = c.args.self.now.hosts in
-    let p = c.in_ok-parent.parent in
-    ap (option_map (name_at f.names)) c.from_residual-in_err-root.ensures
-    ∙ slot-no_root (shadows f hosts) (name_at f.names c.args.node) (name_at f.names p) c.in_ok-parent.ensures.value
-    (ap (option_map (name_at f.names)) c.in_err-root.ensures ∙ root-named f.names c.law_nodes_stand_once.ensures.distinct hosts c.requires.hosts p
-    (c.parent.ensures.node p c.in_ok-parent.was))
+    ap (option_map (name_at c.args.forest.now.names)) c.from_residual-in_err-root.ensures
+    ∙ slot-rootless c.args.forest.now c.law_nodes_stand_once.ensures.distinct c.args.self.now.hosts c.requires.hosts
+    (name_at c.args.forest.now.names c.args.node) c.in_ok-parent.ensures.value (c.parent.ensures.node c.in_ok-parent.parent c.in_ok-parent.was)
+    c.in_err-root.ensures
 
 pub slot_named-requires : goal.slot_named-requires
 slot_named-requires c = root-node c.args.forest.now.names c.args.self.now.hosts c.requires.hosts c.in_ok-parent.parent c.in_ok-root.root

@@ -3,21 +3,17 @@ use Rattle.std.specs.Prelude.{is_some}
 use Rattle.std.specs.Option.{option_map}
 use Rattle.dom_tree.specs.Forest.{name_at}
 use Rattle.dom_tree.proofs.Standing.{Once-forest, Has-forest}
-use Rattle.dom_slots.specs.Shadows.{shadows}
-use Rattle.dom_slots.proofs.Hosted.{root-named, root-node, host-named, slot-no_root}
+use Rattle.dom_slots.proofs.Hosted.{root-named, root-node, host-found, slot-rootless}
 use Rattle.dom_slots.proofs.Joining.{same-option}
 use Rattle.dom_slots.proofs.Unlisted.{unlisted-none}
 use Rattle.dom_slots.proofs.slots.Slots.slot_unlisted.Goals as goal
 
 pub returns-in_err-root-clause-value : goal.returns-in_err-root-clause-value
 returns-in_err-root-clause-value c =
-    let f = c.args.forest.now in
-    let hosts = c.args.self.now.hosts in
-    let p = c.in_ok-parent.parent in
-    ap (option_map (name_at f.names)) c.from_residual-in_err-root.ensures
-    ∙ slot-no_root (shadows f hosts) (name_at f.names c.args.node) (name_at f.names p) c.in_ok-parent.ensures.value
-    (ap (option_map (name_at f.names)) c.in_err-root.ensures ∙ root-named f.names c.law_nodes_stand_once.ensures.distinct hosts c.requires.slots.hosts
-    p (c.parent.ensures.node p c.in_ok-parent.was))
+    ap (option_map (name_at c.args.forest.now.names)) c.from_residual-in_err-root.ensures
+    ∙ slot-rootless c.args.forest.now c.law_nodes_stand_once.ensures.distinct c.args.self.now.hosts c.requires.slots.hosts
+    (name_at c.args.forest.now.names c.args.node) c.in_ok-parent.ensures.value (c.parent.ensures.node c.in_ok-parent.parent c.in_ok-parent.was)
+    c.in_err-root.ensures
 
 pub parent-requires-2 : goal.parent-requires-2
 parent-requires-2 c = root-node c.args.forest.now.names c.args.self.now.hosts c.requires.slots.hosts c.in_ok-parent.parent c.in_ok-root.root
@@ -44,6 +40,6 @@ returns-then-eq-clause-value c =
     (sym c.in_ok-parent.ensures.value) (sym
     (ap (option_map name) c.in_ok-root.ensures ∙ root-named f.names e.distinct hosts c.requires.slots.hosts p
     (c.parent.ensures.node p c.in_ok-parent.was)))
-    (sym (host-named f.names e.distinct hosts c.requires.slots.hosts r within) ∙ ap (option_map name) (sym c.host_of.ensures ∙ host_is))
+    (sym (host-found f.names e.distinct hosts c.requires.slots.hosts (sym host_is ∙ c.host_of.ensures) within refl))
     (Has-forest f e.once r within)
     (sym c.parent-2.ensures.value ∙ ap (option_map name) (absent c.parent-2.result c.if-is_none.ensures))
