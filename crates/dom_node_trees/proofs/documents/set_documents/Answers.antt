@@ -29,27 +29,24 @@ following-at-requires-clause-within c =
     (sets_above f.trees
     (Once-forest f c.law_nodes_stand_once.ensures.once c.law_nodes_stand_once.ensures.only) at changed)
 
+-- one node more gets the document
+one : (c : goal.After-following-at) → SetsOneIn c.loop-at.forest c.set_document.new.self c.args.top c.args.document c.in-Some.node c.following-at.result
+one c = record {
+  names = c.set_document.ensures.names;
+  changed = c.set_document.ensures.trees;
+  found = c.following-at.ensures.value;
+  near = c.following-at.ensures.node;
+}
+
 pub loop-at-smaller : goal.loop-at-smaller
 loop-at-smaller c =
-    let one : SetsOneIn c.loop-at.forest c.set_document.new.self c.args.top c.args.document c.in-Some.node c.following-at.result = record {
-      names = c.set_document.ensures.names;
-      changed = c.set_document.ensures.trees;
-      found = c.following-at.ensures.value;
-      near = c.following-at.ensures.node;
-    } in
-    (sets_on one c.args.forest.now c.loop-at.at
+    (sets_on (one c) c.args.forest.now c.loop-at.at
     (Once-forest c.args.forest.now c.law_nodes_stand_once.ensures.once c.law_nodes_stand_once.ensures.only) c.in-Some.is
     c.loop-at.invariant.0 c.loop-at.invariant.1).2
 
 pub loop-at-preserved : goal.loop-at-preserved
 loop-at-preserved c =
-    let one : SetsOneIn c.loop-at.forest c.set_document.new.self c.args.top c.args.document c.in-Some.node c.following-at.result = record {
-      names = c.set_document.ensures.names;
-      changed = c.set_document.ensures.trees;
-      found = c.following-at.ensures.value;
-      near = c.following-at.ensures.node;
-    } in
-    let on = sets_on one c.args.forest.now c.loop-at.at
+    let on = sets_on (one c) c.args.forest.now c.loop-at.at
     (Once-forest c.args.forest.now c.law_nodes_stand_once.ensures.once c.law_nodes_stand_once.ensures.only) c.in-Some.is
     c.loop-at.invariant.0 c.loop-at.invariant.1 in
     (on.0, on.1)
