@@ -103,7 +103,12 @@ impl NodeTrees {
             OnOk result (HasStepped change.step self.old.forest.trees (with_trees was self.old) self.new) }
     {
         let keys = self.slots.end(&self.forest, change)?;
-        signal_each(&self.forest, &keys, &mut self.signalled, &mut self.queue)
+        signal_each(
+            &self.forest,
+            keys.as_slice(),
+            &mut self.signalled,
+            &mut self.queue,
+        )
     }
 
     /// The signalled slots that an owner has, in their order. Other owners' are not looked at.

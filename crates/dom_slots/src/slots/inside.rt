@@ -19,6 +19,7 @@ use crate::step::{SlotChange, Step};
 use crate::waiting::waiting_below;
 use dom_tree::Forest;
 use node_arena::Key;
+use smallvec::SmallVec;
 use std::alloc::AllocError;
 
 impl Slots {
@@ -29,7 +30,7 @@ impl Slots {
         &mut self,
         forest: &Forest,
         change: SlotChange,
-    ) -> Result<Vec<Key>, AllocError>
+    ) -> Result<SmallVec<Key, 2>, AllocError>
         requires hosts { HostsAreNodes forest.now.names self.old.hosts }
         requires nodes { StepHasNodes forest.now.names change.step }
         requires left { ForSome change.left (IsNode forest.now) }
@@ -49,7 +50,11 @@ impl Slots {
     }
 
     /// The slots that a step inside a shadow tree signals, where it moved or changed no slot.
-    fn still_signals(&mut self, forest: &Forest, change: SlotChange) -> Result<Vec<Key>, AllocError>
+    fn still_signals(
+        &mut self,
+        forest: &Forest,
+        change: SlotChange,
+    ) -> Result<SmallVec<Key, 2>, AllocError>
         requires hosts { HostsAreNodes forest.now.names self.old.hosts }
         requires nodes { StepHasNodes forest.now.names change.step }
         requires left { ForSome change.left (IsNode forest.now) }
@@ -75,7 +80,7 @@ impl Slots {
         forest: &Forest,
         change: SlotChange,
         moved: &[Key],
-    ) -> Result<Vec<Key>, AllocError>
+    ) -> Result<SmallVec<Key, 2>, AllocError>
         requires hosts { HostsAreNodes forest.now.names self.old.hosts }
         requires nodes { StepHasNodes forest.now.names change.step }
         requires left { ForSome change.left (IsNode forest.now) }
@@ -101,7 +106,7 @@ impl Slots {
         forest: &Forest,
         step: Step,
         around: Key,
-        signals: &mut Vec<Key>,
+        signals: &mut SmallVec<Key, 2>,
     ) -> Result<(), AllocError>
         requires hosts { HostsAreNodes forest.now.names self.now.hosts }
         requires around { IsNode forest.now around }
@@ -139,7 +144,7 @@ impl Slots {
         change: SlotChange,
         around: Key,
         moved: &[Key],
-        signals: &mut Vec<Key>,
+        signals: &mut SmallVec<Key, 2>,
     ) -> Result<(), AllocError>
         requires hosts { HostsAreNodes forest.now.names self.old.hosts }
         requires nodes { StepHasNodes forest.now.names change.step }
@@ -165,7 +170,7 @@ impl Slots {
         node: Key,
         around: Key,
         moved: &[Key],
-        signals: &mut Vec<Key>,
+        signals: &mut SmallVec<Key, 2>,
     ) -> Result<(), AllocError>
         requires hosts { HostsAreNodes forest.now.names self.old.hosts }
         requires node { IsNode forest.now node }
@@ -207,7 +212,7 @@ impl Slots {
         &mut self,
         forest: &Forest,
         node: Key,
-        signals: &mut Vec<Key>,
+        signals: &mut SmallVec<Key, 2>,
     ) -> Result<(), AllocError>
         requires hosts { HostsAreNodes forest.now.names self.old.hosts }
         requires node { IsNode forest.now node }
@@ -248,7 +253,7 @@ impl Slots {
         if forest.root(left) == forest.root(around) {
             return Ok(());
         }
-        let mut signals = Vec::new(self.alloc);
+        let mut signals = SmallVec::new(self.alloc);
         self.renew_tree(forest, left, &mut signals)
     }
 }

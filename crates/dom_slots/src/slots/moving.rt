@@ -21,6 +21,7 @@ use crate::changes::add_once;
 use crate::find::next_looking_for;
 use dom_tree::Forest;
 use node_arena::Key;
+use smallvec::SmallVec;
 use std::alloc::AllocError;
 
 impl Slots {
@@ -33,7 +34,7 @@ impl Slots {
         node: Key,
         moves: bool,
         was: Option<Key>,
-    ) -> Result<Vec<Key>, AllocError>
+    ) -> Result<SmallVec<Key, 2>, AllocError>
         requires hosts { HostsAreNodes forest.now.names self.old.hosts }
         requires node { IsNode forest.now node }
         requires slot { ForSome was (IsNode forest.now) }
@@ -45,7 +46,7 @@ impl Slots {
     {
         forest.law_nodes_stand_once();
         let slot = self.slot_now(forest, node);
-        let mut signals = Vec::new(self.alloc);
+        let mut signals = SmallVec::new(self.alloc);
         if slot == was {
             if moves {
                 return self.own_signals(forest, node, was);
@@ -63,7 +64,7 @@ impl Slots {
         forest: &Forest,
         slot: Option<Key>,
         node: Key,
-        signals: &mut Vec<Key>,
+        signals: &mut SmallVec<Key, 2>,
     ) -> Result<(), AllocError>
         requires node { IsNode forest.now node }
         requires slot { ForSome slot (IsNode forest.now) }
@@ -90,7 +91,7 @@ impl Slots {
         forest: &Forest,
         slot: Option<Key>,
         node: Key,
-        signals: &mut Vec<Key>,
+        signals: &mut SmallVec<Key, 2>,
     ) -> Result<(), AllocError>
         requires hosts { HostsAreNodes forest.now.names self.old.hosts }
         requires node { IsNode forest.now node }

@@ -12,6 +12,7 @@ use crate::find::slot_name;
 use crate::waiting::Waiting;
 use dom_tree::Forest;
 use node_arena::Key;
+use smallvec::SmallVec;
 use std::alloc::AllocError;
 
 impl Slots {
@@ -20,7 +21,7 @@ impl Slots {
         &mut self,
         forest: &Forest,
         slots: &[Key],
-        signals: &mut Vec<Key>,
+        signals: &mut SmallVec<Key, 2>,
     ) -> Result<(), AllocError>
         requires hosts { HostsAreNodes forest.now.names self.old.hosts }
         requires nodes { All (IsNode forest.now) slots.now }
@@ -42,7 +43,7 @@ impl Slots {
         forest: &Forest,
         slots: &[Key],
         mut waiting: Waiting<'_>,
-        signals: &mut Vec<Key>,
+        signals: &mut SmallVec<Key, 2>,
     ) -> Result<(), AllocError>
         requires hosts { HostsAreNodes forest.now.names self.old.hosts }
         requires nodes { All (IsNode forest.now) slots.now }
@@ -65,7 +66,7 @@ impl Slots {
         forest: &Forest,
         slot: Key,
         list: Vec<Key>,
-        signals: &mut Vec<Key>,
+        signals: &mut SmallVec<Key, 2>,
     ) -> Result<(), AllocError>
         requires node { IsNode forest.now slot }
         requires right { map (name_of forest.now) list.items ≡ assigned_at (shadows forest.now self.old.hosts) (name_of forest.now slot) }

@@ -17,6 +17,7 @@ use crate::Slots;
 use crate::step::{SlotChange, Step};
 use dom_tree::Forest;
 use node_arena::Key;
+use smallvec::SmallVec;
 use std::alloc::AllocError;
 
 impl Slots {
@@ -43,14 +44,18 @@ impl Slots {
     }
 
     /// The slots that a step signals which has been done since it was begun, in order (own rule; DOM Standard, concept:
-    /// signal a slot change). A value to which memory was refused is only dropped. Where there is no
+    /// signal a slot change). Up to two of them take no memory. A value to which memory was refused is only dropped. Where there is no
     /// host this costs one look. A step whose node is no slot, and has no child where it is moved, costs no way up to a root. Any
     /// other one costs those from the parents that its node left and has now, and where one of them stands in a shadow tree a walk
     /// through what is moved. Where the parent is a host, its shadow tree is walked up to the first slot that its node looks for;
     /// where that slot is another one than before, the list of the old one is read, and of the siblings behind the node those up
     /// to the first that has the new one. Only where what is moved holds a slot, or a slot's attributes change, the trees that
     /// were left and reached are walked, each once, and the children of their hosts are read once.
-    pub fn end(&mut self, forest: &Forest, change: SlotChange) -> Result<Vec<Key>, AllocError>
+    pub fn end(
+        &mut self,
+        forest: &Forest,
+        change: SlotChange,
+    ) -> Result<SmallVec<Key, 2>, AllocError>
         requires { (was : Trees) × IsEndOf was forest.now self.old change }
         ensures value { (was : Trees) → IsEndOf was forest.now self.old change →
             IfOk result (λ keys. map (name_of forest.now) keys.items ≡ step_signals forest.now.names
@@ -61,7 +66,7 @@ impl Slots {
     {
         forest.law_nodes_stand_once();
         if self.is_hostless() {
-            return Ok(Vec::new(self.alloc));
+            return Ok(SmallVec::new(self.alloc));
         }
         let kept = change;
         if self.is_far(forest, change.step, change.left) {
@@ -85,7 +90,7 @@ impl Slots {
         forest: &Forest,
         node: Key,
         was: Option<Key>,
-    ) -> Result<Vec<Key>, AllocError>
+    ) -> Result<SmallVec<Key, 2>, AllocError>
         requires hosts { HostsAreNodes forest.now.names self.old.hosts }
         requires node { IsNode forest.now node }
         requires slot { ForSome was (IsNode forest.now) }
@@ -97,7 +102,7 @@ impl Slots {
     {
         forest.law_nodes_stand_once();
         let slot = self.slot_now(forest, node);
-        let mut signals = Vec::new(self.alloc);
+        let mut signals = SmallVec::new(self.alloc);
         self.renew(forest, was.as_slice(), &mut signals)?;
         self.renew(forest, slot.as_slice(), &mut signals)?;
         Ok(signals)

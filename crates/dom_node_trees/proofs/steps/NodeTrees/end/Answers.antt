@@ -14,7 +14,7 @@ on_two (Err e) a b f = tt
 pub returns : goal.returns
 returns c was end =
     let names = c.args.self.now.forest.names in
-    let same = c.deref.ensures.value in
+    let same = c.as_slice.ensures in
     let told = ap (map (name_at names)) same ∙ c.in_ok-keys.ensures.value was end in
     let nodes = subst (All (λ k. k < length names)) (sym same) c.in_ok-keys.ensures.nodes in
     on_two c.signal_each.result c.signal_each.ensures.signalled c.signal_each.ensures.queue
@@ -26,8 +26,8 @@ returns c was end =
       hosts = c.in_ok-keys.ensures.hosts;
       held = record {
         slots = c.in_ok-keys.ensures.slots;
-        nodes = subst (AreNames names) (sym more) (names_signalled names c.args.self.now.signalled (map (name_at names) c.deref.result.now)
-            c.requires.nodes (are_named names c.deref.result.now nodes));
+        nodes = subst (AreNames names) (sym more) (names_signalled names c.args.self.now.signalled (map (name_at names) c.as_slice.result.now)
+            c.requires.nodes (are_named names c.as_slice.result.now nodes));
       };
       signalled = more ∙ ap (fold (append_once name_eq) c.args.self.now.signalled) told;
       tasks = later ∙ ap (fold _ c.args.self.now.queue) told;
