@@ -1,5 +1,5 @@
 -- Signalled slots when one more is signalled, and when those of an owner are taken: what is held then, and what a contract sees.
-use Rattle.std.proofs.Common.{◌≡◌, ℕ, ◌+◌, ◌≤◌, Bool, true, false, not, ◌&&◌, ◌||◌, List, [], ◌∷◌, ◌++◌, filter, map, length, nat_eq}
+use Rattle.std.proofs.Common.{◌≡◌, ℕ, ◌+◌, ◌-◌, ◌≤◌, Bool, true, false, not, ◌&&◌, ◌||◌, List, [], ◌∷◌, ◌++◌, filter, map, length, nat_eq}
 use Rattle.std.proofs.Common.{refl, sym, ap, subst, ◌∙◌, arith}
 use Rattle.std.specs.Prelude.{if◌then◌else◌}
 use Rattle.std.proofs.lemmas.Bool.{cond-true, cond-false, and_parts}
@@ -84,6 +84,10 @@ module _ (s : Inside) (kept : IsKept s) where
       let both = length-filter_both (is_owned_by o) (λ x. not (is_owned_by o x)) (λ x. refl) (signals_of s) in
       let own = sym (length-map (numbers_of s.own o) (node_of o)) ∙ ap length (kept.own o) in
       let counted = kept.counted in omega (arith, both, own, counted)
+
+  -- and when they are taken off, the others are left
+  pub others_left : (o : Owner) (ns : List ℕ) → ns ≡ numbers_of s.own o → (s.count - length ns) + length (numbers_of s.own o) ≡ s.count
+  others_left o ns is = let few = own_few o in let same = ap length is in omega (arith, few, same)
 
   -- an owner without any
   pub none_taken : (o : Owner) → length (numbers_of s.own o) ≡ 0 → signals_of s ≡ filter (λ x. not (is_owned_by o x)) (signals_of s)
