@@ -9,7 +9,7 @@ use Rattle.dom_model.specs.Tree.{Trees, Node, nodes, names_of, node_in, parent_o
 use Rattle.dom_model.specs.Slots.{slots_among, slot_in, has_slot_name, slottable_name, is_slot_element}
 use Rattle.dom_model.proofs.OwnerLaws.{name_eq-true}
 use Rattle.dom_tree.specs.Forest.{NamedTrees, name_at}
-use Rattle.dom_laws.proofs.Lists.{In, is_in-not, filter-none, filter-yes, filter-no, last_split, In-right}
+use Rattle.dom_laws.proofs.Lists.{In, In-from, is_in-from, is_in-not, filter-none, filter-yes, filter-no, last_split, In-right}
 use Rattle.dom_laws.proofs.Counts.{Once}
 use Rattle.dom_laws.proofs.Shapes.{Has, Has-subtree, above-present, below-from_above}
 use Rattle.dom_laws.proofs.Children.{In-names, Has-names}
@@ -150,6 +150,10 @@ to_filter q y (x ∷ xs) e (inr i) = by (q x) refl (to_filter q y xs e i)
     by : (b : Bool) → q x ≡ b → In y (filter q xs) → In y (filter q (x ∷ xs))
     by true h deeper = subst (In y) (sym (filter-yes q x xs h)) (inr deeper)
     by false h deeper = subst (In y) (sym (filter-no q x xs h)) deeper
+
+-- who is not among those of a list that pass a test, and passes it, is not in the list
+pub unfiltered : (q : NodeName → Bool) (y : NodeName) (ys : List NodeName) → q y ≡ true → is_in name_eq y (filter q ys) ≡ false → is_in name_eq y ys ≡ false
+unfiltered q y ys hit off = false_from_ne_true _ (λ i. true≢false (sym (is_in-from y (filter q ys) (to_filter q y ys hit (In-from y ys i))) ∙ off))
 
 -- the root of a node is above it
 root_above : (ts : Trees) (y : NodeName) → Has ts y → In (root_of ts y) (inclusive_ancestors ts y)

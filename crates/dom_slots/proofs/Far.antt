@@ -1,29 +1,31 @@
 -- What is assigned to a node stays where no slot is moved and no slot has an attribute changed, and where the node is no slot
 -- of a tree that a slot joins, leaves or is changed in.
-use Rattle.std.proofs.Common.{◌≡◌, ◌⊎◌, inl, inr, true, false, List, [], ◌∷◌, Some, None, sym, ap, subst, ◌∙◌, true≢false}
-use Rattle.std.specs.Prelude.{option_to_list}
-use Rattle.std.proofs.lemmas.Bool.{cases_Bool}
+use Rattle.std.proofs.Common.{◌≡◌, ◌⊎◌, inl, inr, true, false, ◌&&◌, List, [], ◌∷◌, Option, Some, None, refl, sym, ap, subst, ◌∙◌, true≢false}
+use Rattle.std.specs.Prelude.{find, option_to_list}
+use Rattle.std.specs.Option.{option_map, option_map_or}
+use Rattle.std.proofs.lemmas.Bool.{cases_Bool, and_parts, false_from_ne_true}
 use Rattle.std.proofs.lemmas.Option.{none-some}
 use Rattle.dom_base.specs.declared.NodeName.{NodeName}
-use Rattle.dom_model.specs.Names.{name_eq, is_in}
-use Rattle.dom_model.specs.Slots.{is_slot_element, slot_in, slots_among}
-use Rattle.dom_model.specs.Tree.{Trees, none, tree, Node, node_in, subtree, parent_of, root_of, inclusive_descendants}
-use Rattle.dom_model.specs.TreeChanges.{change_node}
+use Rattle.dom_model.specs.Names.{Word, DomString, text_eq, name_eq, is_in, first_of}
+use Rattle.dom_model.specs.Slots.{is_slot_element, has_slot_name, slot_name, slottable_name, slot_in, slots_among}
+use Rattle.dom_model.specs.Tree.{Trees, none, tree, Node, nodes, node_in, subtree, parent_of, root_of, inclusive_descendants}
+use Rattle.dom_model.specs.TreeChanges.{change_node, with_attribute}
 use Rattle.dom_tree.specs.Forest.{name_at}
 use Rattle.dom_laws.proofs.Children.{In-names}
-use Rattle.dom_laws.proofs.Lists.{In, is_in-not}
-use Rattle.dom_laws.proofs.Shapes.{Has, has_or_not}
+use Rattle.dom_laws.proofs.Lists.{In, is_in-from, is_in-not, filter-none}
+use Rattle.dom_laws.proofs.Shapes.{Has, has_or_not, subtree-present}
 use Rattle.dom_laws.proofs.Counts.{Once}
 use Rattle.dom_slots.specs.Hosts.{ShadowHost}
 use Rattle.dom_slots.specs.Shadows.{shadow_trees, is_assigned_at, assigned_at}
 use Rattle.dom_slots.proofs.Attaching.{in_filter, to_filter}
 use Rattle.dom_slots.proofs.Attributed as Attributed
 use Rattle.dom_slots.proofs.Entering.{NoneHas, unslotted}
+use Rattle.dom_slots.proofs.Firsts.{text_same, named_so}
 use Rattle.dom_slots.proofs.PlacedTrees.{Spot, grafted, others}
-use Rattle.dom_slots.proofs.Looks.{grafted-found, changed-slot, changed-found}
+use Rattle.dom_slots.proofs.Looks.{grafted-first, grafted-found, changed-slot, changed-found}
 use Rattle.dom_slots.proofs.Moved.{AreBoth}
 use Rattle.dom_slots.proofs.Moved as Moved
-use Rattle.dom_slots.proofs.NamesOfNodes.{named-filter}
+use Rattle.dom_slots.proofs.NamesOfNodes.{named-filter, named-first}
 use Rattle.dom_slots.proofs.Rooted.{root-within, in-tree_of_root}
 use Rattle.dom_slots.proofs.Settled.{IsSettled, KeepsBut, KeepsAssigned, assigned-found, assigned-unmoved, assigned-settled}
 
@@ -58,9 +60,51 @@ pub record IsAway (x : NodeName) (was now : Trees) (y : NodeName) : Type 0 where
   pub left : (a : NodeName) → parent_of was x ≡ Some a → Has (subtree now (root_of now a)) y → ⊥
   pub parent : (a : NodeName) → parent_of now x ≡ Some a → Has (subtree now (root_of now a)) y → ⊥
 
--- nothing below x is a slot, or this node is none, or one that is away
+-- a slot that does not stand below x, where no slot has its name
+pub record IsUnlike (x : NodeName) (now : Trees) (y : NodeName) : Type 0 where
+  pub below : Has (subtree now x) y → ⊥
+  pub names : (z : NodeName) → In z (slots_among (subtree now x)) → text_eq (slot_name (node_in now z)) (slot_name (node_in now y)) ≡ false
+
+-- nothing below x is a slot, or this node is none, or one that is away or unlike those
 abbrev pub IsFar : NodeName → Trees → Trees → NodeName → Type 0
-IsFar x was now y = (slots_among (subtree now x) ≡ []) ⊎ (is_slot_element (node_in now y) ≡ true → IsAway x was now y)
+IsFar x was now y = (slots_among (subtree now x) ≡ []) ⊎ (is_slot_element (node_in now y) ≡ true → IsAway x was now y ⊎ IsUnlike x now y)
+
+-- so is a slot of another name than those below x
+pub unlike : (now : Trees) → Once now → (x y : NodeName) → ((z : NodeName) → is_in name_eq z (slots_among (subtree now x)) ≡ true →
+    text_eq (slot_name (node_in now z)) (slot_name (node_in now y)) ≡ false) → is_slot_element (node_in now y) ≡ true → IsUnlike x now y
+unlike now once x y other slot = record {
+  below = λ i. true≢false (sym (text_same (slot_name (node_in now y)))
+      ∙ other y (is_in-from y (slots_among (subtree now x)) (slot-among now once x y i slot)));
+  names = λ z i. other z (is_in-from z (slots_among (subtree now x)) i);
+}
+
+-- no slot of a name is found where no slot has it
+none-first : (ts : Trees) → Once ts → (x : NodeName) (a : DomString) →
+    ((z : NodeName) → In z (slots_among (subtree ts x)) → text_eq (slot_name (node_in ts z)) a ≡ false) →
+    option_map (λ (n : Node). n.name) (find (has_slot_name a) (nodes (subtree ts x))) ≡ None
+none-first ts once x a off =
+    named-first ts once (has_slot_name a) x
+    ∙ ap first_of (filter-none (λ y. has_slot_name a (node_in ts y)) (inclusive_descendants ts x) (λ z i. false_from_ne_true _ (λ h.
+    let parts = and_parts (is_slot_element (node_in ts z)) _ h in
+    true≢false (sym parts.1 ∙ off z (subst (In z) (sym (named-filter ts once is_slot_element x))
+    (to_filter (λ y. is_slot_element (node_in ts y)) z (inclusive_descendants ts x) parts.0 i))))))
+
+module _ (names : List NodeName) (hosts : List ShadowHost) (was now : Trees) (two : AreBoth names hosts was now) where
+  -- a slot is found alike where in each tree the first one of its name is the same
+  first-alike : (y : NodeName) → node_in was y ≡ node_in now y →
+      ((r : NodeName) → option_map (λ (n : Node). n.name) (find (has_slot_name (slot_name (node_in now y))) (nodes (subtree was r))) ≡
+      option_map (λ (n : Node). n.name) (find (has_slot_name (slot_name (node_in now y))) (nodes (subtree now r)))) → (r : NodeName) (n : Node) →
+      is_in name_eq y (option_to_list (slot_in (subtree was r) n)) ≡ is_in name_eq y (option_to_list (slot_in (subtree now r) n))
+  first-alike y same first r n =
+      named_so (shadow_trees names was hosts) two.once_was y y r (slottable_name n)
+      ∙ (ap (λ (m : Node). is_in name_eq y (option_to_list (option_map (λ (k : Node). k.name) (find (has_slot_name (slot_name m)) (nodes (subtree was r)))))
+      && option_map_or (λ a. text_eq a (slot_name m)) (slottable_name n) false) same
+      ∙ (ap (λ o. is_in name_eq y (option_to_list o) && option_map_or (λ a. text_eq a (slot_name (node_in now y))) (slottable_name n) false) (first r)
+      ∙ sym (named_so (shadow_trees names now hosts) two.once_now y y r (slottable_name n))))
+
+-- a node stands in its own tree
+pub own_tree : (ts : Trees) (x : NodeName) → Has ts x → Has (subtree ts x) x
+own_tree ts x h = let w = subtree-present ts x h in subst (λ (us : Trees). Has us x) (sym w.2) (inl w.3)
 
 -- what is assigned to such nodes stays but for x
 abbrev pub KeepsFar : List NodeName → List ShadowHost → NodeName → Trees → Trees → Type 0
@@ -91,11 +135,20 @@ module _ (names : List NodeName) (hosts : List ShadowHost) (m : Node) (d us : Tr
   ]
     where
       by : is_slot_element (node_in now y) ≡ true → IsFar x was now y → KeepsBut names hosts x was now y
-      by e (inr away) =
-          let a = away e in
-          assigned-settled names hosts was now both.once_was both.once_now y h g
-          (Moved.moved-settled names hosts m d us p q apart both y h g a.below a.left a.parent) x
-          (Moved.keeps_hosts names hosts m d us p q apart both)
+      by e (inr off) = elim (off e) [
+        | inl a ↦
+            assigned-settled names hosts was now both.once_was both.once_now y h g
+            (Moved.moved-settled names hosts m d us p q apart both y h g a.below a.left a.parent) x
+            (Moved.keeps_hosts names hosts m d us p q apart both)
+        | inr u ↦
+            let same = Moved.own_tree names hosts m d us p q apart both q in
+            let bare = ap (λ (ts : Trees). option_map (λ (n : Node). n.name) (find (has_slot_name (slot_name (node_in now y))) (nodes ts))) (sym same) ∙
+            none-first now both.once_now x (slot_name (node_in now y)) u.names in
+            assigned-found names hosts was now both.once_was both.once_now y
+            (Moved.root_same names hosts m d us p q apart both y (λ i. u.below (subst (λ (ts : Trees). Has ts y) (sym same) i)))
+            (first-alike names hosts was now both y (Moved.contents_same names hosts m d us p q apart both y h g)
+            (grafted-first m d (slot_name (node_in now y)) bare us p q apart)) x (Moved.keeps_hosts names hosts m d us p q apart both)
+      ]
       by e (inl bare) =
           let below : Has (subtree now x) y → ⊥ = λ i. subst (In y) bare (slot-among now both.once_now x y i e) in
           let off : Has (tree m d none) y → ⊥ = λ i. below (subst (λ (ts : Trees). Has ts y) (sym (Moved.own_tree names hosts m d us p q apart both q)) i) in
@@ -156,3 +209,21 @@ module _ (x : NodeName) (g : Node → Node) (keeps : (n : Node) → (g n).name �
         ap (others x) (sym (no_slot-unassigned ts two.once_was names hosts y (sym (changed-slot x g keeps element ts y) ∙ e)) ∙
         no_slot-unassigned (change_node g x ts) two.once_now names hosts y e)
   ]
+
+-- other attributes leave it a slot, or none
+pub attribute-slot : (a : Word) (v : Option DomString) (n : Node) → is_slot_element (with_attribute a v n) ≡ is_slot_element n
+attribute-slot a None n = refl
+attribute-slot a (Some v) n = refl
+
+-- a tree that is moved from no parent to none
+abbrev pub AloneKept : List NodeName → List ShadowHost → NodeName → Trees → Trees → Type 0
+AloneKept names hosts x was now = parent_of was x ≡ None → parent_of now x ≡ None → KeepsAssigned names hosts x was now
+
+-- A tree that is put at one spot or at another.
+module _ (names : List NodeName) (hosts : List ShadowHost) (m : Node) (d us : Trees) (p q : Spot)
+    (apart : ((y : NodeName) → Has us y → Has (tree m d none) y → ⊥)) (both : AreBoth names hosts (grafted m d p us) (grafted m d q us)) where
+  pub alone-so : AloneKept names hosts m.name (grafted m d p us) (grafted m d q us)
+  alone-so e g = alone-kept names hosts m d us p q apart both e g
+
+  pub far-so : KeepsFar names hosts m.name (grafted m d p us) (grafted m d q us)
+  far-so = far-kept names hosts m d us p q apart both

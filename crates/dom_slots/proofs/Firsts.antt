@@ -51,7 +51,7 @@ module _ (s : ShadowTrees) (once : Once s.trees) (h y : NodeName) where
   own_name = slot_name (node_in s.trees y)
 
   -- who looks for this name in a tree finds the node just where it is the first of that name
-  named_so : (r : NodeName) (o : Option DomString)
+  pub named_so : (r : NodeName) (o : Option DomString)
       → is_in name_eq y (option_to_list (option_and_then (λ a. option_map (λ (n : Node). n.name) (find (has_slot_name a) (nodes (subtree s.trees r)))) o))
       ≡ (is_in name_eq y (option_to_list (option_map (λ (n : Node). n.name) (find (has_slot_name own_name) (nodes (subtree s.trees r))))) &&
       option_map_or (λ a. text_eq a own_name) o false)

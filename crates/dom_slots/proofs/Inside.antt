@@ -4,20 +4,20 @@ use Rattle.std.proofs.Common.{◌≡◌, ◌⊎◌, inl, inr, ℕ, ◌<◌, Bool
 use Rattle.std.proofs.Common.{fold, refl, sym, ap, subst, ◌∙◌, true≢false}
 use Rattle.std.specs.Prelude.{option_to_list}
 use Rattle.std.specs.Option.{option_map, option_map_or}
-use Rattle.std.proofs.lemmas.Bool.{or_parts, false_from_ne_true}
+use Rattle.std.proofs.lemmas.Bool.{or_parts, or_left, false_from_ne_true}
 use Rattle.std.proofs.lemmas.List.Folds.{list_any-append}
 use Rattle.std.proofs.lemmas.Option.{same_Some, none-some}
 use Rattle.dom_base.specs.declared.NodeName.{NodeName}
-use Rattle.dom_model.specs.Names.{Word, DomString, name_eq, is_in, append_once}
-use Rattle.dom_model.specs.Slots.{is_slot_element, slots_among}
-use Rattle.dom_model.specs.Tree.{Trees, none, tree, Node, node_in, subtree, parent_of, root_of}
+use Rattle.dom_model.specs.Names.{DomString, text_eq, name_eq, is_in, append_once}
+use Rattle.dom_model.specs.Slots.{is_slot_element, slot_name, slots_among}
+use Rattle.dom_model.specs.Tree.{Trees, none, node_in, subtree, parent_of, root_of}
 use Rattle.dom_model.specs.TreeChanges.{with_attribute}
 use Rattle.dom_tree.specs.Forest.{NamedTrees, name_at}
 use Rattle.dom_tree.specs.Apart.{TellApart}
-use Rattle.dom_laws.proofs.Lists.{In, is_in-from, In-parts}
-use Rattle.dom_laws.proofs.Shapes.{Has, subtree-present}
-use Rattle.dom_slots.specs.Hosts.{ShadowHost}
-use Rattle.dom_slots.specs.Insides.{tree_slots, own_slots, bare_around, slots_around, left_slots, MovesNone, AreMoved, MayMove, IsInside}
+use Rattle.dom_laws.proofs.Lists.{In, is_in-from, In-from, In-parts}
+use Rattle.dom_laws.proofs.Shapes.{Has}
+use Rattle.dom_slots.specs.Insides.{is_called, tree_slots, own_slots, bare_around, slots_around, left_slots, MovesNone, MovesCalled, AreSilent}
+use Rattle.dom_slots.specs.Insides.{MayMove, IsInside}
 use Rattle.dom_slots.specs.Kept.{SlotsNow, StandsOnce, IsEndOf}
 use Rattle.dom_slots.specs.declared.step.SlotChange.{SlotChange}
 use Rattle.dom_slots.specs.Renewals.{AreRenewed, IsButFor}
@@ -26,34 +26,18 @@ use Rattle.dom_slots.specs.Steps.{StepHasNodes, step_node, is_move, around_of, l
 use Rattle.dom_slots.specs.Tables.{SlotTable, list_of, IsTableOf}
 use Rattle.dom_slots.specs.declared.step.Step.{Step}
 use Rattle.dom_slots.specs.declared.step.Step.TheVariants.{Place, Removal, Attribute}
+use Rattle.dom_slots.specs.Waiting.{is_wanted}
+use Rattle.dom_slots.proofs.Attaching.{in_filter, unfiltered}
 use Rattle.dom_slots.proofs.Ended.{told-signals, there-was, there-now, both-stand, not-own, none-own, but-for, others-among, renewed-table}
-use Rattle.dom_slots.proofs.Far.{IsAway, IsFar, KeepsFar, slot-among, far-kept, alone-kept, changed-far, changed-still}
-use Rattle.dom_slots.proofs.PlacedTrees.{Spot, grafted}
+use Rattle.dom_slots.proofs.Far.{IsAway, IsFar, unlike, KeepsFar, AloneKept, slot-among, own_tree, far-so, alone-so, attribute-slot, changed-far, changed-still}
+use Rattle.dom_slots.proofs.Firsts.{text_true}
 use Rattle.dom_slots.proofs.Moved.{AreBoth}
-use Rattle.dom_slots.proofs.OwnSignals.{own-signalled}
+use Rattle.dom_slots.proofs.OwnSignals.{own-signalled, skipped, passes}
 use Rattle.dom_slots.proofs.Renewing.{renewed-anew}
 use Rattle.dom_slots.proofs.Rooted.{root-parent}
 use Rattle.dom_slots.proofs.Settled.{KeepsBut, KeepsAssigned, assigned-kept}
 use Rattle.dom_slots.proofs.Signalled.{fold-distinct}
 use Rattle.dom_slots.proofs.Stepping.{removal-unparented, removal-so, place-so, place-root, attribute-name}
-
--- other attributes leave it a slot, or none
-attribute-slot : (a : Word) (v : Option DomString) (n : Node) → is_slot_element (with_attribute a v n) ≡ is_slot_element n
-attribute-slot a None n = refl
-attribute-slot a (Some v) n = refl
-
--- a tree that is moved from no parent to none
-abbrev AloneKept : List NodeName → List ShadowHost → NodeName → Trees → Trees → Type 0
-AloneKept names hosts x was now = parent_of was x ≡ None → parent_of now x ≡ None → KeepsAssigned names hosts x was now
-
--- A tree that is put at one spot or at another.
-module _ (names : List NodeName) (hosts : List ShadowHost) (m : Node) (d us : Trees) (p q : Spot)
-    (apart : ((y : NodeName) → Has us y → Has (tree m d none) y → ⊥)) (both : AreBoth names hosts (grafted m d p us) (grafted m d q us)) where
-  alone-so : AloneKept names hosts m.name (grafted m d p us) (grafted m d q us)
-  alone-so e g = alone-kept names hosts m d us p q apart both e g
-
-  far-so : KeepsFar names hosts m.name (grafted m d p us) (grafted m d q us)
-  far-so = far-kept names hosts m d us p q apart both
 
 module _ (was : Trees) (f : NamedTrees) (s : SlotsNow) (b : SlotChange) (ended : IsEndOf was f s b) (stands : StandsOnce f) where
   abbrev before : ShadowTrees
@@ -79,10 +63,6 @@ module _ (was : Trees) (f : NamedTrees) (s : SlotsNow) (b : SlotChange) (ended :
       Has (subtree f.trees top) y → ⊥
   off_slots top y e off i = true≢false (sym (is_in-from y (slots_among (subtree f.trees top)) (slot-among f.trees both.once_now top y i e)) ∙ off)
 
-  -- a node stands in its own tree
-  own_tree : (x : NodeName) → Has f.trees x → Has (subtree f.trees x) x
-  own_tree x h = let w = subtree-present f.trees x h in subst (λ (ts : Trees). Has ts x) (sym w.2) (inl w.3)
-
   -- who is no slot around, and none of a tree that was left
   abbrev IsBeyond : Step → NodeName → Type 0
   IsBeyond step y =
@@ -100,9 +80,17 @@ module _ (was : Trees) (f : NamedTrees) (s : SlotsNow) (b : SlotChange) (ended :
   not_left y a None e off = absurd (none-some a e)
   not_left y a (Some k) e off = subst (λ z. is_in name_eq y (tree_slots f.trees z) ≡ false) (same_Some (name_at f.names k) a e) off
 
-  -- what is assigned to a node stays but for that of the step, where no slot is moved or it is beyond
+  -- whose name no slot has that a step moves
+  abbrev IsOther : Step → NodeName → Type 0
+  IsOther step y = (is_move step ≡ true) × ((z : NodeName) → is_in name_eq z (slots_among (subtree f.trees (At step))) ≡ true →
+      text_eq (slot_name (node_in f.trees z)) (slot_name (node_in f.trees y)) ≡ false)
+
+  -- what is assigned to a node stays but for that of the step, where no slot is moved, or it is beyond, or none of its name
+  abbrev MayStay : Step → NodeName → Type 0
+  MayStay step y = MovesNone f s.hosts step ⊎ (IsBeyond step y ⊎ IsOther step y)
+
   abbrev Stays : Step → Type 0
-  Stays step = (y : NodeName) → Has was y → Has f.trees y → (MovesNone f s.hosts step ⊎ IsBeyond step y) → KeepsBut f.names s.hosts (At step) was f.trees y
+  Stays step = (y : NodeName) → Has was y → Has f.trees y → MayStay step y → KeepsBut f.names s.hosts (At step) was f.trees y
 
   stays : Stays b.step
   stays = by b.step ended.nodes ended.step ended.begun.left
@@ -120,10 +108,11 @@ module _ (was : Trees) (f : NamedTrees) (s : SlotsNow) (b : SlotChange) (ended :
           up : NodeName
           up = name_at f.names parent
 
-          far : MovesNone f s.hosts (Place z parent next) ⊎ IsBeyond (Place z parent next) y → IsFar x was f.trees y
+          far : MayStay (Place z parent next) y → IsFar x was f.trees y
           far (inl (inl bare)) = inl bare
           far (inl (inr no_move)) = absurd (true≢false no_move.0)
-          far (inr beyond) = inr away
+          far (inr (inr other)) = inr (λ slot. inr (unlike f.trees both.once_now x y other.1 slot))
+          far (inr (inl beyond)) = inr (λ slot. inl (away slot))
             where
               same_tree : (a : NodeName) → parent_of f.trees x ≡ Some a → root_of f.trees a ≡ root_of f.trees up
               same_tree a e =
@@ -148,10 +137,11 @@ module _ (was : Trees) (f : NamedTrees) (s : SlotsNow) (b : SlotChange) (ended :
           x : NodeName
           x = name_at f.names z
 
-          far : MovesNone f s.hosts (Removal z) ⊎ IsBeyond (Removal z) y → IsFar x was f.trees y
+          far : MayStay (Removal z) y → IsFar x was f.trees y
           far (inl (inl bare)) = inl bare
           far (inl (inr no_move)) = absurd (true≢false no_move.0)
-          far (inr beyond) = inr away
+          far (inr (inr other)) = inr (λ slot. inr (unlike f.trees both.once_now x y other.1 slot))
+          far (inr (inl beyond)) = inr (λ slot. inl (away slot))
             where
               off_left : (a : NodeName) → parent_of was x ≡ Some a → is_in name_eq y (tree_slots f.trees a) ≡ false
               off_left a e =
@@ -178,11 +168,12 @@ module _ (was : Trees) (f : NamedTrees) (s : SlotsNow) (b : SlotChange) (ended :
           Kept : Trees → Type 0
           Kept ts = AreBoth f.names s.hosts was ts → Has ts y → IsApart ts → KeepsBut f.names s.hosts x was ts y
 
-          apart_so : MovesNone f s.hosts (Attribute z) ⊎ IsBeyond (Attribute z) y → IsApart f.trees
+          apart_so : MayStay (Attribute z) y → IsApart f.trees
           apart_so (inl (inl bare)) = inl
-              (false_from_ne_true _ (λ slot. subst (In x) bare (slot-among f.trees both.once_now x x (own_tree x (here_now z nodes)) slot)))
+              (false_from_ne_true _ (λ slot. subst (In x) bare (slot-among f.trees both.once_now x x (own_tree f.trees x (here_now z nodes)) slot)))
           apart_so (inl (inr no_slot)) = inl no_slot.1
-          apart_so (inr beyond) =
+          apart_so (inr (inr other)) = absurd (true≢false (sym other.0))
+          apart_so (inr (inl beyond)) =
               inr (λ slot. off_slots (root_of f.trees x) y slot
               (subst (λ k. is_in name_eq y (tree_slots f.trees (name_at f.names k)) ≡ false) (sym (same_Some z beyond.0 beyond.1))
               (beyond_parts (Attribute z) y beyond).0))
@@ -213,7 +204,7 @@ module _ (was : Trees) (f : NamedTrees) (s : SlotsNow) (b : SlotChange) (ended :
               assigned_at before y ≡ assigned_at (shadow_trees f.names ts s.hosts) y
 
           no_slot : MovesNone f s.hosts (Attribute z) → is_slot_element (node_in f.trees x) ≡ false
-          no_slot (inl bare) = false_from_ne_true _ (λ slot. subst (In x) bare (slot-among f.trees both.once_now x x (own_tree x (here_now z nodes)) slot))
+          no_slot (inl bare) = false_from_ne_true _ (λ i. subst (In x) bare (slot-among f.trees both.once_now x x (own_tree f.trees x (here_now z nodes)) i))
           no_slot (inr off) = off.1
 
   -- where there is no node around, the node of the step had no parent and has none
@@ -267,45 +258,74 @@ module _ (was : Trees) (f : NamedTrees) (s : SlotsNow) (b : SlotChange) (ended :
   pub inside-but-for : TellApart f.names → MovesNone f s.hosts b.step → IsButFor f s.hosts s.table b.slot b.step
   inside-but-for distinct moves = but-for was f s b ended stands distinct (λ y h i. stays y h i (inl moves)) (still moves)
 
-  -- the slots that are renewed with a signal
-  abbrev told_slots : ℕ → List NodeName
-  told_slots around = own ++ slots_around f s.hosts b.step (name_at f.names around)
+  module _ (around : ℕ) (e : around_of b.step b.left ≡ Some around) (name : Option DomString) (moves : MovesCalled f b.step name) where
+    abbrev called : NodeName → Bool
+    called = is_called f.trees name
 
-  moved : (around : ℕ) → around_of b.step b.left ≡ Some around → (k : ℕ) → k < length f.names → is_in name_eq (name_at f.names k) (told_slots around) ≡ false
-      → is_in name_eq (name_at f.names k) (left_slots f s.hosts b.step b.left) ≡ false →
-      assigned_at before (name_at f.names k) ≡ assigned_at after (name_at f.names k)
-  moved around e k within other off =
-      let y = name_at f.names k in
-      let parts = or_parts _ _ (sym (list_any-append (name_eq y) own (slots_around f s.hosts b.step (name_at f.names around))) ∙ other) in
-      let none = not-own was f s b ended stands y parts.0 in
-      assigned-kept f.names s.hosts was f.trees both.once_was both.once_now x y none.0 none.1
-      (stays y (here_was k within) (here_now k within) (inr (around, e, parts.1, off)))
+    -- the slots that are renewed with a signal, and those without one
+    abbrev told_slots : List NodeName
+    told_slots = own ++ filter called (slots_around f s.hosts b.step (name_at f.names around))
 
-  -- ---- the lists that are renewed
+    abbrev lefts : List NodeName
+    lefts = filter called (left_slots f s.hosts b.step b.left)
 
-  moved_table : (around : ℕ) → around_of b.step b.left ≡ Some around → (told : List NodeName) (table : SlotTable) (keys : List ℕ)
-      → AreMoved f s.hosts is_other s.table own told b.step b.left (name_at f.names around) table keys → IsTableOf f s.hosts table
-  moved_table around e told table keys m =
-      record { nodes = late.1.nodes; lists = λ k within. by k within (is_in name_eq (name_at f.names k) lefts) refl; beyond = late.1.beyond }
-    where
-      lefts : List NodeName
-      lefts = left_slots f s.hosts b.step b.left
+    moved : (k : ℕ) → k < length f.names → is_in name_eq (name_at f.names k) told_slots ≡ false → is_in name_eq (name_at f.names k) lefts ≡ false →
+        assigned_at before (name_at f.names k) ≡ assigned_at after (name_at f.names k)
+    moved k within other off =
+        let y = name_at f.names k in
+        let parts = or_parts _ _ (sym (list_any-append (name_eq y) own (filter called (slots_around f s.hosts b.step (name_at f.names around)))) ∙ other) in
+        let none = not-own was f s b ended stands y parts.0 in
+        assigned-kept f.names s.hosts was f.trees both.once_was both.once_now x y none.0 none.1
+        (stays y (here_was k within) (here_now k within) (inr (may y parts.1 off (called y) refl)))
+      where
+        may : (y : NodeName) → is_in name_eq y (filter called (slots_around f s.hosts b.step (name_at f.names around))) ≡ false →
+            is_in name_eq y lefts ≡ false → (c : Bool) → called y ≡ c → IsBeyond b.step y ⊎ IsOther b.step y
+        may y apart off true hit = inl (
+          around,
+          e,
+          unfiltered called y (slots_around f s.hosts b.step (name_at f.names around)) hit apart,
+          unfiltered called y (left_slots f s.hosts b.step b.left) hit off,
+        )
+        may y apart off false miss = inr (
+          (moves y miss).0,
+          λ z i. false_from_ne_true _ (λ same. true≢false
+              (sym ((moves y miss).1 z i) ∙ (ap (is_wanted name) (text_true (slot_name (node_in f.trees z)) (slot_name (node_in f.trees y)) same) ∙ miss))),
+        )
 
-      q : NodeName → Bool
-      q y = is_other y && not (is_in name_eq y (told_slots around))
+    -- whose assigned nodes are others, and is not of the name, is an own slot
+    other-own : (top z : NodeName) → In z (slots_among (subtree f.trees top)) → is_other z ≡ true → called z ≡ false → In z own
+    other-own top z i hit miss = elim (In-parts z told_slots lefts (In-from z (told_slots ++ lefts)
+        (others-among was f s b ended stands (told_slots ++ lefts) (λ k within off.
+        let parts = or_parts _ _ (sym (list_any-append (name_eq (name_at f.names k)) told_slots lefts) ∙ off) in moved k within parts.0 parts.1)
+        top z i hit))) [
+          | inl j ↦ elim (In-parts z own (filter called (slots_around f s.hosts b.step (name_at f.names around))) j) [
+            | inl h ↦ h
+            | inr h ↦ absurd (true≢false (sym (in_filter called z (slots_around f s.hosts b.step (name_at f.names around)) h).0 ∙ miss))
+          ]
+          | inr j ↦ absurd (true≢false (sym (in_filter called z (left_slots f s.hosts b.step b.left) j).0 ∙ miss))
+        ]
 
-      late : (others : List ℕ) × AreRenewed f s.hosts q m.0 lefts (filter q lefts) table others
-      late = m.2 q (renewed-anew m.1)
+    -- the lists that are renewed
+    moved_table : (told : List NodeName) (mid table : SlotTable) (keys : List ℕ) → AreRenewed f s.hosts is_other s.table told_slots told mid keys →
+        AreSilent f s.hosts lefts mid table → IsTableOf f s.hosts table
+    moved_table told mid table keys early silent =
+        record { nodes = late.1.nodes; lists = λ k within. by k within (is_in name_eq (name_at f.names k) lefts) refl; beyond = late.1.beyond }
+      where
+        q : NodeName → Bool
+        q y = is_other y && not (is_in name_eq y told_slots)
 
-      early : (k : ℕ) → k < length f.names → is_in name_eq (name_at f.names k) lefts ≡ false → (c : Bool) →
-          is_in name_eq (name_at f.names k) (told_slots around) ≡ c → map (name_at f.names) (list_of m.0 k) ≡ assigned_at after (name_at f.names k)
-      early k within off true i = m.1.renewed k within i
-      early k within off false i = ap (map (name_at f.names)) (m.1.kept k within i) ∙ (ended.slots.table.lists k within ∙ moved around e k within i off)
+        late : (others : List ℕ) × AreRenewed f s.hosts q mid lefts (filter q lefts) table others
+        late = silent q (renewed-anew early)
 
-      by : (k : ℕ) → k < length f.names → (c : Bool) → is_in name_eq (name_at f.names k) lefts ≡ c →
-          map (name_at f.names) (list_of table k) ≡ assigned_at after (name_at f.names k)
-      by k within true i = late.1.renewed k within i
-      by k within false i = ap (map (name_at f.names)) (late.1.kept k within i) ∙ early k within i (is_in name_eq (name_at f.names k) (told_slots around)) refl
+        first : (k : ℕ) → k < length f.names → is_in name_eq (name_at f.names k) lefts ≡ false → (c : Bool) →
+            is_in name_eq (name_at f.names k) told_slots ≡ c → map (name_at f.names) (list_of mid k) ≡ assigned_at after (name_at f.names k)
+        first k within off true i = early.renewed k within i
+        first k within off false i = ap (map (name_at f.names)) (early.kept k within i) ∙ (ended.slots.table.lists k within ∙ moved k within i off)
+
+        by : (k : ℕ) → k < length f.names → (c : Bool) → is_in name_eq (name_at f.names k) lefts ≡ c →
+            map (name_at f.names) (list_of table k) ≡ assigned_at after (name_at f.names k)
+        by k within true i = late.1.renewed k within i
+        by k within false i = ap (map (name_at f.names)) (late.1.kept k within i) ∙ first k within i (is_in name_eq (name_at f.names k) told_slots) refl
 
   module _ (table : SlotTable) (keys : List ℕ) (inside : IsInside f s.hosts is_other s.table b.step b.left b.slot table keys) where
     -- where slots may have been moved around a node
@@ -320,7 +340,7 @@ module _ (was : Trees) (f : NamedTrees) (s : SlotsNow) (b : SlotChange) (ended :
         at : (k : ℕ) → around_of b.step b.left ≡ Some k → MayMoveAt k → IsTableOf f s.hosts table
         at k e (inl r) = renewed-table was f s b ended stands own (none_moved r.0)
             (filter is_other own ++ bare_around f s.hosts b.step (name_at f.names k)) table keys r.1
-        at k e (inr m) = moved_table k e (filter is_other own ++ bare_around f s.hosts b.step (name_at f.names k)) table keys m
+        at k e (inr m) = moved_table k e m.0 m.1 _ m.2 table keys m.3 m.4
 
         by : (o : Option ℕ) → around_of b.step b.left ≡ o → IsTableOf f s.hosts table
         by None e = renewed-table was f s b ended stands own (none_around e) (filter is_other own) table keys (inside.alone e)
@@ -333,8 +353,8 @@ module _ (was : Trees) (f : NamedTrees) (s : SlotsNow) (b : SlotChange) (ended :
         told_at : Option ℕ → List NodeName
         told_at o = option_map_or (λ around. signalled_by is_other after (option_map (name_at f.names) b.slot) x (name_at f.names around) (is_move b.step)) o []
 
-        at : (k : ℕ) → MayMoveAt k → map (name_at f.names) keys ≡ told_at (Some k)
-        at k (inl r) =
+        at : (k : ℕ) → around_of b.step b.left ≡ Some k → MayMoveAt k → map (name_at f.names) keys ≡ told_at (Some k)
+        at k e (inl r) =
             let y = name_at f.names k in
             let bare = bare_around f s.hosts b.step y in
             let more : (z : NodeName) → In z (slots_around f s.hosts b.step y) → is_other z ≡ true → is_in name_eq z own ≡ true =
@@ -343,15 +363,24 @@ module _ (was : Trees) (f : NamedTrees) (s : SlotsNow) (b : SlotChange) (ended :
               | inr j ↦ others-among was f s b ended stands own (none_moved r.0) x z j
             ] in
             r.1.keys_are ∙ (fold-distinct (filter is_other own ++ bare) ∙ sym (own-signalled is_other own bare (slots_around f s.hosts b.step y) more))
-        at k (inr m) =
-            m.1.keys_are ∙ fold-distinct
-            ((filter is_other own ++ bare_around f s.hosts b.step (name_at f.names k)) ++
-            filter is_other (slots_around f s.hosts b.step (name_at f.names k)))
+        at k e (inr m) =
+            let y = name_at f.names k in
+            let bare = bare_around f s.hosts b.step y in
+            let own_told : (z : NodeName) → In z own → is_other z ≡ true → In z (filter is_other own ++ bare) =
+            λ z i hit. In-from z (filter is_other own ++ bare) (list_any-append (name_eq z) (filter is_other own) bare ∙
+            or_left (is_in name_eq z (filter is_other own)) _ (is_in-from z (filter is_other own) (passes is_other z own i hit))) in
+            m.3.keys_are
+            ∙ (skipped is_other (is_called f.trees m.0) (filter is_other own ++ bare) (slots_around f s.hosts b.step y)
+            (λ z i hit miss. elim (In-parts z (tree_slots f.trees y) (slots_among (subtree f.trees x)) i) [
+              | inl j ↦ own_told z (other-own k e m.0 m.1 (root_of f.trees y) z j hit miss) hit
+              | inr j ↦ own_told z (other-own k e m.0 m.1 x z j hit miss) hit
+            ])
+            ∙ fold-distinct ((filter is_other own ++ bare) ++ filter is_other (slots_around f s.hosts b.step y)))
 
         by : (o : Option ℕ) → around_of b.step b.left ≡ o → map (name_at f.names) keys ≡ told_at o
         by None e = (inside.alone e).keys_are ∙ ap (λ ys. fold (append_once name_eq) [] (filter is_other ys))
             (none-own was f s b ended stands (alone e).1 (alone e).2)
-        by (Some k) e = at k (inside.around k e)
+        by (Some k) e = at k e (inside.around k e)
 
     -- and nodes
     pub inside-nodes : All (λ k. k < length f.names) keys
@@ -359,7 +388,7 @@ module _ (was : Trees) (f : NamedTrees) (s : SlotsNow) (b : SlotChange) (ended :
       where
         at : (k : ℕ) → MayMoveAt k → All (λ k. k < length f.names) keys
         at k (inl r) = r.1.keys_nodes
-        at k (inr m) = m.1.keys_nodes
+        at k (inr m) = m.3.keys_nodes
 
         by : (o : Option ℕ) → around_of b.step b.left ≡ o → All (λ k. k < length f.names) keys
         by None e = (inside.alone e).keys_nodes

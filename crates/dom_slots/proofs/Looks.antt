@@ -57,21 +57,21 @@ found_so ts us same n = by (slottable_name n)
     by None = refl
     by (Some a) = same a
 
--- ---- a tree without slots, put into others
+-- ---- a tree without slots of a name, put into others
 
-module _ (m : Node) (d : Trees) (bare : slots_among (tree m d none) ≡ []) where
-  module _ (a : DomString) where
+module _ (m : Node) (d : Trees) where
+  module _ (a : DomString) (bare : first_slot a (nodes (tree m d none)) ≡ None) where
     no_own : first_slot a (m ∷ nodes d) ≡ None
-    no_own = ap (λ ns. first_slot a (m ∷ ns)) (sym (append-nil (nodes d))) ∙ no-slot_named a (nodes (tree m d none)) bare
+    no_own = ap (λ ns. first_slot a (m ∷ ns)) (sym (append-nil (nodes d))) ∙ bare
 
     grafted_first : (p : Spot) (us : Trees) → first_slot a (nodes (grafted m d p us)) ≡ first_slot a (nodes us)
     grafted_first Before us = first_append a (m ∷ nodes d) (nodes us) ∙ ap (λ o. option_or o (first_slot a (nodes us))) no_own
-    grafted_first (Below p) none = no-slot_named a (nodes (tree m d none)) bare
+    grafted_first (Below p) none = bare
     grafted_first (Below p) (tree n c r) =
         first_behind a n (nodes (grafted m d p c) ++ nodes r) (nodes c ++ nodes r)
         (first_append a (nodes (grafted m d p c)) (nodes r) ∙
         (ap (λ o. option_or o (first_slot a (nodes r))) (grafted_first p c) ∙ sym (first_append a (nodes c) (nodes r))))
-    grafted_first (Behind p) none = no-slot_named a (nodes (tree m d none)) bare
+    grafted_first (Behind p) none = bare
     grafted_first (Behind p) (tree n c r) =
         first_behind a n (nodes c ++ nodes (grafted m d p r)) (nodes c ++ nodes r)
         (first_append a (nodes c) (nodes (grafted m d p r)) ∙
@@ -102,13 +102,23 @@ module _ (m : Node) (d : Trees) (bare : slots_among (tree m d none) ≡ []) wher
         behind none same = same
         behind (tree k b t) same = refl
 
-  -- a node finds the same slot in the tree of each node, wherever this one is put
-  pub grafted-found : (us : Trees) (p q : Spot) → ((y : NodeName) → Has us y → Has (tree m d none) y → ⊥) → (r : NodeName) (n : Node) →
-      slot_in (subtree (grafted m d p us) r) n ≡ slot_in (subtree (grafted m d q us) r) n
-  grafted-found us p q apart r n = elim (has_or_not (tree m d none) r) [
-    | inl i ↦ let off : Has us r → ⊥ = λ j. apart r j i in ap (λ (ts : Trees). slot_in ts n) (tree-own m d p us r off ∙ sym (tree-own m d q us r off))
-    | inr off ↦ found_so (subtree (grafted m d p us) r) (subtree (grafted m d q us) r) (λ a. subtree_first a p us r off ∙ sym (subtree_first a q us r off)) n
-  ]
+    -- the tree of each node has the same first slot of the name, wherever this one is put
+    pub grafted-first : (us : Trees) (p q : Spot) → ((y : NodeName) → Has us y → Has (tree m d none) y → ⊥) → (r : NodeName) →
+        first_slot a (nodes (subtree (grafted m d p us) r)) ≡ first_slot a (nodes (subtree (grafted m d q us) r))
+    grafted-first us p q apart r = elim (has_or_not (tree m d none) r) [
+      | inl i ↦
+          let off : Has us r → ⊥ = λ j. apart r j i in
+          ap (λ (ts : Trees). first_slot a (nodes ts)) (tree-own m d p us r off ∙ sym (tree-own m d q us r off))
+      | inr off ↦ subtree_first p us r off ∙ sym (subtree_first q us r off)
+    ]
+
+  -- so a node finds the same slot there, where this tree has no slots
+  module _ (none_of : slots_among (tree m d none) ≡ []) where
+    pub grafted-found : (us : Trees) (p q : Spot) → ((y : NodeName) → Has us y → Has (tree m d none) y → ⊥) → (r : NodeName) (n : Node) →
+        slot_in (subtree (grafted m d p us) r) n ≡ slot_in (subtree (grafted m d q us) r) n
+    grafted-found us p q apart r n =
+        found_so (subtree (grafted m d p us) r) (subtree (grafted m d q us) r)
+        (λ a. grafted-first a (no-slot_named a (nodes (tree m d none)) none_of) us p q apart r) n
 
 -- ---- a node that is no slot, with other attributes
 

@@ -6,7 +6,7 @@ use Rattle.std.proofs.lemmas.List.Folds.{list_any-append}
 use Rattle.std.proofs.lemmas.List.Sums.{fold-append}
 use Rattle.dom_base.specs.declared.NodeName.{NodeName}
 use Rattle.dom_model.specs.Names.{name_eq, is_in, append_once, distinct}
-use Rattle.dom_laws.proofs.Lists.{In, is_in-from, In-from, name_eq-from}
+use Rattle.dom_laws.proofs.Lists.{In, is_in-from, In-from, name_eq-from, filter-yes, filter-no}
 use Rattle.dom_slots.proofs.Signalled.{fold-distinct}
 
 -- names that are there stay there
@@ -42,6 +42,34 @@ pub again_added : (xs ys : List NodeName) → ((y : NodeName) → In y ys → is
     fold (append_once name_eq) [] (xs ++ ys) ≡ fold (append_once name_eq) [] xs
 again_added xs ys all = fold-append (append_once name_eq) [] xs ys ∙ none_added (fold (append_once name_eq) [] xs) ys
     (λ y i. added_in y [] xs (In-from y xs (all y i)))
+
+-- those that a test leaves out add nothing where they are there
+skipping : (p q : NodeName → Bool) (done xs : List NodeName) →
+    ((y : NodeName) → In y xs → p y ≡ true → q y ≡ false → is_in name_eq y done ≡ true)
+    → fold (append_once name_eq) done (filter p (filter q xs)) ≡ fold (append_once name_eq) done (filter p xs)
+skipping p q done [] there = refl
+skipping p q done (x ∷ xs) there =
+    by (q x) refl (p x) refl (skipping p q (append_once name_eq done x) xs (λ y i hit miss. still_in y done (x ∷ []) (there y (inr i) hit miss)))
+    (skipping p q done xs (λ y i. there y (inr i)))
+  where
+    by : (b : Bool) → q x ≡ b → (d : Bool) → p x ≡ d →
+        fold (append_once name_eq) (append_once name_eq done x) (filter p (filter q xs)) ≡ fold (append_once name_eq) (append_once name_eq done x) (filter p xs)
+        → fold (append_once name_eq) done (filter p (filter q xs)) ≡ fold (append_once name_eq) done (filter p xs)
+        → fold (append_once name_eq) done (filter p (if b then x ∷ filter q xs else filter q xs)) ≡ fold (append_once name_eq) done
+        (if d then x ∷ filter p xs else filter p xs)
+    by true i true e more rest = ap (fold (append_once name_eq) done) (filter-yes p x (filter q xs) e) ∙ more
+    by true i false e more rest = ap (fold (append_once name_eq) done) (filter-no p x (filter q xs) e) ∙ rest
+    by false i true e more rest = rest ∙ ap (λ (b : Bool). fold (append_once name_eq) (if b then done else done ++ x ∷ []) (filter p xs))
+        (sym (there x (inl refl) e i))
+    by false i false e more rest = rest
+
+-- so behind names where they are
+pub skipped : (p q : NodeName → Bool) (told xs : List NodeName) → ((y : NodeName) → In y xs → p y ≡ true → q y ≡ false → In y told) →
+    fold (append_once name_eq) [] (told ++ filter p (filter q xs)) ≡ fold (append_once name_eq) [] (told ++ filter p xs)
+skipped p q told xs there =
+    fold-append (append_once name_eq) [] told (filter p (filter q xs))
+    ∙ (skipping p q (fold (append_once name_eq) [] told) xs (λ y i hit miss. added_in y [] told (there y i hit miss))
+    ∙ sym (fold-append (append_once name_eq) [] told (filter p xs)))
 
 -- who passes a test is one of these
 pub passing : (p : NodeName → Bool) (y : NodeName) (xs : List NodeName) → In y (filter p xs) → In y xs × (p y ≡ true)

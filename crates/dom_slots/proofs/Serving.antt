@@ -1,5 +1,6 @@
 -- Slots are served in turn: the first of each name gets what waits under it, and the others nothing.
-use Rattle.std.proofs.Common.{◌≡◌, inl, ℕ, Bool, true, false, ◌&&◌, ◌||◌, List, [], ◌∷◌, ◌++◌, Some, map, filter, refl, sym, ap, subst, ◌∙◌, append_assoc}
+use Rattle.std.proofs.Common.{◌≡◌, inl, ℕ, Bool, true, false, ◌&&◌, ◌||◌, List, [], ◌∷◌, ◌++◌, Option, Some, map, filter, refl, sym, ap, subst, ◌∙◌}
+use Rattle.std.proofs.Common.{append_assoc, true≢false}
 use Rattle.std.specs.Prelude.{find, if◌then◌else◌, option_to_list}
 use Rattle.std.specs.Option.{option_map, option_map_or, option_and_then}
 use Rattle.std.proofs.lemmas.List.{append-nil}
@@ -15,21 +16,13 @@ use Rattle.dom_laws.proofs.Counts.{Once, once_subtree}
 use Rattle.dom_laws.proofs.Lists.{In, Single, Single-apart, In-right, filter-same, filter-none, name_eq-from}
 use Rattle.dom_laws.proofs.Shapes.{Has}
 use Rattle.dom_slots.specs.Hosts.{ShadowHost, host_named, root_named}
+use Rattle.dom_slots.specs.Insides.{is_called}
 use Rattle.dom_slots.specs.Shadows.{ShadowTrees, shadows, is_assigned_at, is_first_at, assigned_at, assigned_under, looks_for}
-use Rattle.dom_slots.specs.Waiting.{Serves}
+use Rattle.dom_slots.specs.Waiting.{Serves, is_wanted}
 use Rattle.dom_slots.proofs.Attaching.{in_filter}
-use Rattle.dom_slots.proofs.Firsts.{assigned-first, text_same}
+use Rattle.dom_slots.proofs.Firsts.{assigned-first, text_same, text_true}
 use Rattle.dom_slots.proofs.NamesOfNodes.{named-filter, named-first}
-
--- two tests, one after the other
-filter-twice : (p q : NodeName → Bool) (xs : List NodeName) → filter (λ y. p y && q y) xs ≡ filter q (filter p xs)
-filter-twice p q [] = refl
-filter-twice p q (x ∷ xs) = by (p x) (q x) (filter-twice p q xs)
-  where
-    by : (a b : Bool) → filter (λ y. p y && q y) xs ≡ filter q (filter p xs)
-        → (if a && q x then x ∷ filter (λ y. p y && q y) xs else filter (λ y. p y && q y) xs) ≡ filter q (if a then x ∷ filter p xs else filter p xs)
-    by true b rest = ap (λ ys. if q x then x ∷ ys else ys) rest
-    by false b rest = rest
+use Rattle.dom_slots.proofs.Walks.{filter-twice}
 
 -- of names that stand once those that pass stand once
 single-filter : (p : NodeName → Bool) (xs : List NodeName) → Single xs → Single (filter p xs)
@@ -51,13 +44,17 @@ left-one (x ∷ xs) y waiting = refl
 
 module _ (f : NamedTrees) (once : Once f.trees) (hosts : List ShadowHost) (r h : NodeName) (stands : Has f.trees h)
     (hosted : host_named f.names hosts r ≡ Some h) (shadow : root_named f.names hosts h ≡ Some r)
-    (roots : (y : NodeName) → In y (slots_among (subtree f.trees r)) → root_of f.trees y ≡ r) (waiting : List ℕ → List ℕ)
-    (waits : (name : List ℕ) → map (name_at f.names) (waiting name) ≡ filter (λ c. looks_for name (node_in f.trees c)) (children_of f.trees h)) where
+    (roots : (y : NodeName) → In y (slots_among (subtree f.trees r)) → root_of f.trees y ≡ r) (waiting : List ℕ → List ℕ) (wanted : Option DomString)
+    (waits : (name : List ℕ) → is_wanted wanted name ≡ true →
+    map (name_at f.names) (waiting name) ≡ filter (λ c. looks_for name (node_in f.trees c)) (children_of f.trees h)) where
   abbrev s : ShadowTrees
   s = shadows f hosts
 
+  abbrev slots : List NodeName
+  slots = slots_among (subtree f.trees r)
+
   abbrev all : List NodeName
-  all = slots_among (subtree f.trees r)
+  all = filter (is_called f.trees wanted) slots
 
   abbrev own : NodeName → DomString
   own y = slot_name (node_in f.trees y)
@@ -66,30 +63,43 @@ module _ (f : NamedTrees) (once : Once f.trees) (hosts : List ShadowHost) (r h :
   named name z = text_eq (own z) name
 
   single : Single all
-  single = subst Single (sym (named-filter f.trees once is_slot_element r))
+  single = single-filter (is_called f.trees wanted) slots (subst Single (sym (named-filter f.trees once is_slot_element r))
       (single-filter (λ y. is_slot_element (node_in f.trees y)) (inclusive_descendants f.trees r)
-      (Single-names (subtree f.trees r) (once_subtree f.trees r once)))
+      (Single-names (subtree f.trees r) (once_subtree f.trees r once))))
+
+  -- the slots of a name that is wanted are among all
+  called-named : (name : DomString) → is_wanted wanted name ≡ true → filter (named name) slots ≡ filter (named name) all
+  called-named name w =
+      filter-same (named name) (λ z. is_called f.trees wanted z && named name z) slots (λ z i. by z (named name z) refl (is_called f.trees wanted z) refl)
+      ∙ filter-twice (is_called f.trees wanted) (named name) slots
+    where
+      by : (z : NodeName) (b : Bool) → named name z ≡ b → (d : Bool) → is_called f.trees wanted z ≡ d →
+          named name z ≡ (is_called f.trees wanted z && named name z)
+      by z b e true g = sym (ap (λ a. a && named name z) g)
+      by z false e false g = e ∙ sym (ap (λ a. a && named name z) g)
+      by z true e false g = absurd (true≢false (sym w ∙ (ap (is_wanted wanted) (sym (text_true (own z) name e)) ∙ g)))
 
   -- the first slot of a name
-  first-named : (name : DomString) → option_map (λ (n : Node). n.name) (find (has_slot_name name) (nodes (subtree f.trees r))) ≡ first_of
-      (filter (named name) all)
-  first-named name =
+  first-named : (name : DomString) → is_wanted wanted name ≡ true →
+      option_map (λ (n : Node). n.name) (find (has_slot_name name) (nodes (subtree f.trees r))) ≡ first_of (filter (named name) all)
+  first-named name w =
       named-first f.trees once (has_slot_name name) r
       ∙ ap first_of (filter-twice (λ y. is_slot_element (node_in f.trees y)) (named name) (inclusive_descendants f.trees r)
-      ∙ ap (filter (named name)) (sym (named-filter f.trees once is_slot_element r)))
+      ∙ (ap (filter (named name)) (sym (named-filter f.trees once is_slot_element r)) ∙ called-named name w))
 
-  is-first : (y : NodeName) → is_first_at s h y ≡ is_in name_eq y (option_to_list (first_of (filter (named (own y)) all)))
-  is-first y =
+  is-first : (y : NodeName) → is_called f.trees wanted y ≡ true →
+      is_first_at s h y ≡ is_in name_eq y (option_to_list (first_of (filter (named (own y)) all)))
+  is-first y w =
       ap (λ o. is_in name_eq y (option_to_list
       (option_and_then (λ t. option_map (λ (n : Node). n.name) (find (has_slot_name (own y)) (nodes (subtree f.trees t)))) o))) shadow
-      ∙ ap (λ o. is_in name_eq y (option_to_list o)) (first-named (own y))
+      ∙ ap (λ o. is_in name_eq y (option_to_list o)) (first-named (own y) w)
 
   module _ (done : List NodeName) (y : NodeName) (rest : List NodeName) (is : done ++ y ∷ rest ≡ all) where
-    among : In y all
-    among = subst (In y) is (In-right y done (y ∷ rest) (inl refl))
+    among : (is_called f.trees wanted y ≡ true) × In y slots
+    among = in_filter (is_called f.trees wanted) y slots (subst (In y) is (In-right y done (y ∷ rest) (inl refl)))
 
     assigned-is : assigned_at s y ≡ filter (is_assigned_at s y) (children_of f.trees h)
-    assigned-is = ap (λ o. option_map_or (assigned_under s y) o []) (ap (host_named f.names hosts) (roots y among) ∙ hosted)
+    assigned-is = ap (λ o. option_map_or (assigned_under s y) o []) (ap (host_named f.names hosts) (roots y among.1) ∙ hosted)
 
     found : (xs : List NodeName) → filter (named (own y)) done ≡ xs → filter (named (own y)) all ≡ xs ++ y ∷ filter (named (own y)) rest
     found xs e =
@@ -107,15 +117,15 @@ module _ (f : NamedTrees) (once : Once f.trees) (hosts : List ShadowHost) (r h :
     served : (xs : List NodeName) → filter (named (own y)) done ≡ xs → map (name_at f.names) (left xs (waiting (own y))) ≡ assigned_at s y
     served [] e =
         let first : is_first_at s h y ≡ true =
-        is-first y ∙ (ap (λ ys. is_in name_eq y (option_to_list (first_of ys))) (found [] e) ∙ ap (λ b. b || false) (name_eq-from y y refl)) in
-        waits (own y)
+        is-first y among.0 ∙ (ap (λ ys. is_in name_eq y (option_to_list (first_of ys))) (found [] e) ∙ ap (λ b. b || false) (name_eq-from y y refl)) in
+        waits (own y) among.0
         ∙ (filter-same (λ c. looks_for (own y) (node_in f.trees c)) (is_assigned_at s y) (children_of f.trees h) (λ c i. sym (tested true first c i))
         ∙ sym assigned-is)
     served (d ∷ ds) e =
         let before : In d done = (in_filter (named (own y)) d done (subst (In d) (sym e) (inl refl))).1 in
         let other : y ≡ d → ⊥ = λ same. Single-apart d done (y ∷ rest) (subst Single (sym is) single) before (inl (sym same)) in
         let first : is_first_at s h y ≡ false =
-        is-first y ∙ (ap (λ ys. is_in name_eq y (option_to_list (first_of ys))) (found (d ∷ ds) e) ∙ ap (λ b. b || false) (name_eq-other y d other)) in
+        is-first y among.0 ∙ (ap (λ ys. is_in name_eq y (option_to_list (first_of ys))) (found (d ∷ ds) e) ∙ ap (λ b. b || false) (name_eq-other y d other)) in
         sym (assigned-is ∙ filter-none (is_assigned_at s y) (children_of f.trees h) (λ c i. tested false first c i))
 
   -- then nobody waits under its name

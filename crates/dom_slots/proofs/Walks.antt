@@ -1,5 +1,7 @@
 -- A walk through the tree of a node, from its top on.
-use Rattle.std.proofs.Common.{◌≡◌, ℕ, ◌<◌, Bool, true, false, List, [], ◌∷◌, ◌++◌, All, map, length, Option, Some, filter, sym, ap, subst, ◌∙◌, append_assoc}
+use Rattle.std.proofs.Common.{◌≡◌, ℕ, ◌<◌, Bool, true, false, ◌&&◌, List, [], ◌∷◌, ◌++◌, All, map, length, Option, Some, filter, refl, sym}
+use Rattle.std.proofs.Common.{ap, subst, ◌∙◌, append_assoc}
+use Rattle.std.specs.Prelude.{if◌then◌else◌}
 use Rattle.std.proofs.lemmas.List.{map-append}
 use Rattle.std.proofs.lemmas.List.Elements.{All-push}
 use Rattle.std.specs.Option.{option_map, ForSome}
@@ -44,6 +46,16 @@ module _ (f : NamedTrees) (once : StandOnce f) (only : StandAlone f) where
   walks-on {top} {k} {at} {next} is stands found node =
       let step = following_step f once only top k next (stands k is) found node in
       record { left = step.0; stands = step.1; less = length-behind f top k at next is step.0 }
+
+-- two tests, one after the other
+pub filter-twice : (p q : NodeName → Bool) (xs : List NodeName) → filter (λ y. p y && q y) xs ≡ filter q (filter p xs)
+filter-twice p q [] = refl
+filter-twice p q (x ∷ xs) = by (p x) (q x) (filter-twice p q xs)
+  where
+    by : (a b : Bool) → filter (λ y. p y && q y) xs ≡ filter q (filter p xs)
+        → (if a && q x then x ∷ filter (λ y. p y && q y) xs else filter (λ y. p y && q y) xs) ≡ filter q (if a then x ∷ filter p xs else filter p xs)
+    by true b rest = ap (λ ys. if q x then x ∷ ys else ys) rest
+    by false b rest = rest
 
 -- Keys of nodes are collected along a list of names: those found so far and those that are left make the whole.
 module _ (names : List NodeName) (p : NodeName → Bool) (found : List ℕ) (k : ℕ) (node : k < length names) (xs all : List NodeName)

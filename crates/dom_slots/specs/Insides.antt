@@ -3,8 +3,8 @@ use Rattle.std.specs.Prelude.{◌≡◌, ◌⊎◌, ℕ, ◌<◌, Bool, true, fa
 use Rattle.std.specs.Prelude.{Option, None, Some, option_map, option_to_list, if◌then◌else◌}
 use Rattle.std.specs.Option.{option_map_or}
 use Rattle.dom_base.specs.declared.NodeName.{NodeName}
-use Rattle.dom_model.specs.Names.{name_eq, is_in}
-use Rattle.dom_model.specs.Slots.{is_slot_element, slots_among}
+use Rattle.dom_model.specs.Names.{DomString, text_eq, name_eq, is_in}
+use Rattle.dom_model.specs.Slots.{is_slot_element, slot_name, slots_among}
 use Rattle.dom_model.specs.Tree.{Trees, node_in, root_of, subtree}
 use Rattle.dom_tree.specs.Forest.{NamedTrees, name_at}
 use Rattle.dom_slots.specs.Hosts.{ShadowHost}
@@ -13,6 +13,19 @@ use Rattle.dom_slots.specs.Shadows.{shadows, slot_at, is_bare_at, assigned_at}
 use Rattle.dom_slots.specs.Steps.{step_node, is_move, around_of, left_behind}
 use Rattle.dom_slots.specs.Tables.{SlotTable, list_of}
 use Rattle.dom_slots.specs.declared.step.Step.{Step}
+
+-- whether a slot is of a name, if there is one
+abbrev pub is_called : Trees → Option DomString → NodeName → Bool
+is_called ts name y = option_map_or (λ a. text_eq (slot_name (node_in ts y)) a) name true
+
+-- whether a node is a slot of a name, if there is one
+abbrev pub is_slot_called : Trees → Option DomString → NodeName → Bool
+is_slot_called ts name y = is_slot_element (node_in ts y) && is_called ts name y
+
+-- where there is a name, a step moves slots, and of that name alone
+abbrev pub MovesCalled : NamedTrees → Step → Option DomString → Type 0
+MovesCalled f step name = (y : NodeName) → is_called f.trees name y ≡ false → (is_move step ≡ true) × ((z : NodeName) →
+    is_in name_eq z (slots_among (subtree f.trees (name_at f.names (step_node step)))) ≡ true → is_called f.trees name z ≡ true)
 
 -- the slots of the tree in which a node stands
 abbrev pub tree_slots : Trees → NodeName → List NodeName
@@ -51,11 +64,14 @@ module _ (f : NamedTrees) (hosts : List ShadowHost) where
   AreSilent slots old table = (q : NodeName → Bool) → AreRenewed f hosts q old [] [] old [] → (keys : List ℕ) ×
       AreRenewed f hosts q old slots (filter q slots) table keys
 
-  -- the lists of the slots around were renewed, and behind them without a signal those of the tree that was left
+  -- the lists of the slots around were renewed, and behind them without a signal those of the tree that was left; those of a name
+  -- alone, where slots of that name alone were moved
   abbrev pub AreMoved : (NodeName → Bool) → SlotTable → List NodeName → List NodeName → Step → Option ℕ → NodeName → SlotTable → List ℕ → Type 0
   AreMoved p old done told step left around table keys =
-      (mid : SlotTable) × AreRenewed f hosts p old (done ++ slots_around step around) (told ++ filter p (slots_around step around)) mid keys ×
-      AreSilent (left_slots step left) mid table
+      (name : Option DomString) × MovesCalled f step name × (mid : SlotTable) ×
+      AreRenewed f hosts p old (done ++ filter (is_called f.trees name) (slots_around step around))
+      (told ++ filter p (filter (is_called f.trees name) (slots_around step around))) mid keys ×
+      AreSilent (filter (is_called f.trees name) (left_slots step left)) mid table
 
   -- so it is, or no slot was moved and nothing more was renewed
   abbrev pub MayMove : (NodeName → Bool) → SlotTable → List NodeName → List NodeName → Step → Option ℕ → NodeName → SlotTable → List ℕ → Type 0

@@ -1,5 +1,5 @@
 -- Children of a host that wait for slots, and slots that are served in turn.
-use Rattle.std.specs.Prelude.{◌≡◌, ℕ, nat_eq, List, [], ◌∷◌, map, if◌then◌else◌}
+use Rattle.std.specs.Prelude.{◌≡◌, ℕ, nat_eq, Bool, true, List, [], ◌∷◌, map, Option, if◌then◌else◌}
 use Rattle.std.specs.Cmp.Lexicographic.{pointwise}
 use Rattle.std.specs.HashMap.{get_by}
 use Rattle.std.specs.Option.{option_map_or}
@@ -14,6 +14,10 @@ use Rattle.dom_slots.specs.declared.waiting.Waiting.{Waiting}
 -- those that wait under a name, in their order
 abbrev pub waiting_under : Waiting → List ℕ → List ℕ
 waiting_under w name = option_map_or (λ v. v.items) (get_by (λ k. pointwise nat_eq name k.now) w.lists) []
+
+-- whether a name is the one that is wanted, if one is
+abbrev pub is_wanted : Option (List ℕ) → List ℕ → Bool
+is_wanted wanted name = option_map_or (λ a. text_eq name a) wanted true
 
 -- Slots are served in turn, each with those that wait under its name; then nobody waits there. So each gets what is assigned to
 -- it.

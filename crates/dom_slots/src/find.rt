@@ -6,6 +6,7 @@ ghost use Rattle.dom_base.specs.declared.NodeName.{NodeName as Name};
 ghost use Rattle.dom_model.specs.Names.{text_eq, name_eq, first_of, items_after};
 ghost use Rattle.dom_model.specs.Tree.{Node, node_in, nodes, subtree, parent_of, siblings};
 ghost use Rattle.dom_tree.specs.Forest.{IsNode, name_of};
+ghost use Rattle.dom_slots.specs.Insides.{is_called, is_slot_called};
 ghost use Rattle.dom_slots.specs.Shadows.{looks_for};
 
 use dom_attributes::is_same_string;
@@ -32,17 +33,23 @@ pub(crate) fn slot_named(forest: &Forest, top: Key, name: &[u16]) -> Option<Key>
     None
 }
 
-/// The elements named `slot` in the tree of `top`, in tree order.
-pub(crate) fn slots_below(alloc: Global, forest: &Forest, top: Key) -> Result<Vec<Key>, AllocError>
+/// The elements named `slot` in the tree of `top`, in tree order; of a name alone, if one is given.
+pub(crate) fn slots_below(
+    alloc: Global,
+    forest: &Forest,
+    top: Key,
+    name: Option<&[u16]>,
+) -> Result<Vec<Key>, AllocError>
     requires { IsNode forest.now top }
-    ensures value { IfOk result (λ keys. map (name_of forest.now) keys.items ≡ slots_among (subtree forest.now.trees (name_of forest.now top))) }
+    ensures value { IfOk result (λ keys. map (name_of forest.now) keys.items ≡ filter (is_called forest.now.trees (option_map (λ a. a.now) name.entry))
+        (slots_among (subtree forest.now.trees (name_of forest.now top)))) }
     ensures nodes { IfOk result (λ keys. All (IsNode forest.now) keys.items) }
 {
     forest.law_nodes_stand_once();
     let mut keys = Vec::new(alloc);
     let mut at = Some(top);
     while let Some(key) = at {
-        if is_slot(forest, key) {
+        if is_slot_called(forest, key, name) {
             keys.push(key)?;
         }
         at = forest.following(key, top);
@@ -56,6 +63,25 @@ pub(crate) fn is_slot(forest: &Forest, key: Key) -> bool
     ensures { result ≡ is_slot_element (node_in forest.now.trees (name_of forest.now key)) }
 {
     matches!(forest.kind(key), Kind::Element) && is_slot_word(forest.element(key))
+}
+
+/// Whether a node is a slot, and of a name if one is given.
+fn is_slot_called(forest: &Forest, key: Key, name: Option<&[u16]>) -> bool
+    requires { IsNode forest.now key }
+    ensures { result ≡ is_slot_called forest.now.trees (option_map (λ a. a.now) name.entry) (name_of forest.now key) }
+{
+    is_slot(forest, key) && is_called(forest, key, name)
+}
+
+/// Whether a slot is of a name, if one is given.
+fn is_called(forest: &Forest, key: Key, name: Option<&[u16]>) -> bool
+    requires { IsNode forest.now key }
+    ensures { result ≡ is_called forest.now.trees (option_map (λ a. a.now) name.entry) (name_of forest.now key) }
+{
+    match name {
+        Some(name) => is_same_string(slot_name(forest, key), name),
+        None => true,
+    }
 }
 
 /// Whether a node is a slot of this name.

@@ -1,12 +1,13 @@
 //! The children of a host by the names for which they look.
-ghost use Rattle.std.specs.Prelude.{◌≡◌, ℕ, List, [], ◌∷◌, ◌++◌, if◌then◌else◌, filter, map, All, IfOk, OnOk};
+ghost use Rattle.std.specs.Prelude.{◌≡◌, ℕ, List, [], ◌∷◌, ◌++◌, true, if◌then◌else◌, filter, map, All, IfOk, OnOk};
+ghost use Rattle.std.specs.Option.{option_map, option_map_or};
 ghost use Rattle.dom_model.specs.Names.{text_eq};
 ghost use Rattle.dom_model.specs.Tree.{node_in, children_of};
 ghost use Rattle.dom_tree.specs.Forest.{IsNode, name_of};
 ghost use Rattle.dom_slots.specs.Shadows.{looks_for};
-ghost use Rattle.dom_slots.specs.Waiting.{waiting_under};
+ghost use Rattle.dom_slots.specs.Waiting.{waiting_under, is_wanted};
 
-use crate::find::slottable_name;
+use crate::find::{looks_for, slottable_name};
 use dom_tree::Forest;
 use node_arena::Key;
 use std::alloc::{AllocError, Global};
@@ -19,14 +20,16 @@ pub(crate) struct Waiting<'a> {
     alloc: Global,
 }
 
-/// The children of a host that are slottables. Each is looked at once.
+/// The children of a host that are slottables; those that look for a name alone, if one is given. Each is looked at once.
 pub(crate) fn waiting_below<'a>(
     alloc: Global,
     forest: &'a Forest,
     host: Key,
+    wanted: Option<&[u16]>,
 ) -> Result<Waiting<'a>, AllocError>
     requires { IsNode forest.now host }
-    ensures names { IfOk result (λ w. (name : List ℕ) → map (name_of forest.now) (waiting_under w name) ≡
+    ensures names { IfOk result (λ w. (name : List ℕ) → is_wanted (option_map (λ a. a.now) wanted.entry) name ≡ true →
+        map (name_of forest.now) (waiting_under w name) ≡
         filter (λ y. looks_for name (node_in forest.now.trees y)) (children_of forest.now.trees (name_of forest.now host))) }
     ensures nodes { IfOk result (λ w. (name : List ℕ) → All (IsNode forest.now) (waiting_under w name)) }
 {
@@ -34,10 +37,23 @@ pub(crate) fn waiting_below<'a>(
     let mut waiting = Waiting::new(alloc);
     let mut at = forest.first(host);
     while let Some(child) = at {
-        waiting.add(forest, child)?;
+        if is_wanted(forest, child, wanted) {
+            waiting.add(forest, child)?;
+        }
         at = forest.next(child);
     }
     Ok(waiting)
+}
+
+/// Whether a node looks for the name that is wanted, if one is.
+fn is_wanted(forest: &Forest, child: Key, wanted: Option<&[u16]>) -> bool
+    requires { IsNode forest.now child }
+    ensures { result ≡ option_map_or (λ a. looks_for a (node_in forest.now.trees (name_of forest.now child))) (option_map (λ a. a.now) wanted.entry) true }
+{
+    match wanted {
+        Some(name) => looks_for(forest, child, name),
+        None => true,
+    }
 }
 
 impl<'a> Waiting<'a> {

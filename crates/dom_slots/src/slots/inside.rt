@@ -1,12 +1,13 @@
 //! Steps that are made inside of shadow trees.
-ghost use Rattle.std.specs.Prelude.{◌≡◌, ◌⊎◌, ◌++◌, [], false, Bool as Truth, List, map, filter, All, OnOk, IfOk};
-ghost use Rattle.std.specs.Option.{ForSome};
+ghost use Rattle.std.specs.Prelude.{◌≡◌, ◌⊎◌, ◌++◌, [], true, false, Bool as Truth, List, map, filter, All, OnOk, IfOk};
+ghost use Rattle.std.specs.Option.{option_map, ForSome};
 ghost use Rattle.dom_base.specs.declared.NodeName.{NodeName as Name};
+ghost use Rattle.dom_model.specs.Names.{name_eq, is_in};
 ghost use Rattle.dom_model.specs.Slots.{is_slot_element, slots_among};
 ghost use Rattle.dom_model.specs.Tree.{node_in, subtree};
 ghost use Rattle.dom_tree.specs.Forest.{IsNode, name_of};
 ghost use Rattle.dom_slots.specs.Hosts.{HostsAreNodes};
-ghost use Rattle.dom_slots.specs.Insides.{tree_slots, bare_around, left_slots, AreRight, AreSilent, MovesNone, MayMove, IsInside};
+ghost use Rattle.dom_slots.specs.Insides.{is_called, tree_slots, bare_around, left_slots, AreRight, AreSilent, MovesNone, MovesCalled, MayMove, IsInside};
 ghost use Rattle.dom_slots.specs.Renewals.{AreRenewed, Renews, IsButFor};
 ghost use Rattle.dom_slots.specs.Shadows.{shadows, is_bare_at};
 ghost use Rattle.dom_slots.specs.Steps.{StepHasNodes, step_node, is_move};
@@ -14,7 +15,7 @@ ghost use Rattle.dom_slots.specs.Tables.{SlotTable};
 
 use crate::Slots;
 use crate::changes::add_once;
-use crate::find::{is_slot, slots_below};
+use crate::find::{is_slot, slot_name, slots_below};
 use crate::step::{SlotChange, Step};
 use crate::waiting::waiting_below;
 use dom_tree::Forest;
@@ -137,7 +138,7 @@ impl Slots {
     }
 
     /// Renews the lists of the slots in the tree around and of those that a step moves, and then those of the tree that a
-    /// placed node left, which are not signalled.
+    /// placed node left, which are not signalled. Where one slot alone is moved, those of other names stay as they are.
     fn renew_moved(
         &mut self,
         forest: &Forest,
@@ -158,9 +159,10 @@ impl Slots {
             OnOk result (MayMove forest.now self.old.hosts p old done told change.step change.left (name_of forest.now around) self.new.table
             signals.new.items) }
     {
-        self.renew_tree(forest, around, signals)?;
+        let name = moved_name(forest, change.step, moved);
+        self.renew_tree(forest, around, name, signals)?;
         self.renew_below(forest, change.step.node(), around, moved, signals)?;
-        self.renew_left(forest, change, around)
+        self.renew_left(forest, change, around, name)
     }
 
     /// Renews the lists of the slots in the tree of a node, unless that stands in the tree of another one, whose slots are done.
@@ -178,11 +180,12 @@ impl Slots {
         requires moved { map (name_of forest.now) moved.now ≡ slots_among (subtree forest.now.trees (name_of forest.now node)) }
         requires moved_nodes { All (IsNode forest.now) moved.now }
         ensures hosts { OnOk result (self.new.hosts ≡ self.old.hosts) }
-        ensures renewed { (p : Name → Truth) (old : SlotTable) (done told : List Name) →
-            AreRenewed forest.now self.old.hosts p old (done ++ tree_slots forest.now.trees (name_of forest.now around)) told self.old.table
-            signals.old.items →
+        ensures renewed { (p q : Name → Truth) (old : SlotTable) (done told : List Name) →
+            ((y : Name) → is_in name_eq y (map (name_of forest.now) moved.now) ≡ true → q y ≡ true) →
+            AreRenewed forest.now self.old.hosts p old (done ++ filter q (tree_slots forest.now.trees (name_of forest.now around))) told
+            self.old.table signals.old.items →
             OnOk result (AreRenewed forest.now self.old.hosts p old
-            ((done ++ tree_slots forest.now.trees (name_of forest.now around)) ++ map (name_of forest.now) moved.now)
+            ((done ++ filter q (tree_slots forest.now.trees (name_of forest.now around))) ++ map (name_of forest.now) moved.now)
             (told ++ filter p (map (name_of forest.now) moved.now)) self.new.table signals.new.items) }
     {
         forest.law_nodes_stand_once();
@@ -204,47 +207,53 @@ impl Slots {
         if !change.step.is_move() && !is_slot(forest, change.step.node()) {
             return Ok(Vec::new(self.alloc));
         }
-        slots_below(self.alloc, forest, change.step.node())
+        slots_below(self.alloc, forest, change.step.node(), None)
     }
 
-    /// Renews the lists of the slots in the tree in which a node stands, and adds those to the signals whose lists were others.
+    /// Renews the lists of the slots in the tree in which a node stands, of a name alone if one is given, and adds those to the
+    /// signals whose lists were others.
     fn renew_tree(
         &mut self,
         forest: &Forest,
         node: Key,
+        name: Option<&[u16]>,
         signals: &mut SmallVec<Key, 2>,
     ) -> Result<(), AllocError>
         requires hosts { HostsAreNodes forest.now.names self.old.hosts }
         requires node { IsNode forest.now node }
         ensures hosts { OnOk result (self.new.hosts ≡ self.old.hosts) }
-        ensures renewed { OnOk result (Renews forest.now self.old.hosts (tree_slots forest.now.trees (name_of forest.now node)) self.old.table
-            signals.old.items self.new.table signals.new.items) }
+        ensures renewed { OnOk result (Renews forest.now self.old.hosts (filter (is_called forest.now.trees (option_map (λ a. a.now) name.entry))
+            (tree_slots forest.now.trees (name_of forest.now node))) self.old.table signals.old.items self.new.table signals.new.items) }
     {
         forest.law_nodes_stand_once();
         let root = forest.root(node);
-        let slots = slots_below(self.alloc, forest, root)?;
+        let slots = slots_below(self.alloc, forest, root, name)?;
         match self.host_of(root) {
             Some(host) if self.root_of(host) == Some(root) => {
-                let waiting = waiting_below(self.alloc, forest, host)?;
+                let waiting = waiting_below(self.alloc, forest, host, name)?;
                 self.renew_waiting(forest, &slots, waiting, signals)
             }
             _ => self.renew(forest, &slots, signals),
         }
     }
 
-    /// Renews the lists of the slots in the tree that a placed node left, unless that is the tree around, whose slots are done.
+    /// Renews the lists of the slots, of a name alone if one is given, in the tree that a placed node left, unless that is the tree
+    /// around, whose slots are done.
     fn renew_left(
         &mut self,
         forest: &Forest,
         change: SlotChange,
         around: Key,
+        name: Option<&[u16]>,
     ) -> Result<(), AllocError>
         requires hosts { HostsAreNodes forest.now.names self.old.hosts }
         requires left { ForSome change.left (IsNode forest.now) }
         requires around { IsNode forest.now around }
         ensures hosts { OnOk result (self.new.hosts ≡ self.old.hosts) }
-        ensures renewed { AreRight forest.now self.old.hosts (tree_slots forest.now.trees (name_of forest.now around)) self.old.table →
-            OnOk result (AreSilent forest.now self.old.hosts (left_slots forest.now self.old.hosts change.step change.left) self.old.table self.new.table) }
+        ensures renewed { AreRight forest.now self.old.hosts (filter (is_called forest.now.trees (option_map (λ a. a.now) name.entry))
+            (tree_slots forest.now.trees (name_of forest.now around))) self.old.table →
+            OnOk result (AreSilent forest.now self.old.hosts (filter (is_called forest.now.trees (option_map (λ a. a.now) name.entry))
+            (left_slots forest.now self.old.hosts change.step change.left)) self.old.table self.new.table) }
     {
         forest.law_nodes_stand_once();
         let Some(left) = change.step.left_behind(change.left) else {
@@ -254,6 +263,22 @@ impl Slots {
             return Ok(());
         }
         let mut signals = SmallVec::new(self.alloc);
-        self.renew_tree(forest, left, &mut signals)
+        self.renew_tree(forest, left, name, &mut signals)
     }
+}
+
+/// The name of the slot that a step moves, if it moves just one.
+fn moved_name<'a>(forest: &'a Forest, step: Step, moved: &[Key]) -> Option<&'a [u16]>
+    requires moved { map (name_of forest.now) moved.now ≡ slots_among (subtree forest.now.trees (name_of forest.now (step_node step))) }
+    requires moved_nodes { All (IsNode forest.now) moved.now }
+    ensures { MovesCalled forest.now step (option_map (λ a. a.now) result) }
+{
+    let count = moved.len();
+    if !step.is_move() {
+        return None;
+    }
+    if count != 1 {
+        return None;
+    }
+    Some(slot_name(forest, moved[0]))
 }

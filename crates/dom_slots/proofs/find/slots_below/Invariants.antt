@@ -1,8 +1,8 @@
 use Rattle.std.proofs.Common.{◌≡◌, ◌<◌, ◌++◌, length, map, All}
 use Rattle.std.specs.Prelude.{filter}
 use Rattle.std.specs.Option.{option_map, ForSome}
-use Rattle.dom_model.specs.Slots.{is_slot_element}
-use Rattle.dom_model.specs.Tree.{node_in, inclusive_descendants}
+use Rattle.dom_slots.specs.Insides.{is_slot_called}
+use Rattle.dom_model.specs.Tree.{inclusive_descendants}
 use Rattle.dom_tree.specs.Forest.{name_at}
 use Rattle.dom_laws.specs.Within.{from_node}
 use Rattle.dom_tree.specs.Within.{StandsIn}
@@ -12,9 +12,9 @@ abbrev pub invariant-loop-at : goal.invariant-loop-at
 invariant-loop-at l = record {
   stands : ForSome l.at (StandsIn l.forest l.top);
   nodes : All (λ k. k < length l.forest.names) l.keys.items;
-  left : map (name_at l.forest.names) l.keys.items ++ filter (λ y. is_slot_element (node_in l.forest.trees y))
+  left : map (name_at l.forest.names) l.keys.items ++ filter (is_slot_called l.forest.trees (option_map (λ a. a.now) l.name))
       (from_node l.forest.trees (name_at l.forest.names l.top) (option_map (name_at l.forest.names) l.at))
-      ≡ filter (λ y. is_slot_element (node_in l.forest.trees y)) (inclusive_descendants l.forest.trees (name_at l.forest.names l.top));
+      ≡ filter (is_slot_called l.forest.trees (option_map (λ a. a.now) l.name)) (inclusive_descendants l.forest.trees (name_at l.forest.names l.top));
 }
 
 abbrev pub decreases-loop-at : goal.decreases-loop-at

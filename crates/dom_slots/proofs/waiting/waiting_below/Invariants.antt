@@ -1,10 +1,10 @@
-use Rattle.std.proofs.Common.{◌≡◌, ℕ, List, ◌<◌, ◌++◌, length, map, All}
+use Rattle.std.proofs.Common.{◌≡◌, ℕ, List, ◌<◌, ◌++◌, true, length, map, All}
 use Rattle.std.specs.Prelude.{filter}
 use Rattle.std.specs.Option.{option_map, ForSome}
 use Rattle.dom_model.specs.Tree.{node_in, children_of}
 use Rattle.dom_tree.specs.Forest.{name_at}
 use Rattle.dom_slots.specs.Shadows.{looks_for}
-use Rattle.dom_slots.specs.Waiting.{waiting_under}
+use Rattle.dom_slots.specs.Waiting.{waiting_under, is_wanted}
 use Rattle.dom_slots.proofs.Siblings.{from_item, IsChild}
 use Rattle.dom_slots.proofs.waiting.waiting_below.Given as goal
 
@@ -12,7 +12,8 @@ abbrev pub invariant-loop-at : goal.invariant-loop-at
 invariant-loop-at l = record {
   child : ForSome l.at (IsChild l.forest (name_at l.forest.names l.fn.host));
   nodes : (name : List ℕ) → All (λ k. k < length l.forest.names) (waiting_under l.waiting name);
-  left : (name : List ℕ) → map (name_at l.forest.names) (waiting_under l.waiting name) ++ filter (λ y. looks_for name (node_in l.forest.trees y))
+  left : (name : List ℕ) → is_wanted (option_map (λ a. a.now) l.wanted) name ≡ true →
+      map (name_at l.forest.names) (waiting_under l.waiting name) ++ filter (λ y. looks_for name (node_in l.forest.trees y))
       (from_item (children_of l.forest.trees (name_at l.forest.names l.fn.host)) (option_map (name_at l.forest.names) l.at))
       ≡ filter (λ y. looks_for name (node_in l.forest.trees y)) (children_of l.forest.trees (name_at l.forest.names l.fn.host));
 }

@@ -1,4 +1,4 @@
-use Rattle.std.proofs.Common.{◌≡◌, ◌++◌, map, sym, ap, subst, ◌∙◌}
+use Rattle.std.proofs.Common.{◌≡◌, ◌++◌, map, filter, sym, ap, subst, ◌∙◌}
 use Rattle.std.proofs.lemmas.Bool.{eqb-true, or_right}
 use Rattle.std.proofs.lemmas.List.Folds.{list_any-append}
 use Rattle.std.proofs.lemmas.Result.{on_ok_weaker}
@@ -10,22 +10,23 @@ use Rattle.dom_tree.proofs.Standing.{Once-forest, Has-forest}
 use Rattle.dom_laws.proofs.Lists.{In, is_in-from}
 use Rattle.dom_slots.specs.Insides.{tree_slots}
 use Rattle.dom_slots.specs.Renewals.{Renews}
+use Rattle.dom_slots.proofs.Attaching.{to_filter}
 use Rattle.dom_slots.proofs.Renewing.{renewed-again}
 use Rattle.dom_slots.proofs.TreeSlots.{below-root}
 use Rattle.dom_slots.proofs.slots.Slots.renew_below.Goals as goal
 
 pub returns-clause-renewed : goal.returns-clause-renewed
 returns-clause-renewed c =
-    λ p old done told r.
+    λ p q old done told pass r.
     let f = c.args.forest.now in
     on_ok_weaker c.renew.result
     (λ (h : Renews f c.args.self.now.hosts (map (name_at f.names) c.args.moved.now) c.args.self.now.table c.args.signals.now.items
     c.renew.new.self.table c.renew.new.signals.items).
-    h p old (done ++ tree_slots f.trees (name_at f.names c.args.around)) told r) c.renew.ensures.renewed
+    h p old (done ++ filter q (tree_slots f.trees (name_at f.names c.args.around))) told r) c.renew.ensures.renewed
 
 pub returns-then-eq-clause-renewed : goal.returns-then-eq-clause-renewed
 returns-then-eq-clause-renewed c =
-    λ p old done told r.
+    λ p q old done told pass r.
     let f = c.args.forest.now in
     let e = c.law_nodes_stand_once.ensures in
     let x = name_at f.names c.args.node in
@@ -37,4 +38,6 @@ returns-then-eq-clause-renewed c =
     let there : In y (tree_slots f.trees around) =
     subst (λ t. In y (slots_among (subtree f.trees t))) same
     (below-root f (Once-forest f e.once e.only) x y (Has-forest f e.once c.args.node c.requires.node) (subst (In y) c.requires.moved i)) in
-    list_any-append (name_eq y) done (tree_slots f.trees around) ∙ or_right (is_in name_eq y done) _ (is_in-from y (tree_slots f.trees around) there))
+    let slots = filter q (tree_slots f.trees around) in
+    list_any-append (name_eq y) done slots ∙ or_right (is_in name_eq y done) _
+    (is_in-from y slots (to_filter q y (tree_slots f.trees around) (pass y (is_in-from y (map (name_at f.names) c.args.moved.now) i)) there)))

@@ -1,13 +1,14 @@
 use Rattle.std.proofs.Common.{◌≡◌, [], filter, sym, ap, subst, ◌∙◌}
 use Rattle.std.specs.Prelude.{OnOk}
-use Rattle.std.specs.Option.{option_map_or}
+use Rattle.std.specs.Option.{option_map, option_map_or}
 use Rattle.std.proofs.lemmas.Bool.{eqb-true}
 use Rattle.std.proofs.lemmas.Result.{on_ok_weaker}
 use Rattle.dom_model.specs.Slots.{slots_among}
 use Rattle.dom_model.specs.Tree.{root_of, subtree}
 use Rattle.dom_tree.specs.Forest.{name_at}
-use Rattle.dom_slots.specs.Insides.{tree_slots, AreSilent}
+use Rattle.dom_slots.specs.Insides.{is_called, tree_slots, AreSilent}
 use Rattle.dom_slots.specs.Renewals.{AreRenewed, Renews}
+use Rattle.dom_slots.proofs.Attaching.{in_filter}
 use Rattle.dom_slots.proofs.Renewing.{renewed-right}
 use Rattle.dom_slots.proofs.TreeSlots.{slot-key}
 use Rattle.dom_slots.proofs.slots.Slots.renew_left.Goals as goal
@@ -20,16 +21,17 @@ returns-clause-renewed c =
     let old = c.args.self.now.table in
     let table = c.renew_tree.new.self.table in
     let keys = c.renew_tree.new.signals.items in
-    let slots = tree_slots f.trees (name_at f.names c.in-Some.left) in
-    let is = ap (λ o. option_map_or (λ k. tree_slots f.trees (name_at f.names k)) o []) (sym c.in-Some.is ∙ c.left_behind.ensures) in
+    let q = is_called f.trees (option_map (λ a. a.now) c.args.name) in
+    let slots = filter q (tree_slots f.trees (name_at f.names c.in-Some.left)) in
+    let is = ap (λ o. filter q (option_map_or (λ k. tree_slots f.trees (name_at f.names k)) o [])) (sym c.in-Some.is ∙ c.left_behind.ensures) in
     subst (λ ys. OnOk c.renew_tree.result (AreSilent f hosts ys old table)) is
     (on_ok_weaker c.renew_tree.result
     (λ (h : Renews f hosts slots old c.new-signals.result.items table keys).
-    λ q start. (keys, h q old [] [] (subst (AreRenewed f hosts q old [] [] old) (sym c.new-signals.ensures.items) start))) c.renew_tree.ensures.renewed)
+    λ p start. (keys, h p old [] [] (subst (AreRenewed f hosts p old [] [] old) (sym c.new-signals.ensures.items) start))) c.renew_tree.ensures.renewed)
 
 pub returns-then-eq-clause-renewed : goal.returns-then-eq-clause-renewed
 returns-then-eq-clause-renewed c =
-    λ right q start.
+    λ right p start.
     let f = c.args.forest.now in
     let hosts = c.args.self.now.hosts in
     let old = c.args.self.now.table in
@@ -37,9 +39,11 @@ returns-then-eq-clause-renewed c =
     let around = name_at f.names c.args.around in
     let same : root_of f.trees (name_at f.names c.in-Some.left) ≡ root_of f.trees around =
     sym c.root.ensures.value ∙ (ap (name_at f.names) (eqb-true c.root.result c.root-2.result (sym c.eq.ensures ∙ c.if-eq.true)) ∙ c.root-2.ensures.value) in
-    let is = ap (λ o. option_map_or (λ k. tree_slots f.trees (name_at f.names k)) o []) (sym c.left_behind.ensures ∙ c.in-Some.is) ∙
-    ap (λ r. slots_among (subtree f.trees r)) same in (
+    let q = is_called f.trees (option_map (λ a. a.now) c.args.name) in
+    let is = ap (λ o. filter q (option_map_or (λ k. tree_slots f.trees (name_at f.names k)) o [])) (sym c.left_behind.ensures ∙ c.in-Some.is) ∙
+    ap (λ r. filter q (slots_among (subtree f.trees r))) same in (
       [],
-      subst (λ ys. AreRenewed f hosts q old ys (filter q ys) old []) (sym is)
-          (renewed-right (tree_slots f.trees around) (slot-key f record { once = e.once; only = e.only } (root_of f.trees around)) right start),
+      subst (λ ys. AreRenewed f hosts p old ys (filter p ys) old []) (sym is)
+          (renewed-right (filter q (tree_slots f.trees around))
+          (λ y i. slot-key f record { once = e.once; only = e.only } (root_of f.trees around) y (in_filter q y (tree_slots f.trees around) i).1) right start),
     )

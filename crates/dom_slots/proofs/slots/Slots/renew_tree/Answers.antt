@@ -1,4 +1,4 @@
-use Rattle.std.proofs.Common.{◌≡◌, ℕ, ◌<◌, List, Some, length, map, refl, sym, ap, subst, ◌∙◌}
+use Rattle.std.proofs.Common.{◌≡◌, ℕ, ◌<◌, Bool, List, filter, Some, length, map, refl, sym, ap, subst, ◌∙◌}
 use Rattle.std.specs.Prelude.{OnOk}
 use Rattle.std.specs.Option.{option_map}
 use Rattle.dom_base.specs.declared.NodeName.{NodeName}
@@ -18,9 +18,10 @@ use Rattle.dom_slots.proofs.TreeSlots.{slot-root}
 use Rattle.dom_slots.proofs.slots.Slots.renew_tree.Goals as goal
 
 -- the keys of the slots of the tree of a node
-of-tree : (f : NamedTrees) (x : NodeName) {ks js : List ℕ} {top : NodeName} → ks ≡ js → map (name_at f.names) js ≡ slots_among (subtree f.trees top) →
-    top ≡ root_of f.trees x → map (name_at f.names) ks ≡ tree_slots f.trees x
-of-tree f x same are root = ap (map (name_at f.names)) same ∙ (are ∙ ap (λ r. slots_among (subtree f.trees r)) root)
+of-tree : (f : NamedTrees) (q : NodeName → Bool) (x : NodeName) {ks js : List ℕ} {top : NodeName} → ks ≡ js →
+    map (name_at f.names) js ≡ filter q (slots_among (subtree f.trees top)) → top ≡ root_of f.trees x →
+    map (name_at f.names) ks ≡ filter q (tree_slots f.trees x)
+of-tree f q x same are root = ap (map (name_at f.names)) same ∙ (are ∙ ap (λ r. filter q (slots_among (subtree f.trees r))) root)
 
 pub waiting_below-requires : goal.waiting_below-requires
 waiting_below-requires c =
@@ -47,17 +48,17 @@ renew_waiting-requires-clause-served c =
     slot-root f once x y (Has-forest f e.once c.args.node c.requires.node)
     (subst (λ t. In y (slots_among (subtree f.trees t))) c.root-root.ensures.value i)
     ∙ sym c.root-root.ensures.value)
-    (waiting_under c.in_ok-waiting-in-Some.waiting) c.in_ok-waiting-in-Some.ensures.names c.deref.result.now
+    (waiting_under c.in_ok-waiting-in-Some.waiting) (option_map (λ a. a.now) c.args.name) c.in_ok-waiting-in-Some.ensures.names c.deref.result.now
     (ap (map (name_at f.names)) c.deref.ensures.value ∙ c.in_ok-slots.ensures.value)
 
 pub returns-in-Some-clause-renewed : goal.returns-in-Some-clause-renewed
 returns-in-Some-clause-renewed c =
     subst (λ xs. OnOk c.renew_waiting.result (Renews c.args.forest.now c.args.self.now.hosts xs c.args.self.now.table c.args.signals.now.items
     c.renew_waiting.new.self.table c.renew_waiting.new.signals.items))
-    (of-tree c.args.forest.now _ c.deref.ensures.value c.in_ok-slots.ensures.value c.root-root.ensures.value) c.renew_waiting.ensures.renewed
+    (of-tree c.args.forest.now _ _ c.deref.ensures.value c.in_ok-slots.ensures.value c.root-root.ensures.value) c.renew_waiting.ensures.renewed
 
 pub returns-clause-renewed : goal.returns-clause-renewed
 returns-clause-renewed c =
     subst (λ xs. OnOk c.renew.result (Renews c.args.forest.now c.args.self.now.hosts xs c.args.self.now.table c.args.signals.now.items
     c.renew.new.self.table c.renew.new.signals.items))
-    (of-tree c.args.forest.now _ c.deref-in_default.ensures.value c.in_ok-slots.ensures.value c.root-root.ensures.value) c.renew.ensures.renewed
+    (of-tree c.args.forest.now _ _ c.deref-in_default.ensures.value c.in_ok-slots.ensures.value c.root-root.ensures.value) c.renew.ensures.renewed
