@@ -1,5 +1,5 @@
--- Steps aside, down and up by keys in a search among siblings.
-use Rattle.std.proofs.Common.{◌≡◌, inl, inr, ℕ, ◌<◌, true, false, [], ◌++◌, length, Option, Some, None, refl, sym, ap, subst, ◌∙◌, arith}
+-- Steps down and up by keys in a search among siblings.
+use Rattle.std.proofs.Common.{◌≡◌, inl, inr, ℕ, ◌<◌, true, false, ◌++◌, length, Option, Some, None, refl, sym, ap, subst, ◌∙◌, arith}
 use Rattle.std.specs.Prelude.{is_some}
 use Rattle.std.specs.Option.{option_map, ForSome}
 use Rattle.std.proofs.lemmas.Option.{none-some, same_Some}
@@ -7,7 +7,7 @@ use Rattle.dom_base.specs.declared.NodeName.{NodeName}
 use Rattle.dom_model.specs.Command.{Filter}
 use Rattle.dom_model.specs.Names.{first_of}
 use Rattle.dom_model.specs.Traversal.{accepts}
-use Rattle.dom_model.specs.Tree.{inclusive_ancestors, ancestors, parent_of, children_of, next_sibling}
+use Rattle.dom_model.specs.Tree.{inclusive_ancestors, ancestors, parent_of, children_of}
 use Rattle.dom_tree.specs.Forest.{NamedTrees, name_at}
 use Rattle.dom_traversal.specs.Walkers.{is_stop, stop_above}
 use Rattle.dom_laws.specs.Within.{behind, beyond}
@@ -19,8 +19,7 @@ use Rattle.dom_tree.proofs.Standing.{StandOnce, StandAlone, Once-forest, Has-for
 use Rattle.dom_traversal.proofs.Climbing.{IsInner}
 use Rattle.dom_laws.proofs.Options.{no_key, was_some}
 use Rattle.dom_laws.proofs.Shapes.{above-proper}
-use Rattle.dom_traversal.proofs.Stops.{IsBelow, within-below, root-below, below-stop, below-child, below-up, path_up, stop-above, aside_next}
-use Rattle.dom_traversal.proofs.Stops.{aside_ends, aside_up}
+use Rattle.dom_traversal.proofs.Stops.{IsBelow, within-below, root-below, below-stop, below-child, below-up, path_up, stop-above}
 
 -- a key that stands below another one, by a forest's word
 pub IsBelow-key : (f : NamedTrees) → StandOnce f → StandAlone f → (top k : ℕ) → StandsBelow f top k → IsBelow f.trees (name_at f.names top) (name_at f.names k)
@@ -42,23 +41,6 @@ pub record Follows (f : NamedTrees) (filter : Filter) (top k : ℕ) (found : Opt
       (name_at f.names top) (name_at f.names k))
 
 module _ (f : NamedTrees) (once : StandOnce f) (only : StandAlone f) (filter : Filter) (top k : ℕ) (s : StandsBelow f top k) where
-  -- a sibling behind is where a step aside leads
-  pub follows_next : (next : Option ℕ) → option_map (name_at f.names) next ≡ next_sibling f.trees (name_at f.names k) →
-      ForSome next (λ j. j < length f.names) → is_some next ≡ true
-      → Follows f filter top k next (first_of (beyond f.trees (stop_above f.trees filter (name_at f.names top) (name_at f.names k)) (name_at f.names k)))
-  follows_next next is node some =
-      let b = IsBelow-key f once only top k s in
-      let found = was_some next some in
-      let found_at : (j : ℕ) → next ≡ Some j → next_sibling f.trees (name_at f.names k) ≡ Some (name_at f.names j) =
-      λ j e. sym is ∙ ap (option_map (name_at f.names)) e in
-      record {
-        value = ap (option_map (name_at f.names)) found.1 ∙
-            sym (aside_next filter b (found_at found.0 found.1)).0;
-        below = λ j e. StandsBelow-key f top j (node j e)
-            (aside_next filter b (found_at j e)).1;
-        stop = λ j e. (aside_next filter b (found_at j e)).2;
-      }
-
   -- a first child is where a step onward leads
   pub follows_child : accepts f.trees filter (name_at f.names k) ≡ false → (child : Option ℕ) →
       option_map (name_at f.names) child ≡ first_of (children_of f.trees (name_at f.names k)) → ForSome child (λ j. j < length f.names) →
@@ -118,23 +100,6 @@ module _ (f : NamedTrees) (once : StandOnce f) (only : StandAlone f) (filter : F
         stop = stop-above f.trees filter (name_at f.names top) (name_at f.names k) (name_at f.names p) b (sym up) e;
         higher = omega (arith, ap (length {A = NodeName}) (path_up f.trees filter (name_at f.names top) (name_at f.names k) (name_at f.names p) b (sym up)));
       }
-
-  -- and, where no sibling is behind, the same nodes beyond
-  pub rises_beyond : (next : Option ℕ) → option_map (name_at f.names) next ≡ next_sibling f.trees (name_at f.names k) → is_some next ≡ false →
-      is_stop f.trees filter (name_at f.names top) (name_at f.names p) ≡ false
-      → beyond f.trees (stop_above f.trees filter (name_at f.names top) (name_at f.names k)) (name_at f.names k) ≡ beyond f.trees
-      (stop_above f.trees filter (name_at f.names top) (name_at f.names p)) (name_at f.names p)
-  rises_beyond next is none_left e =
-      aside_up filter (IsBelow-key f once only top k s)
-      (no_key (name_at f.names) next is none_left) (sym up) e
-
-  -- where the parent is the stop and no sibling is behind, nothing is beyond
-  pub ends_beyond : (next : Option ℕ) → option_map (name_at f.names) next ≡ next_sibling f.trees (name_at f.names k) → is_some next ≡ false →
-      is_stop f.trees filter (name_at f.names top) (name_at f.names p) ≡ true
-      → beyond f.trees (stop_above f.trees filter (name_at f.names top) (name_at f.names k)) (name_at f.names k) ≡ []
-  ends_beyond next is none_left e =
-      aside_ends filter (IsBelow-key f once only top k s)
-      (no_key (name_at f.names) next is none_left) (sym up) e
 
 -- a node that stands in the tree of another one and is not that one stands below it
 pub inner-below : {f : NamedTrees} {top k : ℕ} → IsInner f top k → StandsBelow f top k

@@ -13,6 +13,7 @@ use Rattle.dom_model.specs.Traversal.{Walker, accepts, walker_siblings, walker_s
 use Rattle.dom_model.specs.Tree.{Trees, inclusive_ancestors, ancestors, children_of, is_inclusive_ancestor, inclusive_descendants}
 use Rattle.dom_model.proofs.OwnerLaws.{name_eq-other}
 use Rattle.dom_tree.specs.Forest.{NamedTrees, name_at}
+use Rattle.dom_traversal.specs.declared.iter.Direction.TheVariants.{Next}
 use Rattle.dom_traversal.specs.Walkers.{KeyedWalker, walker_view, is_opened, is_reached, stop_above, stop_of, BeginsForward}
 use Rattle.dom_laws.specs.Within.{ahead_of, behind, beyond, from_node}
 use Rattle.dom_laws.proofs.Lists.{In, Single, Single-right, Single-apart, is_in-from, is_in-not, name_eq-from, no_first, first_split}
@@ -23,7 +24,7 @@ use Rattle.dom_laws.proofs.Shapes.{above-proper, proper-parent}
 use Rattle.dom_traversal.proofs.Opening.{beyond-above, all-from}
 use Rattle.dom_traversal.proofs.Forward.{zone_is, beyond-zone, not_behind}
 use Rattle.dom_traversal.proofs.Stops.{IsBelow, within-below, other-below, below-stop, stop-here}
-use Rattle.dom_traversal.proofs.Aside.{Follows}
+use Rattle.dom_traversal.proofs.Beside.{FollowsBeside}
 use Rattle.dom_traversal.proofs.Reaching.{opened-above}
 use Rattle.dom_traversal.proofs.Candidates.{children-reached}
 use Rattle.dom_traversal.proofs.Nested.{siblings-behind}
@@ -123,9 +124,7 @@ module _ (ts : Trees) (w : Walker) (b : IsBelow ts w.root w.current) where
 
 -- so the search may begin at the node aside
 pub Begins-sibling : (f : NamedTrees) → (w : KeyedWalker) → IsBelow f.trees (name_at f.names w.root) (name_at f.names w.current) → (from : Option ℕ)
-    → Follows f w.filter w.root w.current from (first_of
-    (beyond f.trees (stop_above f.trees w.filter (name_at f.names w.root) (name_at f.names w.current)) (name_at f.names w.current)))
-    → ForSome from (BeginsForward f w w.root)
+    → FollowsBeside Next f w.filter w.root w.current from → ForSome from (BeginsForward f w w.root)
 Begins-sibling f w b from aside = λ k e.
     let v = walker_view f.names w in
     let found = sym aside.value ∙ ap (option_map (name_at f.names)) e in

@@ -11,6 +11,10 @@ use Rattle.dom_model.specs.Tree.{Trees, inclusive_ancestors, ancestors, children
 use Rattle.dom_model.proofs.OwnerLaws.{name_eq-other}
 use Rattle.dom_tree.specs.Forest.{NamedTrees, name_at}
 use Rattle.dom_traversal.specs.Walkers.{KeyedWalker, walker_view, is_opened, is_reached, is_candidate, stop_above, stop_of, StepsBehind, BeginsBackward}
+use Rattle.dom_traversal.specs.Walkers.{Begins, StepsBeside, reached_from}
+use Rattle.dom_traversal.specs.Directions.{outer_child, child_move, sibling_move}
+use Rattle.dom_traversal.specs.declared.iter.Direction.{Direction}
+use Rattle.dom_traversal.specs.declared.iter.Direction.TheVariants.{Next, Previous}
 use Rattle.dom_laws.specs.Within.{ahead_of, up_to_tree}
 use Rattle.dom_laws.proofs.Lists.{In, In-left, In-right, is_in-from, In-from, name_eq-from, not_before, last_split, filter-no, filter-same}
 use Rattle.dom_laws.proofs.Order.{IsWithin, here, below, above-within}
@@ -18,12 +22,12 @@ use Rattle.dom_laws.proofs.Steps.{within-itself, top_places, last_child, no_last
 use Rattle.dom_laws.proofs.Shapes.{above-proper}
 use Rattle.dom_traversal.proofs.Opening.{all-from}
 use Rattle.dom_traversal.proofs.Stops.{IsBelow, within-below, other-below}
-use Rattle.dom_traversal.proofs.SearchBack.{FollowsBack}
+use Rattle.dom_traversal.proofs.Beside.{FollowsBeside}
 use Rattle.dom_traversal.proofs.Reaching.{opened-above}
 use Rattle.dom_traversal.proofs.ReachingBack.{steps-filter}
 use Rattle.dom_traversal.proofs.Candidates.{children-reached, below-member}
 use Rattle.dom_traversal.proofs.Nested.{siblings-ahead}
-use Rattle.dom_traversal.proofs.Beginning.{move-step, place_of_child}
+use Rattle.dom_traversal.proofs.Beginning.{move-step, place_of_child, Begins-child, Begins-sibling, First-found, NextSibling-found}
 
 -- ---- the last child
 
@@ -84,7 +88,7 @@ Last-found ts w at o is = ap last_of (last-zone ts w (within-itself ts w.root w.
 
 -- the search may begin at the sibling before
 pub Begins-previous : (f : NamedTrees) (w : KeyedWalker) → IsBelow f.trees (name_at f.names w.root) (name_at f.names w.current) → (from : Option ℕ)
-    → FollowsBack f w.filter w.root w.current from → ForSome from (BeginsBackward f w w.root)
+    → FollowsBeside Previous f w.filter w.root w.current from → ForSome from (BeginsBackward f w w.root)
 Begins-previous f w b from aback = λ k e.
     let v = walker_view f.names w in
     let stop = sibling_top f.trees v in
@@ -119,3 +123,33 @@ PreviousSibling-found ts w b o s same =
 
     not_root : name_eq w.current w.root ≡ false → last_of (walker_siblings ts w (ahead_of ts w.root w.current)) ≡ walker_step ts w moves.PreviousSibling
     not_root e = rw e refl
+
+-- ---- in a direction
+
+module _ (f : NamedTrees) (w : KeyedWalker) where
+  -- a search may begin at a child
+  pub Begins-outer : (d : Direction) → IsWithin f.trees (name_at f.names w.current) (name_at f.names w.current) → (child : Option ℕ) →
+      option_map (name_at f.names) child ≡ outer_child d f.trees (name_at f.names w.current) → ForSome child (λ k. k < length f.names) →
+      ForSome child (Begins d f w w.current)
+  Begins-outer Next at child is node = Begins-child f w at child is node
+  Begins-outer Previous at child is node = Begins-last f w at child is node
+
+  -- and beside the current node
+  pub Begins-beside : (d : Direction) → IsBelow f.trees (name_at f.names w.root) (name_at f.names w.current) → (from : Option ℕ) →
+      FollowsBeside d f w.filter w.root w.current from → ForSome from (Begins d f w w.root)
+  Begins-beside Next b from beside = Begins-sibling f w b from beside
+  Begins-beside Previous b from beside = Begins-previous f w b from beside
+
+module _ (ts : Trees) (w : Walker) where
+  -- the child is found
+  pub Child-found : (d : Direction) → IsWithin ts w.root w.current → (o : Option NodeName) → o ≡ outer_child d ts w.current
+      → reached_from d ts w (stop_of ts w.filter w.current o) o ≡ walker_move ts w (child_move d)
+  Child-found Next at o is = First-found ts w at o is
+  Child-found Previous at o is = Last-found ts w at o is
+
+  -- the sibling is found
+  pub Sibling-found : (d : Direction) → IsBelow ts w.root w.current → (o : Option NodeName) → StepsBeside d ts w.filter (sibling_top ts w) w.current o
+      → ((y : NodeName) → o ≡ Some y → stop_above ts w.filter w.root y ≡ sibling_top ts w)
+      → reached_from d ts w (stop_of ts w.filter w.root o) o ≡ walker_move ts w (sibling_move d)
+  Sibling-found Next b o is same = NextSibling-found ts w b o is same
+  Sibling-found Previous b o is same = PreviousSibling-found ts w b o is same

@@ -10,7 +10,7 @@ mod Nested
 mod Beginning
 mod Backward
 mod Parents
-mod SearchBack
+mod Beside
 mod ReachingBack
 mod BeginningBack
 mod Fewer

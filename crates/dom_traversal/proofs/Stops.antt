@@ -105,7 +105,7 @@ below-child {ts} {top} {x} f c b no_x i =
 
 -- the next sibling is the first node beyond
 pub aside_next : {ts : Trees} {top x s : NodeName} (f : Filter) → IsBelow ts top x → next_sibling ts x ≡ Some s →
-    (first_of (beyond ts (stop_above ts f top x) x) ≡ Some s) × IsBelow ts top s × (stop_above ts f top s ≡ stop_above ts f top x)
+    (first_of (beyond ts (stop_above ts f top x) x) ≡ Some s) × IsBelow ts top s × (ancestors ts s ≡ ancestors ts x)
 aside_next {ts} {top} {x} {s} f b next =
     let stop = stop_above ts f top x in
     let b_stop = below-stop ts f top x b in
@@ -113,7 +113,7 @@ aside_next {ts} {top} {x} {s} f b next =
     let its = below-sibling s b (stands_in ts stop s is.0) is.2 in (
       ap first_of (is.1 ∙ ap (λ xs. xs ++ beyond ts stop s) (here ts stop s is.0)),
       its.0,
-      ap (λ path. unwrap_or (find (is_stop ts f top) path) top) its.1,
+      its.1,
     )
 
 -- at the stop nothing is beyond

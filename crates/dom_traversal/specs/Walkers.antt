@@ -5,12 +5,14 @@ use Rattle.dom_base.specs.declared.NodeName.{NodeName}
 use Rattle.dom_base.specs.declared.Verdict.{Verdict}
 use Rattle.dom_base.specs.declared.Verdict.TheVariants.{Skip, Reject}
 use Rattle.dom_model.specs.Command.{Filter}
-use Rattle.dom_model.specs.Names.{name_eq, is_in}
+use Rattle.dom_model.specs.Names.{name_eq, is_in, first_of, last_of}
 use Rattle.dom_model.specs.Traversal.{Walker, answer_at, accepts, skips, rejects, sibling_top}
 use Rattle.dom_model.specs.Tree.{Trees, ancestors, is_inclusive_ancestor}
 use Rattle.dom_tree.specs.Forest.{NamedTrees, name_at}
-use Rattle.dom_laws.specs.Within.{ahead_of, behind, from_node, up_to_tree}
+use Rattle.dom_laws.specs.Within.{ahead_of, behind, beyond, from_node, up_to_tree}
 use Rattle.dom_tree.specs.Within.{StandsIn, StandsBelow}
+use Rattle.dom_traversal.specs.declared.iter.Direction.{Direction}
+use Rattle.dom_traversal.specs.declared.iter.Direction.TheVariants.{Next, Previous}
 
 -- a walker by keys
 pub record KeyedWalker : Type 0 where
@@ -86,6 +88,11 @@ pub record StepsBehind (ts : Trees) (f : Filter) (top x : NodeName) (to : Option
   pub split : ahead_of ts top x ≡ up_to_tree ts top to ++ passed
   pub none_accepted : filter (is_accepted_but ts f top) passed ≡ []
 
+-- a step beside x and its tree leads to a node or to none: in the tree of `top` to the first node behind them, or backward as above
+abbrev pub StepsBeside : Direction → Trees → Filter → NodeName → NodeName → Option NodeName → Type 0
+StepsBeside Next ts f top x to = to ≡ first_of (beyond ts top x)
+StepsBeside Previous ts f top x to = StepsBehind ts f top x to
+
 -- a search forward among the nodes in the place of siblings may begin at a key: all above its node is opened, and the
 -- current node stands in the tree of the stop, and not from that node on
 pub record BeginsForward (f : NamedTrees) (w : KeyedWalker) (top key : ℕ) : Type 0 where
@@ -114,3 +121,13 @@ pub record BeginsBackward (f : NamedTrees) (w : KeyedWalker) (top key : ℕ) : T
 -- whether a node other than the stop is accepted and reached
 abbrev pub is_candidate : Trees → Walker → NodeName → NodeName → Bool
 is_candidate ts w stop y = is_reached ts w y && not (name_eq y stop)
+
+-- a search in a direction may begin at a key
+abbrev pub Begins : Direction → NamedTrees → KeyedWalker → ℕ → ℕ → Type 0
+Begins Next f w top key = BeginsForward f w top key
+Begins Previous f w top key = BeginsBackward f w top key
+
+-- the node that is accepted and reached first in a direction, from a node on in the tree of the stop
+abbrev pub reached_from : Direction → Trees → Walker → NodeName → Option NodeName → Option NodeName
+reached_from Next ts w stop from = first_of (filter (is_reached ts w) (from_node ts stop from))
+reached_from Previous ts w stop from = last_of (filter (is_candidate ts w stop) (up_to_tree ts stop from))

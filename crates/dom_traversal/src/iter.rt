@@ -17,7 +17,7 @@ use dom_tree::Forest;
 use node_arena::Key;
 use std::marker::Model;
 
-/// The direction in which an iterator is traversed (DOM Standard, interface NodeIterator).
+/// The direction in which a cursor moves (DOM Standard, 6 Traversal).
 #[derive(Clone, Copy)]
 pub(crate) enum Direction {
     Next,

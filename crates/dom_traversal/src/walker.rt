@@ -7,11 +7,14 @@ ghost use Rattle.dom_model.specs.Traversal.{walker_move, walker_nodes};
 ghost use Rattle.dom_tree.specs.Forest.{IsNode, name_of};
 ghost use Rattle.dom_traversal.specs.Filters.{filter_of};
 ghost use Rattle.dom_traversal.specs.Walkers.{walker_view, IsWalkerOf, walker_at, walker_left, is_reached, stop_of, is_candidate, BeginsForward};
-ghost use Rattle.dom_traversal.specs.Walkers.{ComesBack, BeginsBackward};
+ghost use Rattle.dom_traversal.specs.Walkers.{ComesBack, BeginsBackward, Begins, reached_from};
+ghost use Rattle.dom_traversal.specs.Directions.{child_move, sibling_move};
 ghost use Rattle.dom_laws.specs.Within.{ahead_of, from_node, up_to_node, up_to_tree};
 
 use crate::filter::Filter;
+use crate::iter::Direction;
 use crate::search::beyond;
+use crate::siblings::outer_child;
 use dom_base::Verdict;
 use dom_tree::Forest;
 use node_arena::Key;
@@ -106,7 +109,7 @@ impl Walker {
         ensures state { self.new ≡ walker_at self.old result }
         ensures kept { IsWalkerOf forest.now self.new }
     {
-        let found = self.first_node(forest)?;
+        let found = self.child_node(forest, Direction::Next)?;
         self.current = found;
         Some(found)
     }
@@ -118,36 +121,64 @@ impl Walker {
         ensures state { self.new ≡ walker_at self.old result }
         ensures kept { IsWalkerOf forest.now self.new }
     {
-        let found = self.next_sibling_node(forest)?;
+        let found = self.sibling_node(forest, Direction::Next)?;
         self.current = found;
         Some(found)
     }
 
-    /// Where `first` goes.
-    fn first_node(&self, forest: &Forest) -> Option<Key>
+    /// Where `first` goes, and in the other direction `last`.
+    fn child_node(&self, forest: &Forest, direction: Direction) -> Option<Key>
         requires { IsWalkerOf forest.now self.now }
-        ensures value { option_map (name_of forest.now) result ≡ walker_move forest.now.trees (walker_view forest.now.names self.now) moves.First }
+        ensures value { option_map (name_of forest.now) result ≡ walker_move forest.now.trees (walker_view forest.now.names self.now)
+            (child_move direction) }
         ensures node { ForSome result (IsNode forest.now) }
     {
         forest.law_nodes_stand_once();
         if !forest.is_inclusive_ancestor(self.root, self.current) {
             return None;
         }
-        self.first_reached(forest, forest.first(self.current), self.current)
+        let child = outer_child(forest, direction, self.current);
+        self.reached(forest, direction, child, self.current)
     }
 
-    /// Where `next_sibling` goes.
-    fn next_sibling_node(&self, forest: &Forest) -> Option<Key>
+    /// Where `next_sibling` goes, and in the other direction `previous_sibling`.
+    fn sibling_node(&self, forest: &Forest, direction: Direction) -> Option<Key>
         requires { IsWalkerOf forest.now self.now }
-        ensures value { option_map (name_of forest.now) result ≡ walker_move forest.now.trees (walker_view forest.now.names self.now) moves.NextSibling }
+        ensures value { option_map (name_of forest.now) result ≡ walker_move forest.now.trees (walker_view forest.now.names self.now)
+            (sibling_move direction) }
         ensures node { ForSome result (IsNode forest.now) }
     {
         forest.law_nodes_stand_once();
         if self.current == self.root || !forest.is_inclusive_ancestor(self.root, self.current) {
             return None;
         }
-        let from = self.filter.aside(forest, self.current, self.root);
-        self.first_reached(forest, from, self.root)
+        let from = self
+            .filter
+            .beside(forest, direction, self.current, self.root);
+        self.reached(forest, direction, from, self.root)
+    }
+
+    /// The first node in a direction that is accepted and reached through opened nodes alone, from a node on in the tree of
+    /// the nearest node above it that is accepted or is `top`.
+    fn reached(
+        &self,
+        forest: &Forest,
+        direction: Direction,
+        from: Option<Key>,
+        top: Key,
+    ) -> Option<Key>
+        requires walker { IsWalkerOf forest.now self.now }
+        requires top_is_node { IsNode forest.now top }
+        requires begins { ForSome from (Begins direction forest.now self.now top) }
+        ensures value { option_map (name_of forest.now) result ≡ reached_from direction forest.now.trees (walker_view forest.now.names self.now)
+            (stop_of forest.now.trees self.now.filter (name_of forest.now top) (option_map (name_of forest.now) from))
+            (option_map (name_of forest.now) from) }
+        ensures node { ForSome result (IsNode forest.now) }
+    {
+        match direction {
+            Direction::Next => self.first_reached(forest, from, top),
+            Direction::Previous => self.last_reached(forest, from, top),
+        }
     }
 
     /// The first node that is accepted and reached through opened nodes alone, from a node on in the tree of the nearest
@@ -168,7 +199,7 @@ impl Walker {
             at = match self.filter.answer(forest, key) {
                 None => return Some(key),
                 Some(Verdict::Skip) => self.filter.onward(forest, key, top),
-                Some(Verdict::Reject) => self.filter.aside(forest, key, top),
+                Some(Verdict::Reject) => self.filter.beside(forest, Direction::Next, key, top),
             };
         }
         None
@@ -268,7 +299,7 @@ impl Walker {
         ensures state { self.new ≡ walker_at self.old result }
         ensures kept { IsWalkerOf forest.now self.new }
     {
-        let found = self.last_node(forest)?;
+        let found = self.child_node(forest, Direction::Previous)?;
         self.current = found;
         Some(found)
     }
@@ -281,37 +312,9 @@ impl Walker {
         ensures state { self.new ≡ walker_at self.old result }
         ensures kept { IsWalkerOf forest.now self.new }
     {
-        let found = self.previous_sibling_node(forest)?;
+        let found = self.sibling_node(forest, Direction::Previous)?;
         self.current = found;
         Some(found)
-    }
-
-    /// Where `last` goes.
-    fn last_node(&self, forest: &Forest) -> Option<Key>
-        requires { IsWalkerOf forest.now self.now }
-        ensures value { option_map (name_of forest.now) result ≡ walker_move forest.now.trees (walker_view forest.now.names self.now) moves.Last }
-        ensures node { ForSome result (IsNode forest.now) }
-    {
-        forest.law_nodes_stand_once();
-        if !forest.is_inclusive_ancestor(self.root, self.current) {
-            return None;
-        }
-        self.last_reached(forest, forest.last(self.current), self.current)
-    }
-
-    /// Where `previous_sibling` goes.
-    fn previous_sibling_node(&self, forest: &Forest) -> Option<Key>
-        requires { IsWalkerOf forest.now self.now }
-        ensures value { option_map (name_of forest.now) result ≡ walker_move forest.now.trees (walker_view forest.now.names self.now)
-            moves.PreviousSibling }
-        ensures node { ForSome result (IsNode forest.now) }
-    {
-        forest.law_nodes_stand_once();
-        if self.current == self.root || !forest.is_inclusive_ancestor(self.root, self.current) {
-            return None;
-        }
-        let from = self.filter.aback(forest, self.current, self.root);
-        self.last_reached(forest, from, self.root)
     }
 
     /// The last node that is accepted and reached through opened nodes alone, up to a node and its tree in the tree of the
@@ -335,7 +338,7 @@ impl Walker {
             if self.filter.accepts(forest, low) {
                 return Some(low);
             }
-            at = self.filter.aback(forest, low, top);
+            at = self.filter.beside(forest, Direction::Previous, low, top);
         }
         None
     }

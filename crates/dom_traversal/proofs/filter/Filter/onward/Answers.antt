@@ -13,6 +13,6 @@ returns-then-is_some c =
 
 pub returns-clause-value : goal.returns-clause-value
 returns-clause-value c =
-    c.aside.ensures.value
+    c.beside.ensures.value
     ∙ ap first_of (sym (behind_leaf c.args.forest.now c.law_nodes_stand_once.ensures.once c.law_nodes_stand_once.ensures.only (filter_of c.args.self.now)
     c.args.top c.args.key c.requires.below c.first-child.result c.first-child.ensures.value (sym c.if-is_some.ensures)))

@@ -29,11 +29,11 @@ pub loop-at-smaller : goal.loop-at-smaller
 loop-at-smaller c =
     let w : KeyedWalker = record { root = c.self.inside.root; current = c.self.inside.current; filter = filter_of c.self.inside.filter } in
     Reaches-shorter-reject c.args.forest.now w c.args.top c.args.from c.loop-at.at c.in-Some.key c.in-Some.is c.loop-at.invariant
-    c.aside-at.result c.aside-at.ensures.value
+    c.beside-at.result c.beside-at.ensures.value
 
 pub loop-at-preserved : goal.loop-at-preserved
 loop-at-preserved c =
     let w : KeyedWalker = record { root = c.self.inside.root; current = c.self.inside.current; filter = filter_of c.self.inside.filter } in
-    Reaches-reject c.args.forest.now w c.args.top c.args.from c.loop-at.at c.in-Some.key c.in-Some.is c.loop-at.invariant c.aside-at.result
-    c.aside-at.ensures.below c.aside-at.ensures.stop
-    (ap Some (sym c.in-Some-Reject.field-0-is) ∙ c.in-Some-Reject.ensures) c.aside-at.ensures.value
+    Reaches-reject c.args.forest.now w c.args.top c.args.from c.loop-at.at c.in-Some.key c.in-Some.is c.loop-at.invariant c.beside-at.result
+    c.beside-at.ensures.below c.beside-at.ensures.stop
+    (ap Some (sym c.in-Some-Reject.field-0-is) ∙ c.in-Some-Reject.ensures) c.beside-at.ensures.value

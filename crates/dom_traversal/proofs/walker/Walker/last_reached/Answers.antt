@@ -43,9 +43,9 @@ returns-then-accepts-clause-value c =
     (filter (is_candidate f.trees (walker_view f.names v) (stop_of f.trees v.filter (name_at f.names c.args.top) from))
     (up_to_tree f.trees (stop_of f.trees v.filter (name_at f.names c.args.top) from) from))) c.self.view_is hit
 
-pub aback-at-requires-clause-below : goal.aback-at-requires-clause-below
-aback-at-requires-clause-below c =
-    let at = (goal.at.aback-at-requires-clause-below c).After-lowest-low in
+pub beside-at-requires-clause-below : goal.beside-at-requires-clause-below
+beside-at-requires-clause-below c =
+    let at = (goal.at.beside-at-requires-clause-below c).After-lowest-low in
     low_stands c.args.forest.now c.law_nodes_stand_once.ensures.once c.law_nodes_stand_once.ensures.only (walker at) c.args.top (placed at).current
     c.args.from c.loop-at.at c.in-Some.key c.in-Some.is c.loop-at.invariant c.lowest-low.result (low at)
 
@@ -53,11 +53,11 @@ pub loop-at-smaller : goal.loop-at-smaller
 loop-at-smaller c =
     let at = (goal.at.loop-at-smaller c).After-lowest-low in
     ReachesBack-shorter c.args.forest.now c.law_nodes_stand_once.ensures.once c.law_nodes_stand_once.ensures.only (walker at) c.args.top (placed at).current
-    c.args.from c.loop-at.at c.in-Some.key c.in-Some.is c.loop-at.invariant c.lowest-low.result (low at) c.aback-at.result c.aback-at.ensures.value
+    c.args.from c.loop-at.at c.in-Some.key c.in-Some.is c.loop-at.invariant c.lowest-low.result (low at) c.beside-at.result c.beside-at.ensures.value
 
 pub loop-at-preserved : goal.loop-at-preserved
 loop-at-preserved c =
     let at = (goal.at.loop-at-preserved c).After-lowest-low in
     ReachesBack-step c.args.forest.now c.law_nodes_stand_once.ensures.once c.law_nodes_stand_once.ensures.only (walker at) c.args.top (placed at).current
-    c.args.from c.loop-at.at c.in-Some.key c.in-Some.is c.loop-at.invariant c.lowest-low.result (low at) c.aback-at.result c.aback-at.ensures.value
-    (sym c.if-accepts.ensures) c.aback-at.ensures.below c.aback-at.ensures.stop c.aback-at.ensures.path
+    c.args.from c.loop-at.at c.in-Some.key c.in-Some.is c.loop-at.invariant c.lowest-low.result (low at) c.beside-at.result c.beside-at.ensures.value
+    (sym c.if-accepts.ensures) c.beside-at.ensures.below c.beside-at.ensures.stop c.beside-at.ensures.path

@@ -2,11 +2,11 @@ use Rattle.std.proofs.Common.{length}
 use Rattle.dom_model.specs.Tree.{ancestors}
 use Rattle.dom_tree.specs.Forest.{name_at}
 use Rattle.dom_traversal.specs.Filters.{filter_of}
-use Rattle.dom_traversal.proofs.SearchBack.{HasRisen}
-use Rattle.dom_traversal.proofs.filter.Filter.aback.Given as goal
+use Rattle.dom_traversal.proofs.Beside.{HasRisen}
+use Rattle.dom_traversal.proofs.filter.Filter.beside.Given as goal
 
 abbrev pub invariant-up : goal.invariant-up
-invariant-up l = HasRisen l.forest (filter_of l.self) l.top l.fn.key l.at
+invariant-up l = HasRisen l.direction l.forest (filter_of l.self) l.top l.fn.key l.at
 
 abbrev pub decreases-up : goal.decreases-up
 decreases-up l = length (ancestors l.forest.trees (name_at l.forest.names l.at))

@@ -1,0 +1,13 @@
+use Rattle.std.proofs.Common.{subst}
+use Rattle.std.specs.Option.{ForSome}
+use Rattle.dom_traversal.specs.declared.iter.Direction.{Direction}
+use Rattle.dom_traversal.specs.Walkers.{Begins}
+use Rattle.dom_traversal.proofs.walker.Walker.reached.Goals as goal
+
+pub first_reached-requires-clause-begins : goal.first_reached-requires-clause-begins
+first_reached-requires-clause-begins c =
+    subst (λ (d : Direction). ForSome c.args.from (Begins d c.args.forest.now c.args.self.now c.args.top)) c.in-Next.is c.requires.begins
+
+pub last_reached-requires-clause-begins : goal.last_reached-requires-clause-begins
+last_reached-requires-clause-begins c =
+    subst (λ (d : Direction). ForSome c.args.from (Begins d c.args.forest.now c.args.self.now c.args.top)) c.in-Previous.is c.requires.begins
