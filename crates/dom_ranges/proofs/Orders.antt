@@ -1,8 +1,8 @@
 -- The order of boundary points in the list of ends, and the tests by which it is searched.
-use Rattle.std.proofs.Common.{◌≡◌, inl, inr, ℕ, ◌≤◌, Bool, true, false, List, get_or, eqb, ltb, leb, refl, sym, ap, subst, arith}
+use Rattle.std.proofs.Common.{◌≡◌, inl, inr, ℕ, ◌≤◌, Bool, true, false, List, get_or, eqb, ltb, leb, sym, ap, subst, arith}
 use Rattle.std.specs.Prelude.{◌&&◌, ◌||◌}
 use Rattle.std.specs.List.Sorted.{IsPartitionedBy}
-use Rattle.std.proofs.lemmas.Bool.{cases_Bool, eqb-true, eqb-false, ltb-true, ltb-false, leb-true, leb-false}
+use Rattle.std.proofs.lemmas.Bool.{cases_Bool, or_cases, or_parts, and_parts, and_cases, eqb-true, eqb-false, ltb-true, ltb-false, leb-true, leb-false}
 use Rattle.dom_model.specs.Place.{Boundary}
 use Rattle.dom_ranges.specs.declared.ends.RangeEnd.{RangeEnd}
 use Rattle.dom_ranges.specs.Listed.{AtMost, AtMostBut, LessThan, IsSortedByPoint, point_of}
@@ -17,66 +17,55 @@ is_less b e = ltb e.node b.node || (eqb e.node b.node && ltb e.offset b.offset)
 
 -- ---- what the tests say
 
+-- a test of two numbers, and of more where they are the same
+lex-true : {a c : ℕ} {t : Bool} → ltb a c || (eqb a c && t) ≡ true → (a ≤ c) × (a ≡ c → t ≡ true)
+lex-true {a} {c} {t} h = elim (or_cases (ltb a c) (eqb a c && t) h) [
+  | inl f ↦ (omega (arith, ltb-true a c f), λ s. absurd (omega (arith, ltb-true a c f, s)))
+  | inr f ↦ let same = and_parts (eqb a c) t f in (omega (arith, eqb-true a c same.0), λ _. same.1)
+]
+
+lex-false : {a c : ℕ} {t : Bool} → ltb a c || (eqb a c && t) ≡ false → (c ≤ a) × (c ≡ a → t ≡ false)
+lex-false {a} {c} {t} h =
+    let off = or_parts (ltb a c) (eqb a c && t) h in
+    (ltb-false a c off.0, λ s. elim (and_cases (eqb a c) t off.1) [ inl f ↦ absurd (eqb-false a c f (sym s)) | inr f ↦ f ])
+
 pub at_most-true : (b : Boundary ℕ) (e : RangeEnd) → is_at_most b e ≡ true → AtMost (point_of e) b
-at_most-true b e = by refl refl refl
-  where
-    by : {x y z : Bool} → ltb e.node b.node ≡ x → eqb e.node b.node ≡ y → leb e.offset b.offset ≡ z → x || (y && z) ≡ true → AtMost (point_of e) b
-    by {x = true} f g h i = (omega (arith, ltb-true e.node b.node f), λ s. absurd (omega (arith, ltb-true e.node b.node f, s)))
-    by {x = false} {y = true} {z = true} f g h i = (omega (arith, eqb-true e.node b.node g), λ _. leb-true e.offset b.offset h)
-    by {x = false} {y = true} {z = false} f g h i = cc
-    by {x = false} {y = false} f g h i = cc
+at_most-true b e h = let t = lex-true h in (t.0, λ s. leb-true e.offset b.offset (t.1 s))
 
 pub at_most-false : (b : Boundary ℕ) (e : RangeEnd) → is_at_most b e ≡ false → LessThan b (point_of e)
-at_most-false b e = by refl refl refl
-  where
-    by : {x y z : Bool} → ltb e.node b.node ≡ x → eqb e.node b.node ≡ y → leb e.offset b.offset ≡ z → x || (y && z) ≡ false → LessThan b (point_of e)
-    by {x = true} f g h i = cc
-    by {x = false} {y = true} {z = true} f g h i = cc
-    by {x = false} {y = true} {z = false} f g h i = (ltb-false e.node b.node f, λ _. leb-false e.offset b.offset h)
-    by {x = false} {y = false} f g h i = (ltb-false e.node b.node f, λ s. absurd (eqb-false e.node b.node g (sym s)))
+at_most-false b e h = let t = lex-false h in (t.0, λ s. leb-false e.offset b.offset (t.1 s))
 
 pub less-true : (b : Boundary ℕ) (e : RangeEnd) → is_less b e ≡ true → LessThan (point_of e) b
-less-true b e = by refl refl refl
-  where
-    by : {x y z : Bool} → ltb e.node b.node ≡ x → eqb e.node b.node ≡ y → ltb e.offset b.offset ≡ z → x || (y && z) ≡ true → LessThan (point_of e) b
-    by {x = true} f g h i = (omega (arith, ltb-true e.node b.node f), λ s. absurd (omega (arith, ltb-true e.node b.node f, s)))
-    by {x = false} {y = true} {z = true} f g h i = (omega (arith, eqb-true e.node b.node g), λ _. ltb-true e.offset b.offset h)
-    by {x = false} {y = true} {z = false} f g h i = cc
-    by {x = false} {y = false} f g h i = cc
+less-true b e h = let t = lex-true h in (t.0, λ s. ltb-true e.offset b.offset (t.1 s))
 
 pub less-false : (b : Boundary ℕ) (e : RangeEnd) → is_less b e ≡ false → AtMost b (point_of e)
-less-false b e = by refl refl refl
-  where
-    by : {x y z : Bool} → ltb e.node b.node ≡ x → eqb e.node b.node ≡ y → ltb e.offset b.offset ≡ z → x || (y && z) ≡ false → AtMost b (point_of e)
-    by {x = true} f g h i = cc
-    by {x = false} {y = true} {z = true} f g h i = cc
-    by {x = false} {y = true} {z = false} f g h i = (ltb-false e.node b.node f, λ _. ltb-false e.offset b.offset h)
-    by {x = false} {y = false} f g h i = (ltb-false e.node b.node f, λ s. absurd (eqb-false e.node b.node g (sym s)))
+less-false b e h = let t = lex-false h in (t.0, λ s. ltb-false e.offset b.offset (t.1 s))
 
 -- ---- sorted lists
 
--- the tests part a sorted list
-pub IsPartitionedBy-at_most : (b : Boundary ℕ) (es : List RangeEnd) → IsSortedByPoint es → IsPartitionedBy (is_at_most b) es
-IsPartitionedBy-at_most b es sorted i j d le l e = elim (cases_Bool (is_at_most b (get_or es i d))) [
+-- boundary points do not come one after the other in a circle
+circle : (b c d : Boundary ℕ) → AtMost b c → AtMost c d → LessThan d b → ⊥
+circle b c d f g h =
+    let same : b.node ≡ c.node = omega (arith, f.0, g.0, h.0) in
+    let same_too : c.node ≡ d.node = omega (arith, f.0, g.0, h.0) in
+    omega (arith, f.1 same, g.1 same_too, h.1 (omega (arith, same, same_too)))
+
+-- a test parts a sorted list if it holds of what comes before an end of which it holds
+parted : (p : RangeEnd → Bool) (es : List RangeEnd) → IsSortedByPoint es →
+    ((x y : RangeEnd) → AtMost (point_of x) (point_of y) → p y ≡ true → p x ≡ false → ⊥) → IsPartitionedBy p es
+parted p es sorted apart i j d le l e = elim (cases_Bool (p (get_or es i d))) [
   | inl f ↦ f
-  | inr f ↦
-      let up = at_most-true b (get_or es j d) e in
-      let past = at_most-false b (get_or es i d) f in
-      let s = sorted i j d le l in
-      absurd (let same : b.node ≡ (get_or es i d).node = omega (arith, up.0, past.0, s.0) in
-      omega (arith, past.1 same, s.1 (omega (arith, up.0, s.0, same)), up.1 (omega (arith, up.0, s.0, same))))
+  | inr f ↦ absurd (apart (get_or es i d) (get_or es j d) (sorted i j d le l) e f)
 ]
 
+-- so the two tests do
+pub IsPartitionedBy-at_most : (b : Boundary ℕ) (es : List RangeEnd) → IsSortedByPoint es → IsPartitionedBy (is_at_most b) es
+IsPartitionedBy-at_most b es sorted =
+    parted (is_at_most b) es sorted (λ x y s e f. circle (point_of x) (point_of y) b s (at_most-true b y e) (at_most-false b x f))
+
 pub IsPartitionedBy-less : (b : Boundary ℕ) (es : List RangeEnd) → IsSortedByPoint es → IsPartitionedBy (is_less b) es
-IsPartitionedBy-less b es sorted i j d le l e = elim (cases_Bool (is_less b (get_or es i d))) [
-  | inl f ↦ f
-  | inr f ↦
-      let up = less-true b (get_or es j d) e in
-      let past = less-false b (get_or es i d) f in
-      let s = sorted i j d le l in
-      absurd (let same : b.node ≡ (get_or es i d).node = omega (arith, up.0, past.0, s.0) in
-      omega (arith, past.1 same, s.1 (omega (arith, up.0, s.0, same)), up.1 (omega (arith, up.0, s.0, same))))
-]
+IsPartitionedBy-less b es sorted =
+    parted (is_less b) es sorted (λ x y s e f. circle b (point_of x) (point_of y) (less-false b x f) s (less-true b y e))
 
 -- a boundary point is not before itself
 pub not-less : (b c : Boundary ℕ) → b ≡ c → LessThan b c → ⊥

@@ -13,7 +13,7 @@ use crate::change::{Closing, Leaving};
 use crate::ends::{RangeEnd, Span};
 use crate::indexes::index_before_ends;
 use crate::moving::{move_concerned, move_ends};
-use crate::searching::part_of;
+use crate::searching::part_near;
 use crate::table::Points;
 use dom_tree::Forest;
 use node_arena::Key;
@@ -73,9 +73,9 @@ fn close(live: &mut Slab<Points>, ends: &mut [RangeEnd], parent: Key, index: usi
     move_concerned(live, ends, &Closing { parent, index });
 }
 
-/// The places from the first to the last of the ends that are at nodes in the tree of `top`. Each node of the tree costs
-/// two binary searches in the list. Where the tree has more nodes than the list has ends, the walk stops after as many:
-/// to test each end is less then.
+/// The places from the first to the last of the ends that are at nodes in the tree of `top`. A node of the tree costs two
+/// binary searches in the list, unless no end is at it or between it and the node before it. Where the tree has more nodes
+/// than the list has ends, the walk stops after as many: to test each end is less then.
 fn part_inside(forest: &Forest, top: Key, ends: &[RangeEnd]) -> Span
     requires sorted { IsSortedByPoint ends.now }
     requires nodes { (k : ℕ) (d : RangeEnd) → k < length ends.now → (IsNode forest.now top) ×
@@ -89,13 +89,16 @@ fn part_inside(forest: &Forest, top: Key, ends: &[RangeEnd]) -> Span
         behind: 0,
     };
     let mut left = ends.len();
+    let mut near = 0;
     let mut at = Some(top);
     while let Some(key) = at {
         if left == 0 {
             return part_tested(forest, top, ends);
         }
         left -= 1;
-        part = part.around(part_of(ends, key));
+        let here = part_near(ends, near, key);
+        near = here.first;
+        part = part.around(here);
         at = forest.following(key, top);
     }
     part

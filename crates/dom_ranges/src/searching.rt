@@ -40,6 +40,48 @@ pub(crate) fn part_of(ends: &[RangeEnd], node: Key) -> Span
     }
 }
 
+/// The places of the ends at a node. A place is tried first: where the node is between those of the two ends around it, no end
+/// is at the node, and nothing is searched for.
+pub(crate) fn part_near(ends: &[RangeEnd], place: usize, node: Key) -> Span
+    requires sorted { IsSortedByPoint ends.now }
+    requires within { place ≤ length ends.now }
+    ensures order { result.first ≤ result.behind }
+    ensures within { result.behind ≤ length ends.now }
+    ensures all { (k : ℕ) (d : RangeEnd) → k < length ends.now → (slice_index_or ends.now k d).node ≡ node → is_in result k ≡ true }
+{
+    if are_before(ends, place, node) && are_behind(ends, place, node) {
+        return Span {
+            first: place,
+            behind: place,
+        };
+    }
+    part_of(ends, node)
+}
+
+/// Whether all ends before a place are at lesser nodes than one.
+fn are_before(ends: &[RangeEnd], place: usize, node: Key) -> bool
+    requires sorted { IsSortedByPoint ends.now }
+    requires within { place ≤ length ends.now }
+    ensures { result ≡ true → (k : ℕ) (d : RangeEnd) → k < place → (slice_index_or ends.now k d).node < node }
+{
+    if place == 0 {
+        return true;
+    }
+    ends[place - 1].node < node
+}
+
+/// Whether all ends from a place on are at greater nodes than one.
+fn are_behind(ends: &[RangeEnd], place: usize, node: Key) -> bool
+    requires sorted { IsSortedByPoint ends.now }
+    requires within { place ≤ length ends.now }
+    ensures { result ≡ true → (k : ℕ) (d : RangeEnd) → place ≤ k → k < length ends.now → node < (slice_index_or ends.now k d).node }
+{
+    if place == ends.len() {
+        return true;
+    }
+    node < ends[place].node
+}
+
 /// The places of the ends at a boundary point.
 pub(crate) fn part_at(ends: &[RangeEnd], node: Key, offset: usize) -> Span
     requires { IsSortedByPoint ends.now }

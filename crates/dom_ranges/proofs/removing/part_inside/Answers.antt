@@ -17,6 +17,7 @@ loop-at-init c =
       stands = λ some. top-stands f c.args.top e.once e.only (c.requires.nodes 0 (end_in 0 false (at 0 0)) some).0;
       few = omega arith;
       within = omega arith;
+      near = omega arith;
       ahead = λ k d l out. all-from_top f c.args.top e.once e.only (c.requires.nodes k d l).0 (name_at f.names (get_or c.args.ends.now k d).node);
     }
 
@@ -43,11 +44,12 @@ loop-at-preserved c =
     record {
       stands = λ _. step.1;
       few = omega arith;
-      within = c.around-part.ensures.within (length c.args.ends.now) c.loop-at.invariant.within c.part_of.ensures.within;
+      within = c.around-part.ensures.within (length c.args.ends.now) c.loop-at.invariant.within c.part_near-here.ensures.within;
+      near = omega (arith, c.part_near-here.ensures.order, c.part_near-here.ensures.within);
       ahead = λ k d l out i.
           next-from f c.args.top c.following-at.result c.in-Some.is step.0
           (λ same. true≢false (sym (c.around-part.ensures.second k
-          (c.part_of.ensures.all k d l (e.distinct _ _ (c.requires.nodes k d l).1 key_is_node same))) ∙ out))
+          (c.part_near-here.ensures.all k d l (e.distinct _ _ (c.requires.nodes k d l).1 key_is_node same))) ∙ out))
           (c.loop-at.invariant.ahead k d l (false_from_ne_true _ (λ was. true≢false (sym (c.around-part.ensures.first k was) ∙ out))) i);
     }
 

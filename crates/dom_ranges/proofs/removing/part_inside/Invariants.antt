@@ -14,6 +14,7 @@ invariant-loop-at l = record {
   stands : 0 < length l.ends → ForSome l.at (StandsIn l.forest l.top);
   few : l.left ≤ length l.ends;
   within : l.part.behind ≤ length l.ends;
+  near : l.near ≤ length l.ends;
   ahead : (k : ℕ) (d : RangeEnd) → k < length l.ends → is_in l.part k ≡ false →
       In (name_at l.forest.names (get_or l.ends k d).node) (inclusive_descendants l.forest.trees (name_at l.forest.names l.top))
       → In (name_at l.forest.names (get_or l.ends k d).node)

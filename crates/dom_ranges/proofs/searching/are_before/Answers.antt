@@ -1,0 +1,12 @@
+use Rattle.std.proofs.Common.{◌-◌, get_or, ap, arith, rules, ◌<◌}
+use Rattle.std.proofs.lemmas.List.{get_or_default}
+use Rattle.dom_ranges.specs.declared.ends.RangeEnd.{RangeEnd}
+use Rattle.dom_ranges.proofs.searching.are_before.Goals as goal
+
+pub returns : goal.returns
+returns c = λ e k d l.
+    let es = c.args.ends.now in
+    let last = c.args.place - 1 in
+    let end = c.index-ends-place.result in
+    let less : (get_or es last end).node < c.args.node = search rules in
+    omega (arith, less, ap (λ (x : RangeEnd). x.node) (get_or_default es last d end (omega arith)), (c.requires.sorted k last d (omega arith) (omega arith)).0)

@@ -1,0 +1,12 @@
+use Rattle.std.proofs.Common.{get_or, ap, arith, rules, ◌<◌}
+use Rattle.std.proofs.lemmas.List.{get_or_default}
+use Rattle.dom_ranges.specs.declared.ends.RangeEnd.{RangeEnd}
+use Rattle.dom_ranges.proofs.searching.are_behind.Goals as goal
+
+pub returns : goal.returns
+returns c = λ e k d from l.
+    let es = c.args.ends.now in
+    let place = c.args.place in
+    let end = c.index-ends-place.result in
+    let more : c.args.node < (get_or es place end).node = search rules in
+    omega (arith, more, ap (λ (x : RangeEnd). x.node) (get_or_default es place d end (omega arith)), (c.requires.sorted place k d from l).0)
