@@ -1,6 +1,6 @@
 //! At which nodes an owner's iterators stand: their references in a sorted list, where those at one node are found by
 //! binary search.
-ghost use Rattle.std.specs.Prelude.{◌≡◌, ◌⊎◌, ℕ, ◌<◌, ◌≤◌, length, slice_index_or, IsSome};
+ghost use Rattle.std.specs.Prelude.{◌≡◌, ◌⊎◌, true, ℕ, ◌<◌, ◌≤◌, length, slice_index_or, IsSome};
 ghost use Rattle.std.specs.List.{Contains};
 ghost use Rattle.std.specs.Option.{ForSome};
 ghost use Rattle.std.specs.Vec.{vec_len, vec_capacity};
@@ -26,17 +26,52 @@ fn place_of(references: &[Reference], node: Key, number: usize) -> usize
         || reference.node == node && reference.number < number)
 }
 
-/// The least number, from `least` on, of an iterator whose reference is a node.
-pub(crate) fn number_at(references: &[Reference], node: Key, least: usize) -> Option<usize>
+/// The least number, from `least` on, of an iterator whose reference is a node. A place is tried first: where the node is
+/// between those of the two references around it, nothing is searched for. It becomes the place of what is searched for.
+pub(crate) fn number_at(
+    references: &[Reference],
+    node: Key,
+    least: usize,
+    near: &mut usize,
+) -> Option<usize>
     requires { AreSorted references.now }
     ensures found { ForSome result (λ n. (least ≤ n) × Contains references.now (reference_at node n)) }
     ensures least { (n : ℕ) → least ≤ n → Contains references.now (reference_at node n) → IsSome result × ForSome result (λ m. m ≤ n) }
 {
+    let around = references.len().min(*near);
+    if are_before(references, around, node) && are_behind(references, around, node) {
+        return None;
+    }
     let place = place_of(references, node, least);
+    *near = place;
     if place < references.len() && references[place].node == node {
         return Some(references[place].number);
     }
     None
+}
+
+/// Whether all references before a place are lesser nodes than one.
+fn are_before(references: &[Reference], place: usize, node: Key) -> bool
+    requires sorted { AreSorted references.now }
+    requires within { place ≤ length references.now }
+    ensures { result ≡ true → (k : ℕ) (d : Reference) → k < place → (slice_index_or references.now k d).node < node }
+{
+    if place == 0 {
+        return true;
+    }
+    references[place - 1].node < node
+}
+
+/// Whether all references from a place on are greater nodes than one.
+fn are_behind(references: &[Reference], place: usize, node: Key) -> bool
+    requires sorted { AreSorted references.now }
+    requires within { place ≤ length references.now }
+    ensures { result ≡ true → (k : ℕ) (d : Reference) → place ≤ k → k < length references.now → node < (slice_index_or references.now k d).node }
+{
+    if place == references.len() {
+        return true;
+    }
+    node < references[place].node
 }
 
 /// Lists the reference of one iterator more, for which there is room.

@@ -115,6 +115,7 @@ impl OwnTables {
     {
         forest.law_nodes_stand_once();
         let mut left = self.iterators.len();
+        let mut near = 0;
         let mut at = Some(node);
         while let Some(key) = at {
             if left == 0 {
@@ -122,13 +123,13 @@ impl OwnTables {
                 return;
             }
             left -= 1;
-            self.leave_from(forest, node, key);
+            self.leave_from(forest, node, key, &mut near);
             at = forest.following(key, node);
         }
     }
 
-    /// Lets the iterators that stand at a key's node leave the tree of a node.
-    fn leave_from(&mut self, forest: &Forest, node: Key, key: Key)
+    /// Lets the iterators that stand at a key's node leave the tree of a node. Their references are sought near a place first.
+    fn leave_from(&mut self, forest: &Forest, node: Key, key: Key, near: &mut usize)
         requires node_is_node { IsNode forest.now node }
         requires iterators { EachItem (IsIteratorOf forest.now) self.old.iterators }
         ensures may { MayHaveLeft forest.now node self.old.iterators self.new.iterators }
@@ -138,7 +139,7 @@ impl OwnTables {
         ensures walkers { self.new.walkers ≡ self.old.walkers }
     {
         let mut least = 0;
-        while let Some(number) = number_at(self.references.as_slice(), key, least) {
+        while let Some(number) = number_at(self.references.as_slice(), key, least, near) {
             self.leave_one(forest, node, number);
             least = number + 1;
         }

@@ -1,11 +1,21 @@
-use Rattle.std.proofs.Common.{◌≤◌, refl, sym, subst, ◌∙◌, arith}
+use Rattle.std.proofs.Common.{◌≤◌, inl, inr, ap, refl, sym, subst, ◌∙◌, arith}
 use Rattle.std.proofs.lemmas.Option.{same_Some}
-use Rattle.std.proofs.lemmas.Bool.{eqb-false}
+use Rattle.std.proofs.lemmas.Bool.{cases_lt, eqb-false}
+use Rattle.dom_traversal.specs.declared.references.Reference.{Reference}
 use Rattle.dom_traversal.specs.References.{reference_at}
 use Rattle.dom_traversal.proofs.Standing.{place-between}
 use Rattle.dom_traversal.proofs.references.number_at.Goals as goal
 use Rattle.dom_traversal.proofs.references.number_at.Goals.{else-place-references-via-then-place-references+else-eq}
 use Rattle.dom_traversal.proofs.references.number_at.Goals.{else-place-references-via-else-place-references}
+
+pub returns-then-are_behind-clause-least : goal.returns-then-are_behind-clause-least
+returns-then-are_behind-clause-least c n le w =
+    let x = reference_at c.args.node n in
+    let node = ap (λ (y : Reference). y.node) w.2 in
+    elim (cases_lt w.0 c.min-around.result) [
+      | inl l ↦ let less = c.are_before.ensures c.if-are_before.true w.0 x l in absurd (omega (arith, less, node))
+      | inr l ↦ let more = c.are_behind.ensures c.if-are_behind.true w.0 x l w.1 in absurd (omega (arith, more, node))
+    ]
 
 pub returns-then-eq-clause-least : goal.returns-then-eq-clause-least
 returns-then-eq-clause-least c n le w =

@@ -1,0 +1,12 @@
+use Rattle.std.proofs.Common.{◌-◌, get_or, ap, arith, rules, ◌<◌}
+use Rattle.std.proofs.lemmas.List.{get_or_default}
+use Rattle.dom_traversal.specs.declared.references.Reference.{Reference}
+use Rattle.dom_traversal.proofs.references.are_before.Goals as goal
+
+pub returns : goal.returns
+returns c = λ e k d l.
+    let xs = c.args.references.now in
+    let last = c.args.place - 1 in
+    let end = c.index-references-place.result in
+    let less : (get_or xs last end).node < c.args.node = search rules in
+    omega (arith, less, ap (λ (x : Reference). x.node) (get_or_default xs last d end (omega arith)), (c.requires.sorted k last d (omega arith) (omega arith)).0)
