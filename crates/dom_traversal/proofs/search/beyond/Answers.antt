@@ -6,8 +6,9 @@ use Rattle.dom_laws.specs.Within.{beyond}
 use Rattle.dom_laws.proofs.Order.{IsWithin}
 use Rattle.dom_laws.proofs.Steps.{top_places}
 use Rattle.dom_tree.proofs.Searching.{IsWithin-key}
-use Rattle.dom_traversal.proofs.Climbing.{inner-name, next_step, climb_step, climb_ends}
+use Rattle.dom_traversal.proofs.Climbing.{Climbs, inner-name, next_step, climb_step, climb_ends}
 use Rattle.dom_laws.proofs.Options.{no_key}
+use Rattle.dom_traversal.proofs.search.beyond.Goals.{In_ok-at}
 use Rattle.dom_traversal.proofs.search.beyond.Goals as goal
 
 pub returns-then-is_some : goal.returns-then-is_some
@@ -23,21 +24,20 @@ returns-in_err-at-clause-value c =
     c.requires.top_is_node c.loop-top.invariant.stands (sym c.loop-top-test.ensures) in
     absurd (climb_ends inner c.in_err-at.ensures.value)
 
-pub loop-top-smaller : goal.loop-top-smaller
-loop-top-smaller c =
-    let f = c.args.forest.now in
+-- the step up to the parent
+climbs : (c : In_ok-at) → Climbs c.args.forest.now c.args.top c.loop-top.at c.in_ok-at.at
+climbs c =
     let inner = inner-name c.law_nodes_stand_once.ensures.once c.law_nodes_stand_once.ensures.only c.law_nodes_stand_once.ensures.distinct
     c.requires.top_is_node c.loop-top.invariant.stands (sym c.loop-top-test.ensures) in
-    let last = no_key (name_at f.names) c.next-next.result c.next-next.ensures.value (sym c.if-is_some.ensures) in
-    (climb_step c.in_ok-at.at inner last c.in_ok-at.ensures.value (c.in_ok-at.ensures.node c.in_ok-at.at refl)).higher
+    let last = no_key (name_at c.args.forest.now.names) c.next-next.result c.next-next.ensures.value (sym c.if-is_some.ensures) in
+    climb_step c.in_ok-at.at inner last c.in_ok-at.ensures.value (c.in_ok-at.ensures.node c.in_ok-at.at refl)
+
+pub loop-top-smaller : goal.loop-top-smaller
+loop-top-smaller c = (climbs (goal.at.loop-top-smaller c).In_ok-at).higher
 
 pub loop-top-preserved : goal.loop-top-preserved
 loop-top-preserved c =
-    let f = c.args.forest.now in
-    let inner = inner-name c.law_nodes_stand_once.ensures.once c.law_nodes_stand_once.ensures.only c.law_nodes_stand_once.ensures.distinct
-    c.requires.top_is_node c.loop-top.invariant.stands (sym c.loop-top-test.ensures) in
-    let last = no_key (name_at f.names) c.next-next.result c.next-next.ensures.value (sym c.if-is_some.ensures) in
-    let up = climb_step c.in_ok-at.at inner last c.in_ok-at.ensures.value (c.in_ok-at.ensures.node c.in_ok-at.at refl) in
+    let up = climbs (goal.at.loop-top-preserved c).In_ok-at in
     record { stands = up.stands; left = sym up.beyond_is ∙ c.loop-top.invariant.left }
 
 pub returns-clause-value : goal.returns-clause-value

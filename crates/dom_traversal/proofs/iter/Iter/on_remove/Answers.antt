@@ -15,6 +15,7 @@ use Rattle.dom_laws.proofs.Options.{none_left}
 use Rattle.dom_base.specs.declared.NodeName.{NodeName}
 use Rattle.dom_tree.proofs.Searching.{IsWithin-key, preceding_step}
 use Rattle.dom_laws.proofs.Chains.{above-chain, beyond-outside, ahead-outside, some_ahead}
+use Rattle.dom_traversal.proofs.iter.Iter.on_remove.Goals.{Else-not-is_inclusive_ancestor}
 use Rattle.dom_traversal.proofs.iter.Iter.on_remove.Goals as goal
 
 -- A node that does not stand above the root.
@@ -42,21 +43,20 @@ module _ (f : NamedTrees) (once : StandOnce f) (only : StandAlone f) (root node 
       (above-within f.trees (name_at f.names root) (name_at f.names root) top)))
       (sym is ∙ ap (option_map (name_at f.names)) (none_left found empty))
 
-pub beyond-requires-clause-stands : goal.beyond-requires-clause-stands
-beyond-requires-clause-stands c =
+-- what is removed stands in the root's tree
+below : (c : Else-not-is_inclusive_ancestor) → StandsIn c.args.forest.now c.self.inside.root c.args.node
+below c =
     let f = c.args.forest.now in
     let placed = subst (IsIteratorOf f) (sym c.self.view_is) c.requires.iterator in
     below_root f c.law_nodes_stand_once.ensures.once c.law_nodes_stand_once.ensures.only c.self.inside.root c.args.node
     (sym c.if-is_inclusive_ancestor.ensures) c.self.inside.reference placed.reference c.requires.node_is_node
     (sym c.if-not-is_inclusive_ancestor.ensures)
 
+pub beyond-requires-clause-stands : goal.beyond-requires-clause-stands
+beyond-requires-clause-stands c = below (goal.at.beyond-requires-clause-stands c).Else-not-is_inclusive_ancestor
+
 pub preceding-requires-clause-within : goal.preceding-requires-clause-within
-preceding-requires-clause-within c =
-    let f = c.args.forest.now in
-    let placed = subst (IsIteratorOf f) (sym c.self.view_is) c.requires.iterator in
-    (below_root f c.law_nodes_stand_once.ensures.once c.law_nodes_stand_once.ensures.only c.self.inside.root c.args.node
-    (sym c.if-is_inclusive_ancestor.ensures) c.self.inside.reference placed.reference c.requires.node_is_node
-    (sym c.if-not-is_inclusive_ancestor.ensures)).within
+preceding-requires-clause-within c = (below (goal.at.preceding-requires-clause-within c).Else-not-is_inclusive_ancestor).within
 
 pub returns-in-Some-clause-left : goal.returns-in-Some-clause-left
 returns-in-Some-clause-left c =
@@ -66,32 +66,22 @@ returns-in-Some-clause-left c =
 
 pub returns-in-Some-preceding-clause-kept : goal.returns-in-Some-preceding-clause-kept
 returns-in-Some-preceding-clause-kept c =
-    let f = c.args.forest.now in
-    let placed = subst (IsIteratorOf f) (sym c.self.view_is) c.requires.iterator in
-    let below = below_root f c.law_nodes_stand_once.ensures.once c.law_nodes_stand_once.ensures.only c.self.inside.root c.args.node
-    (sym c.if-is_inclusive_ancestor.ensures) c.self.inside.reference placed.reference c.requires.node_is_node
-    (sym c.if-not-is_inclusive_ancestor.ensures) in
-    let step = preceding_step c.law_nodes_stand_once.ensures.once c.law_nodes_stand_once.ensures.only
-    (Some c.in-Some-preceding.previous) below c.in-Some-preceding.ensures.value c.in-Some-preceding.ensures.node in
-    record { root = placed.root; reference = step.1 c.in-Some-preceding.previous refl }
+    let step = preceding_step c.law_nodes_stand_once.ensures.once c.law_nodes_stand_once.ensures.only (Some c.in-Some-preceding.previous)
+    (below (goal.at.returns-in-Some-preceding-clause-kept c).Else-not-is_inclusive_ancestor) c.in-Some-preceding.ensures.value
+    c.in-Some-preceding.ensures.node in
+    record { root = (subst (IsIteratorOf c.args.forest.now) (sym c.self.view_is) c.requires.iterator).root; reference = step.1 c.in-Some-preceding.previous refl }
 
 pub returns-in-Some-preceding-clause-left : goal.returns-in-Some-preceding-clause-left
-returns-in-Some-preceding-clause-left c =
+returns-in-Some-preceding-clause-left c = λ _.
     let f = c.args.forest.now in
-    let placed = subst (IsIteratorOf f) (sym c.self.view_is) c.requires.iterator in
-    let below = below_root f c.law_nodes_stand_once.ensures.once c.law_nodes_stand_once.ensures.only c.self.inside.root c.args.node
-    (sym c.if-is_inclusive_ancestor.ensures) c.self.inside.reference placed.reference c.requires.node_is_node
-    (sym c.if-not-is_inclusive_ancestor.ensures) in
-    λ _. ahead-outside f.trees (name_at f.names c.self.inside.root) (name_at f.names c.args.node) (name_at f.names c.in-Some-preceding.previous)
-    (IsWithin-key f c.law_nodes_stand_once.ensures.once c.law_nodes_stand_once.ensures.only c.self.inside.root c.args.node below)
+    ahead-outside f.trees (name_at f.names c.self.inside.root) (name_at f.names c.args.node) (name_at f.names c.in-Some-preceding.previous)
+    (IsWithin-key f c.law_nodes_stand_once.ensures.once c.law_nodes_stand_once.ensures.only c.self.inside.root c.args.node
+    (below (goal.at.returns-in-Some-preceding-clause-left c).Else-not-is_inclusive_ancestor))
     (sym c.in-Some-preceding.ensures.value)
 
 pub returns-in_default-preceding-clause-left : goal.returns-in_default-preceding-clause-left
-returns-in_default-preceding-clause-left c =
-    let f = c.args.forest.now in
-    let placed = subst (IsIteratorOf f) (sym c.self.view_is) c.requires.iterator in
-    let below = below_root f c.law_nodes_stand_once.ensures.once c.law_nodes_stand_once.ensures.only c.self.inside.root c.args.node
-    (sym c.if-is_inclusive_ancestor.ensures) c.self.inside.reference placed.reference c.requires.node_is_node
-    (sym c.if-not-is_inclusive_ancestor.ensures) in
-    λ _. absurd (not_first f c.law_nodes_stand_once.ensures.once c.law_nodes_stand_once.ensures.only c.self.inside.root c.args.node
-    (sym c.if-is_inclusive_ancestor.ensures) c.preceding.result below c.preceding.ensures.value c.in_default-preceding.not-Some)
+returns-in_default-preceding-clause-left c = λ _.
+    absurd (not_first c.args.forest.now c.law_nodes_stand_once.ensures.once c.law_nodes_stand_once.ensures.only c.self.inside.root c.args.node
+    (sym c.if-is_inclusive_ancestor.ensures) c.preceding.result
+    (below (goal.at.returns-in_default-preceding-clause-left c).Else-not-is_inclusive_ancestor) c.preceding.ensures.value
+    c.in_default-preceding.not-Some)
