@@ -11,14 +11,14 @@ use Rattle.dom_base.specs.declared.NodeName.{NodeName}
 use Rattle.dom_model.specs.Names.{name_eq, owner_eq}
 use Rattle.dom_model.proofs.OwnerLaws.{name_eq-same, owner_eq-true, name_eq-other}
 use Rattle.dom_model.specs.Place.{Boundary}
-use Rattle.dom_model.specs.Ranges.{Range, at, from_to, map_ends, boundary_eq, after_insert, after_removal, after_replace_data, after_split, after_join}
+use Rattle.dom_model.specs.Ranges.{Range, with_start, with_end, at, from_to, map_ends, boundary_eq, after_insert, after_removal, after_replace_data, after_split, after_join}
 use Rattle.dom_model.specs.Tree.{is_inclusive_ancestor}
-use Rattle.dom_tree.specs.Forest.{name_at}
+use Rattle.dom_tree.specs.Forest.{NamedTrees, name_at}
 use Rattle.dom_tree.specs.Apart.{TellApart}
 use Rattle.dom_ranges.specs.Naming.{StandAtNodes, IsNamedRule, InsertNamed, RemovalNamed, ReplaceDataNamed, SplitNamed, JoinNamed}
 use Rattle.dom_ranges.specs.Naming.{StartNamed, EndNamed, GrownNamed, MadeNamed, RemovedNamed, RewrittenNamed, CollapsedNamed, named_ends_by}
 use Rattle.dom_ranges.specs.Rules.{IsAtNode, is_inside}
-use Rattle.dom_ranges.specs.Settings.{named_boundary, named_range, named_ranges, with_named, have_one_root, is_key_before}
+use Rattle.dom_ranges.specs.Settings.{start_set, end_set, named_boundary, named_range, named_ranges, with_named, have_one_root, is_key_before}
 use Rattle.dom_ranges.specs.Tables.{RangeList, RangeLists, EachRange, BothEnds, ends_by, ranges_of, range_in, with_ranges}
 use Rattle.dom_ranges.proofs.Lists.{cons_same}
 
@@ -230,3 +230,19 @@ with-named names t owner k rule o = by (owner_eq owner o) refl
         ∙ ap (λ (p : Owner). slice_set (named_ranges names (ranges_of t p)) k
         (option_map rule.named (option_flatten (slice_get (named_ranges names (ranges_of t p)) k)))) (owner_eq-true owner o e)
     by false e = refl
+
+-- it is, where a range that is there was rewritten
+pub set-named : {names : List NodeName} (t : RangeLists) (owner : Owner) (k : ℕ) (rule : RangeRule names) {now : RangeList} {r s : Range ℕ} (o : Owner) →
+    (now ≡ with_ranges t owner (slice_set (ranges_of t owner) k (Some s)) o) × (s ≡ rule.keyed r) × (range_in (ranges_of t owner) k ≡ Some r)
+    → named_ranges names now ≡ with_named names t owner k rule.named o
+set-named {names} t owner k rule o is =
+    ap (named_ranges names)
+    (is.0 ∙ ap (λ (x : Option (Range ℕ)). with_ranges t owner (slice_set (ranges_of t owner) k x) o) (ap Some is.1 ∙ ap (option_map rule.keyed) (sym is.2)))
+    ∙ with-named names t owner k rule o
+
+-- the rules by which a start and an end are set
+abbrev pub start-rule : (f : NamedTrees) → Boundary ℕ → RangeRule f.names
+start-rule f b = record { keyed = start_set f b; named = with_start f.trees (named_boundary f.names b); agrees = start-named f b }
+
+abbrev pub end-rule : (f : NamedTrees) → Boundary ℕ → RangeRule f.names
+end-rule f b = record { keyed = end_set f b; named = with_end f.trees (named_boundary f.names b); agrees = end-named f b }

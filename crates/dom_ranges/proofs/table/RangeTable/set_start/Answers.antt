@@ -1,21 +1,8 @@
-use Rattle.std.proofs.Common.{ℕ, Option, Some, sym, ap, ◌∙◌}
-use Rattle.std.specs.Prelude.{slice_set}
-use Rattle.std.specs.Option.{option_map}
-use Rattle.dom_model.specs.Ranges.{Range, at, with_start}
-use Rattle.dom_tree.specs.Forest.{name_at}
-use Rattle.dom_ranges.specs.Settings.{named_ranges, start_set}
-use Rattle.dom_ranges.specs.Tables.{ranges_of, with_ranges}
-use Rattle.dom_ranges.proofs.Naming.{start-named, with-named}
+use Rattle.dom_model.specs.Ranges.{at}
+use Rattle.dom_ranges.proofs.Naming.{set-named, start-rule}
 use Rattle.dom_ranges.proofs.table.RangeTable.set_start.Goals as goal
 
 pub returns-clause-named : goal.returns-clause-named
-returns-clause-named c =
-    λ o.
-    let f = c.args.forest.now in
-    let b = at c.args.node c.args.offset in
-    ap (named_ranges f.names)
-    (c.write.ensures o
-    ∙ ap (λ (r : Option (Range ℕ)). with_ranges c.args.self.now c.args.owner (slice_set (ranges_of c.args.self.now c.args.owner) c.args.number r) o)
-    (ap Some c.with_start.ensures ∙ ap (option_map (start_set f b)) (sym c.in_ok-points.ensures.points)))
-    ∙ with-named f.names c.args.self.now c.args.owner c.args.number
-    (record { keyed = start_set f b; named = with_start f.trees (at (name_at f.names c.args.node) c.args.offset); agrees = start-named f b }) o
+returns-clause-named c = λ o.
+    set-named c.args.self.now c.args.owner c.args.number (start-rule c.args.forest.now (at c.args.node c.args.offset)) o
+    (c.write.ensures o, c.with_start.ensures, c.in_ok-points.ensures.points)
