@@ -11,7 +11,8 @@ use Rattle.dom_base.specs.declared.NodeName.{NodeName}
 use Rattle.dom_model.specs.Names.{name_eq, owner_eq}
 use Rattle.dom_model.proofs.OwnerLaws.{name_eq-same, owner_eq-true, name_eq-other}
 use Rattle.dom_model.specs.Place.{Boundary}
-use Rattle.dom_model.specs.Ranges.{Range, with_start, with_end, at, from_to, map_ends, boundary_eq, after_insert, after_removal, after_replace_data, after_split, after_join}
+use Rattle.dom_model.specs.Ranges.{with_start, with_end}
+use Rattle.dom_model.specs.Ranges.{Range, at, from_to, map_ends, boundary_eq, after_insert, after_removal, after_replace_data, after_split, after_join}
 use Rattle.dom_model.specs.Tree.{is_inclusive_ancestor}
 use Rattle.dom_tree.specs.Forest.{NamedTrees, name_at}
 use Rattle.dom_tree.specs.Apart.{TellApart}

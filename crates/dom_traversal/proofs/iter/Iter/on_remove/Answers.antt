@@ -66,10 +66,11 @@ returns-in-Some-clause-left c =
 
 pub returns-in-Some-preceding-clause-kept : goal.returns-in-Some-preceding-clause-kept
 returns-in-Some-preceding-clause-kept c =
+    let placed = subst (IsIteratorOf c.args.forest.now) (sym c.self.view_is) c.requires.iterator in
     let step = preceding_step c.law_nodes_stand_once.ensures.once c.law_nodes_stand_once.ensures.only (Some c.in-Some-preceding.previous)
     (below (goal.at.returns-in-Some-preceding-clause-kept c).Else-not-is_inclusive_ancestor) c.in-Some-preceding.ensures.value
     c.in-Some-preceding.ensures.node in
-    record { root = (subst (IsIteratorOf c.args.forest.now) (sym c.self.view_is) c.requires.iterator).root; reference = step.1 c.in-Some-preceding.previous refl }
+    record { root = placed.root; reference = step.1 c.in-Some-preceding.previous refl }
 
 pub returns-in-Some-preceding-clause-left : goal.returns-in-Some-preceding-clause-left
 returns-in-Some-preceding-clause-left c = λ _.
