@@ -5,7 +5,7 @@ use Rattle.std.specs.Prelude.{option_map, slice_get}
 use Rattle.std.proofs.lemmas.Option.{same_Some, none-some}
 use Rattle.std.specs.Option.{ForSome, option_map_or}
 use Rattle.std.proofs.lemmas.Bool.{cond-true, cond-false}
-use Rattle.std.proofs.lemmas.List.{append_assoc, append-nil, map_push, map-append}
+use Rattle.std.proofs.lemmas.List.{append_assoc, append-nil, map_push}
 use Rattle.dom_base.specs.declared.NodeName.{NodeName}
 use Rattle.dom_model.specs.Names.{name_eq}
 use Rattle.dom_model.specs.Tree.{inclusive_ancestors, parent_of, nodes, names_of}
@@ -13,7 +13,7 @@ use Rattle.dom_model.proofs.OwnerLaws.{name_eq-same, name_eq-other, name_eq-true
 use Rattle.dom_tree.specs.Forest.{NamedTrees, name_at}
 use Rattle.dom_tree.specs.Apart.{TellApart}
 use Rattle.dom_tree.proofs.Standing.{StandOnce, StandAlone, Once-forest, Has-forest}
-use Rattle.dom_laws.proofs.Shapes.{above-parent, above-present, above-root, Has-above}
+use Rattle.dom_laws.proofs.Shapes.{above-parent, above-root, Has-above}
 use Rattle.dom_laws.proofs.Lists.{In, is_in-from}
 use Rattle.dom_laws.proofs.Children.{In-names}
 use Rattle.dom_observers.specs.Paths.{key_of, path_keys}
@@ -66,24 +66,26 @@ module _ (f : NamedTrees) (once : StandOnce f) (only : StandAlone f) where
   climbs k (Some p) node is = (above-parent f.trees (name_at f.names k) (name_at f.names p) (Once-forest f once only) (Has-forest f once k node) (sym is)).0
 
   -- a step
-  pub climbs-more : {key k : ℕ} {path : List ℕ} (next : Option ℕ) → HasClimbed f key path (Some k) →
+  pub climbs-more : {key k : ℕ} {path : List ℕ} {at : Option ℕ} (next : Option ℕ) → HasClimbed f key path at → at ≡ Some k →
       option_map (name_at f.names) next ≡ parent_of f.trees (name_at f.names k)
       → ForSome next (IsKey f.names) → HasClimbed f key (path ++ k ∷ []) next
-  climbs-more {k = k} {path = path} next done is nodes =
-      let node = done.next k refl in
+  climbs-more {k = k} {path = path} next done here is nodes =
+      let node = done.next k here in
       record {
         nodes = AreAll-push (IsKey f.names) path k done.nodes node;
         next = nodes;
         whole =
             ap (λ names. names ++ above f next) (map_push (name_at f.names) path k)
             ∙ (append_assoc (map (name_at f.names) path) (name_at f.names k ∷ []) (above f next)
-            ∙ (ap (λ names. map (name_at f.names) path ++ names) (sym (climbs k next node is)) ∙ done.whole));
+            ∙ (ap (λ names. map (name_at f.names) path ++ names) (sym (ap (above f) here ∙ climbs k next node is)) ∙ done.whole));
       }
 
   -- fewer are left above
-  pub climbs-fewer : (k : ℕ) (next : Option ℕ) → k < length f.names → option_map (name_at f.names) next ≡ parent_of f.trees (name_at f.names k)
-      → length (above f next) < length (above f (Some k))
-  climbs-fewer k next node is = let longer = ap (length {A = NodeName}) (climbs k next node is) in omega (arith, longer)
+  pub climbs-fewer : {key k : ℕ} {path : List ℕ} {at : Option ℕ} (next : Option ℕ) → HasClimbed f key path at → at ≡ Some k →
+      option_map (name_at f.names) next ≡ parent_of f.trees (name_at f.names k) → length (above f next) < length (above f at)
+  climbs-fewer {k = k} next done here is =
+      let longer = ap (λ o. length (above f o)) here ∙ ap (length {A = NodeName}) (climbs k next (done.next k here) is) in
+      omega (arith, longer)
 
 -- the end
 pub climbs-all : (f : NamedTrees) → TellApart f.names → (key : ℕ) (path : List ℕ) → HasClimbed f key path None → path ≡ path_keys f key
@@ -91,22 +93,6 @@ unfolding above
 climbs-all f apart key path done =
     sym (keys_of-names f.names apart path done.nodes)
     ∙ ap (map (key_of f.names)) (sym (append-nil (map (name_at f.names) path)) ∙ done.whole)
-
--- what it has done is the beginning of the whole way
-pub climbs-through : {key k : ℕ} {path : List ℕ} (f : NamedTrees) → StandOnce f → TellApart f.names → HasClimbed f key path (Some k) →
-    (rest : List ℕ) × (path_keys f key ≡ path ++ k ∷ rest)
-unfolding above
-climbs-through {k = k} {path = path} f once apart done =
-    let node = done.next k refl in
-    let begins = above-present f.trees (name_at f.names k) (Has-forest f once k node) in
-    let rest = map (key_of f.names) begins.0 in (
-      rest,
-      ap (map (key_of f.names)) (sym done.whole)
-          ∙ (map-append (key_of f.names) (map (name_at f.names) path) (above f (Some k))
-          ∙ (ap (λ keys. keys ++ map (key_of f.names) (above f (Some k))) (keys_of-names f.names apart path done.nodes)
-          ∙ (ap (λ names. path ++ map (key_of f.names) names) begins.1
-          ∙ ap (λ j. path ++ j ∷ rest) (key_of-name f.names apart k node)))),
-    )
 
 -- ---- the keys of the path stand for its names
 

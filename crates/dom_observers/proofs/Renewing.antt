@@ -10,7 +10,6 @@ use Rattle.std.proofs.lemmas.Option.{none-some, same_Some}
 use Rattle.std.proofs.lemmas.List.{length-map, length-set, map-append}
 use Rattle.std.proofs.lemmas.List.Elements.{filter_map-append}
 use Rattle.dom_model.specs.Command.{ObserveWords}
-use Rattle.dom_model.specs.Names.{is_in}
 use Rattle.dom_model.specs.Observers.{Registration, asked_for, is_transient, is_asked_for, stems_from, with_options, with_registration}
 use Rattle.dom_observers.specs.declared.registered.Registered.{Registered}
 use Rattle.dom_observers.specs.declared.removal.Removal.{Removal}
@@ -18,7 +17,7 @@ use Rattle.dom_observers.specs.declared.removal.Removal.TheVariants.{Of, Transie
 use Rattle.dom_observers.specs.declared.watched.Watched.{Watched}
 use Rattle.dom_observers.specs.Views.{registration_of, unless_gone, those_there, there_in}
 use Rattle.dom_observers.specs.Removals.{goes}
-use Rattle.dom_observers.specs.Watching.{places_at, places_from, is_above, AreThinned, AreNoted, AreKept}
+use Rattle.dom_observers.specs.Watching.{places_at, places_from, is_marked, is_above, AreThinned, AreNoted, AreKept}
 use Rattle.dom_observers.proofs.Leaving.{IsThere, IsParted, parted, parted-set, unless-there, there-got, there-set}
 use Rattle.dom_observers.proofs.Watching.{second}
 use Rattle.dom_observers.proofs.Thinning.{thinned-left}
@@ -156,7 +155,7 @@ module _ (x : ℕ) (r s : Registered) (node : s.node ≡ r.node) where
 
 -- what is noted stays, if the node is one of those above where what is below it is observed
 noted-options : {k x i : ℕ} {rs : List Registered} {r s : Registered} {o : ObserveWords} {w : Watched} → IsRenewal k x rs i r s o → AreNoted w rs
-    → (o.subtree ≡ true → is_in eqb x w.above.keys ≡ true) → AreNoted w (set rs i s)
+    → (o.subtree ≡ true → is_marked w.above x ≡ true) → AreNoted w (set rs i s)
 noted-options {k = k} {x = z} {i = i} {rs = rs} {r = r} {s = s} {o = o} {w = w} n noted covered = record {
   within = let same = length-set rs i s in omega (arith, same, noted.within);
   places = λ x. subst (λ ps. AreThinned (set rs i s) ps (places_at w x)) (sym (places-set x r s node rs i w.noted 0 n.one.at))
@@ -177,7 +176,7 @@ noted-options {k = k} {x = z} {i = i} {rs = rs} {r = r} {s = s} {o = o} {w = w} 
     still_there j true e is = ap is_some (ap (there_in rs) (eqb-true j i e) ∙ (there-got rs i r n.one.at ∙ unless-there r n.one.there))
     still_there j false e is = is
 
-    not_above : (x : ℕ) → is_in eqb x w.above.keys ≡ false → is_above x (registration_of s) ≡ false
+    not_above : (x : ℕ) → is_marked w.above x ≡ false → is_above x (registration_of s) ≡ false
     not_above x off = both (eqb s.node x) refl o.subtree refl
       where
         below : (b : Bool) → o.subtree ≡ b → (registration_of s).options.subtree ≡ b
@@ -187,7 +186,7 @@ noted-options {k = k} {x = z} {i = i} {rs = rs} {r = r} {s = s} {o = o} {w = w} 
         both b e false g = and_right (eqb s.node x) (registration_of s).options.subtree (below false g)
         both false e d g = and_left (eqb s.node x) (registration_of s).options.subtree e
         both true e true g =
-            absurd (true≢false (sym (subst (λ y. is_in eqb y w.above.keys ≡ true) (sym on ∙ eqb-true s.node x e) (covered g)) ∙ off))
+            absurd (true≢false (sym (subst (λ y. is_marked w.above y ≡ true) (sym on ∙ eqb-true s.node x e) (covered g)) ∙ off))
 
     -- what goes from a place went from it before
     went : (j : ℕ) {t : Registration ℕ} (b : Bool) → eqb j i ≡ b → cond b (unless_gone s) (there_in rs j) ≡ Some t
@@ -215,7 +214,7 @@ module _ {k x i : ℕ} {rs : List Registered} {r s : Registered} {o : ObserveWor
       ∙ sym (cond-true (list_any p (those_there rs)) (map (with_options eqb k x o) (filter q (those_there rs)))
       (those_there rs ++ record { node = x; observer = k; options = o; source = asked_for } ∷ []) (any-at p rs i there)))
 
-  pub kept-renewed : {u w : Watched} {gone : ℕ} → AreKept u gone rs → AreNoted w rs → (o.subtree ≡ true → is_in eqb x w.above.keys ≡ true)
+  pub kept-renewed : {u w : Watched} {gone : ℕ} → AreKept u gone rs → AreNoted w rs → (o.subtree ≡ true → is_marked w.above x ≡ true)
       → AreKept w gone (set rs i s)
   kept-renewed kept noted covered = record {
     noted = noted-options n noted covered;

@@ -1,20 +1,20 @@
 -- What is noted of an owner's registrations: their places, and the nodes from which what is below is observed; what is found in these
--- places, what is known of nodes of which nothing is noted, and the walk upwards that looks for noted nodes.
+-- places, what a walk upwards may leave out, and what it gathers.
 use Rattle.std.proofs.Common.{inl, inr, ◌≡◌, ℕ, ◌+◌, ◌<◌, ◌≤◌, Bool, true, false, not, ◌&&◌, ◌||◌, cond, eqb, List, [], ◌∷◌, ◌++◌, length, map}
 use Rattle.std.proofs.Common.{get_or, take, Option, Some, None, Bor, refl, sym, ap, ◌∙◌, subst, arith}
 use Rattle.std.specs.Prelude.{option_map, slice_get, is_some, if◌then◌else◌}
 use Rattle.std.specs.Option.{ForSome}
 use Rattle.std.specs.List.{list_any, filter, cons_option, fold}
-use Rattle.std.proofs.lemmas.Bool.{cond-true, cond-false, cases_eq, or_parts, or_from, or_left, or_right, and_left, and_right, eqb-true, false≢true}
+use Rattle.std.proofs.lemmas.Bool.{cond-true, cond-false, cases_eq, or_parts, or_from, eqb-true, false≢true}
 use Rattle.std.proofs.lemmas.List.{append_assoc, length-append, length-map, length_push, length-take-le, map-append, take_all, take-append-le, take_more}
 use Rattle.std.proofs.lemmas.Option.{same_Some, slice_get-get_or}
-use Rattle.std.proofs.lemmas.List.Elements.{filter-append, filter_map-append}
+use Rattle.std.proofs.lemmas.List.Elements.{filter_map-append}
 use Rattle.std.proofs.lemmas.List.Folds.{list_any-append}
 use Rattle.std.proofs.lemmas.Map.Views.{any-filter_same}
-use Rattle.dom_model.specs.Names.{is_in, append_once}
+use Rattle.dom_model.specs.Names.{is_in}
 use Rattle.dom_model.specs.Tree.{parent_of}
 use Rattle.dom_model.specs.Output.{Change}
-use Rattle.dom_model.specs.Observers.{Registration, registrations_on, asks_for, fits, fitting, transients_for, target_of, is_asked_for, is_transient}
+use Rattle.dom_model.specs.Observers.{Registration, asks_for, asks_for_old, fits, transients_for, target_of, is_asked_for, is_transient}
 use Rattle.dom_tree.specs.Forest.{NamedTrees, name_at}
 use Rattle.dom_tree.specs.Apart.{TellApart}
 use Rattle.dom_laws.proofs.Options.{was_some}
@@ -27,11 +27,11 @@ use Rattle.dom_observers.specs.Views.{registration_of, unless_gone, those_there,
 use Rattle.dom_observers.specs.Removals.{goes}
 use Rattle.dom_observers.specs.Naming.{IsKey}
 use Rattle.dom_observers.specs.Paths.{path_keys}
-use Rattle.dom_observers.specs.Taking.{transient_copy, picked, copied_at}
-use Rattle.dom_observers.specs.Watching.{places_in, places_or, places_at, places_from, is_above, among, AreThinned, AreNoted, IsPlaceOf}
-use Rattle.dom_observers.proofs.Ascending.{HasClimbed, climbs-first, climbs-more, climbs-all, climbs-through}
-use Rattle.dom_observers.proofs.Folds.{is_in-append_once, filter-filter, fold-append, eqb-turned}
-use Rattle.dom_observers.proofs.Gathering.{walk-copies}
+use Rattle.dom_observers.specs.Taking.{transient_copy, picked, none_found, and_found, found_by, found_at, copied_by, copied_at}
+use Rattle.dom_observers.specs.Watching.{places_in, places_or, places_at, places_from, is_marked, looked_at, is_above, among, AreThinned, AreNoted, IsPlaceOf}
+use Rattle.dom_observers.proofs.Ascending.{HasClimbed, climbs-first, climbs-more, climbs-all}
+use Rattle.dom_observers.proofs.Folds.{filter-filter, fold-append}
+use Rattle.dom_observers.proofs.Gathering.{fold-agree, walk-copies}
 use Rattle.dom_observers.proofs.Leaving.{there-got, there-raw, there-within, there-append, any-there}
 use Rattle.dom_observers.proofs.Thinning.{thinned-again, thinned-behind, thinned-left, thinned-stays, picked-thinned, places-within, places-more}
 
@@ -120,33 +120,27 @@ none_kept p (x ∷ xs) e = by (p x) refl (none_kept p xs)
     by true h rest = let wrong = ap length (sym (cond-true (p x) (x ∷ filter p xs) (filter p xs) h) ∙ e) in absurd (omega (arith, wrong))
     by false h rest = or_from (p x) (list_any p xs) h (rest (sym (cond-false (p x) (x ∷ filter p xs) (filter p xs) h) ∙ e))
 
--- none on a whole path
-none_on_path : (rs : List (Registration ℕ)) (p : Registration ℕ → Bool) (keys path : List ℕ) →
-    ((x : ℕ) → is_in eqb x keys ≡ false → list_any (λ r. eqb r.node x && p r) rs ≡ false)
-    → list_any (λ x. is_in eqb x keys) path ≡ false → filter p (registrations_on eqb path rs) ≡ []
-none_on_path rs p keys [] none e = refl
-none_on_path rs p keys (x ∷ path) none e =
-    let parts = or_parts (is_in eqb x keys) (list_any (λ y. is_in eqb y keys) path) e in
-    filter-append p (filter (λ r. eqb r.node x) rs) (registrations_on eqb path rs)
-    ∙ (ap (λ more. more ++ filter p (registrations_on eqb path rs))
-    (filter-filter p (λ r. eqb r.node x) rs ∙ nothing_passes (λ r. eqb r.node x && p r) rs (none x parts.0))
-    ∙ none_on_path rs p keys path none parts.1)
+-- a fold over what does not pass changes nothing
+fold-stays : {A B : Type 0} (f : B → A → B) (p : A → Bool) → ((b : B) (x : A) → p x ≡ false → f b x ≡ b) → (b : B) (xs : List A) →
+    list_any p xs ≡ false → fold f b xs ≡ b
+fold-stays f p stays b [] e = refl
+fold-stays f p stays b (x ∷ xs) e =
+    let parts = or_parts (p x) (list_any p xs) e in
+    ap (λ c. fold f c xs) (stays b x parts.0) ∙ fold-stays f p stays b xs parts.1
 
--- none on a node fits a change of a node without registrations, if none on it observes what is below
-nothing_fits : (c : Change ℕ) (x : ℕ) (rs : List (Registration ℕ)) → list_any (λ r. eqb r.node (target_of c)) rs ≡ false → list_any (is_above x) rs ≡ false
+-- none on a node that is not the target fits a change, if none on it observes what is below
+nothing_fits : (c : Change ℕ) (x : ℕ) (rs : List (Registration ℕ)) → eqb x (target_of c) ≡ false → list_any (is_above x) rs ≡ false
     → list_any (λ r. eqb r.node x && fits eqb c r) rs ≡ false
-nothing_fits c x [] off past = refl
-nothing_fits c x (r ∷ rs) off past =
-    let here = or_parts (eqb r.node (target_of c)) (list_any (λ s. eqb s.node (target_of c)) rs) off in
+nothing_fits c x [] other past = refl
+nothing_fits c x (r ∷ rs) other past =
     let below = or_parts (is_above x r) (list_any (is_above x) rs) past in
     or_from (eqb r.node x && fits eqb c r) (list_any (λ s. eqb s.node x && fits eqb c s) rs)
-    (ap (λ b. eqb r.node x && (asks_for r.options c && (b || r.options.subtree))) here.0
-    ∙ by (eqb r.node x) (asks_for r.options c) r.options.subtree below.0) (nothing_fits c x rs here.1 below.1)
+    (by (eqb r.node x) refl (asks_for r.options c) r.options.subtree below.0) (nothing_fits c x rs other below.1)
   where
-    by : (on asks below : Bool) → (on && below) ≡ false → (on && (asks && below)) ≡ false
-    by true true below e = e
-    by true false below e = refl
-    by false asks below e = refl
+    by : (on : Bool) → eqb r.node x ≡ on → (asks below : Bool) → (on && below) ≡ false → (on && (asks && (eqb r.node (target_of c) || below))) ≡ false
+    by true e true below g = or_from (eqb r.node (target_of c)) below (ap (λ y. eqb y (target_of c)) (eqb-true r.node x e) ∙ other) g
+    by true e false below g = refl
+    by false e asks below g = refl
 
 -- ---- the lists of places
 
@@ -176,7 +170,7 @@ second false b c e = absurd (false≢true e)
 -- What one more noted registration changes.
 pub record NotesNext (w v : Watched) (r : Registration ℕ) : Type 0 where
   pub places : (x : ℕ) → places_at v x ≡ (if eqb r.node x then places_at w x ++ w.noted ∷ [] else places_at w x)
-  pub above : v.above.keys ≡ cond r.options.subtree (append_once eqb w.above.keys r.node) w.above.keys
+  pub above : (x : ℕ) → is_marked v.above x ≡ cond (r.options.subtree && eqb r.node x) true (is_marked w.above x)
   pub noted : v.noted ≡ w.noted + 1
   pub stay : (removal : Removal) (i : ℕ) → is_in eqb i (among w.owned removal) ≡ true → is_in eqb i (among v.owned removal) ≡ true
   pub found : (removal : Removal) → goes removal r ≡ true → is_in eqb w.noted (among v.owned removal) ≡ true
@@ -193,16 +187,15 @@ module _ {w : Watched} {rs : List Registered} (noted : AreNoted w rs) where
     one_more : take v.noted raw ≡ take w.noted raw ++ r ∷ []
     one_more = ap (λ n. take n raw) next.noted ∙ (take_more raw w.noted r short_raw ∙ ap (λ s. take w.noted raw ++ s ∷ []) there)
 
-    -- a node that is not above now was not so before, nor does the registration observe what is below it
-    off_above : (x : ℕ) → is_in eqb x v.above.keys ≡ false → (is_in eqb x w.above.keys ≡ false) × (is_above x r ≡ false)
-    off_above x off = by r.options.subtree refl (sym (ap (is_in eqb x) next.above) ∙ off)
+    -- a node that is not marked now was not so before, nor does the registration observe what is below it
+    off_above : (x : ℕ) → is_marked v.above x ≡ false → (is_marked w.above x ≡ false) × (is_above x r ≡ false)
+    off_above x off = by r.options.subtree (eqb r.node x) (sym (next.above x) ∙ off)
       where
-        by : (below : Bool) → r.options.subtree ≡ below → is_in eqb x (cond below (append_once eqb w.above.keys r.node) w.above.keys) ≡ false
-            → (is_in eqb x w.above.keys ≡ false) × (is_above x r ≡ false)
-        by true e h =
-            let parts = or_parts (is_in eqb x w.above.keys) (eqb x r.node) (sym (is_in-append_once x r.node w.above.keys) ∙ h) in
-            (parts.0, and_left (eqb r.node x) r.options.subtree (eqb-turned r.node x ∙ parts.1))
-        by false e h = (h, and_right (eqb r.node x) r.options.subtree e)
+        by : (below on : Bool) → cond (below && on) true (is_marked w.above x) ≡ false → (is_marked w.above x ≡ false) × ((on && below) ≡ false)
+        by true true h = absurd (false≢true (sym h))
+        by true false h = (h, refl)
+        by false true h = (h, refl)
+        by false false h = (h, refl)
 
     -- what stands in the place
     is_next : (i : ℕ) (t : Registration ℕ) → i ≡ w.noted → there_in rs i ≡ Some t → t ≡ r
@@ -284,12 +277,12 @@ module _ {w : Watched} {rs : List Registered} (noted : AreNoted w rs) where
 
   -- places of some that have gone were dropped
   pub noted-thinned : {v : Watched} → ((x : ℕ) → AreThinned rs (places_at w x) (places_at v x))
-      → ((removal : Removal) → AreThinned rs (among w.owned removal) (among v.owned removal)) → v.above.keys ≡ w.above.keys → v.noted ≡ w.noted → AreNoted v rs
+      → ((removal : Removal) → AreThinned rs (among w.owned removal) (among v.owned removal)) → v.above ≡ w.above → v.noted ≡ w.noted → AreNoted v rs
   noted-thinned {v = v} places owned above same = record {
     within = omega (arith, same, noted.within);
     places = λ x. thinned-again (subst (λ n. AreThinned rs (places_from x 0 (take n raw)) (places_at w x)) (sym same) (noted.places x)) (places x);
     above = λ x off.
-        ap (λ n. list_any (is_above x) (take n raw)) same ∙ noted.above x (ap (is_in eqb x) (sym above) ∙ off);
+        ap (λ n. list_any (is_above x) (take n raw)) same ∙ noted.above x (ap (λ m. is_marked m x) (sym above) ∙ off);
     found = λ removal i t below e is.
         thinned-stays (owned removal) i (noted.found removal i t (omega (arith, below, same)) e is) (ap is_some e);
   }
@@ -308,12 +301,8 @@ module _ {w : Watched} {rs : List Registered} (noted : AreNoted w rs) where
         is_in eqb i (among w.owned removal) ≡ true
     found-all removal i t e is = noted.found removal i t (let short = there-within rs i t e in omega (arith, short, all)) e is
 
-    -- a node without places has no registration
-    off_target : (x : ℕ) → places_at w x ≡ [] → list_any (λ r. eqb r.node x) (those_there rs) ≡ false
-    off_target x none = none_kept (λ r. eqb r.node x) (those_there rs) (sym (picked-on x) ∙ ap (picked rs) none)
-
-    -- one that is not above has none that observes what is below it
-    off_below : (x : ℕ) → is_in eqb x w.above.keys ≡ false → list_any (is_above x) (those_there rs) ≡ false
+    -- one that is not marked has none that observes what is below it
+    off_below : (x : ℕ) → is_marked w.above x ≡ false → list_any (is_above x) (those_there rs) ≡ false
     off_below x off = any-there (is_above x) rs (ap (list_any (is_above x)) (sym whole) ∙ noted.above x off)
 
     -- the one that an observer asked for on a node is found among those on the node
@@ -326,24 +315,47 @@ module _ {w : Watched} {rs : List Registered} (noted : AreNoted w rs) where
         (λ r e. second (eqb r.observer k) (eqb r.node x) (not (is_transient r.source)) e) (those_there rs))
         ∙ (ap (list_any p) (sym (picked-on x)) ∙ (ap (λ ps. list_any p (picked rs ps)) (sym at) ∙ is))
 
-    -- the copies of those on a path
-    pub copied : (node : ℕ) {slice : List Registered} {path keys : List ℕ} → slice ≡ rs → path ≡ keys → fold (copied_at node slice w) [] path
-        ≡ transients_for eqb node keys (those_there rs)
-    copied node {path = path} {keys = keys} list way =
-        ap (λ xs. fold (copied_at node xs w) [] path) list
-        ∙ (ap (fold (copied_at node rs w) []) way ∙ walk-copies (those_there rs) (λ x. picked rs (places_at w x)) picked-on node keys)
+    -- nothing comes from those on a node where none passes a test without which nothing comes
+    adds_none : {B : Type 0} (f : B → Registration ℕ → B) (p : Registration ℕ → Bool) → ((b : B) (r : Registration ℕ) → p r ≡ false → f b r ≡ b)
+        → (x : ℕ) → list_any (λ r. eqb r.node x && p r) (those_there rs) ≡ false → (b : B) → fold f b (picked rs (places_at w x)) ≡ b
+    adds_none f p stays x none b =
+        ap (fold f b) (picked-on x)
+        ∙ fold-stays f p stays b (filter (λ r. eqb r.node x) (those_there rs))
+        (none_kept p (filter (λ r. eqb r.node x) (those_there rs))
+        (filter-filter p (λ r. eqb r.node x) (those_there rs) ∙ nothing_passes (λ r. eqb r.node x && p r) (those_there rs) none))
 
-    module _ (path : List ℕ) (past : list_any (λ x. is_in eqb x w.above.keys) path ≡ false) where
-      -- none fits a change of a node without registrations
-      pub fitting-unnoted : (c : Change ℕ) → places_at w (target_of c) ≡ [] → fitting eqb path (those_there rs) c ≡ []
-      fitting-unnoted c none =
-          none_on_path (those_there rs) (fits eqb c) w.above.keys path
-          (λ x off. nothing_fits c x (those_there rs) (off_target (target_of c) none) (off_below x off)) past
+    -- what is looked at of a node serves, where nothing comes from the others
+    look : {B : Type 0} (f : B → Registration ℕ → B) (b : B) (wholly : Bool) (x : ℕ)
+        → (wholly ≡ false → is_marked w.above x ≡ false → fold f b (picked rs (places_at w x)) ≡ b)
+        → fold f b (picked rs (looked_at w wholly x)) ≡ fold f b (picked rs (places_at w x))
+    look f b wholly x past = by wholly (is_marked w.above x) refl refl
+      where
+        by : (c m : Bool) → wholly ≡ c → is_marked w.above x ≡ m
+            → fold f b (picked rs (cond (c || m) (places_at w x) [])) ≡ fold f b (picked rs (places_at w x))
+        by true m e g = refl
+        by false true e g = refl
+        by false false e g = sym (past e g)
 
-      -- and nothing is copied
-      pub copies-unnoted : (node : ℕ) → transients_for eqb node path (those_there rs) ≡ []
-      copies-unnoted node =
-          ap (map (transient_copy node)) (none_on_path (those_there rs) (λ r. r.options.subtree) w.above.keys path off_below past)
+    module _ {slice : List Registered} (list : slice ≡ rs) (path : List ℕ) where
+      -- what is found on a path
+      pub found-on : (c : Change ℕ) → fold (found_at slice w c) none_found path ≡ fold (λ f x. fold (found_by c) f (picked rs (places_at w x))) none_found path
+      found-on c =
+          ap (λ xs. fold (found_at xs w c) none_found path) list
+          ∙ fold-agree (found_at rs w c) (λ f x. fold (found_by c) f (picked rs (places_at w x)))
+          (λ f x. look (found_by c) f (eqb x (target_of c)) x
+          (λ e off. adds_none (found_by c) (fits eqb c)
+          (λ g r h. cond-false (fits eqb c r) (and_found g r.observer (asks_for_old r.options c)) g h) x
+          (nothing_fits c x (those_there rs) e (off_below x off)) f)) none_found path
+
+      -- the copies of those on a path
+      pub copied : (node : ℕ) → fold (copied_at node slice w) [] path ≡ transients_for eqb node path (those_there rs)
+      copied node =
+          ap (λ xs. fold (copied_at node xs w) [] path) list
+          ∙ (fold-agree (copied_at node rs w) (λ copies x. fold (copied_by node) copies (picked rs (places_at w x)))
+          (λ copies x. look (copied_by node) copies false x
+          (λ e off. adds_none (copied_by node) (λ r. r.options.subtree)
+          (λ g r h. cond-false r.options.subtree (g ++ transient_copy node r ∷ []) g h) x (off_below x off) copies)) [] path
+          ∙ walk-copies (those_there rs) (λ x. picked rs (places_at w x)) picked-on node path)
 
 -- ---- a list that is read as a slice
 
@@ -357,40 +369,29 @@ all-now {n = n} is short = subst (λ (xs : List Registered). length xs ≤ n) is
 
 -- ---- the walk upwards
 
--- what it has done: no node so far is one of those that are sought
-pub record HasPassed (f : NamedTrees) (key : ℕ) (sought : List ℕ) (at : Option ℕ) : Type 0 where
+-- what it has done: it has gathered from the nodes so far, one after the other
+pub record HasGathered {B : Type 0} (f : NamedTrees) (key : ℕ) (step : B → ℕ → B) (none now : B) (at : Option ℕ) : Type 0 where
   pub path : List ℕ
   pub climbed : HasClimbed f key path at
-  pub none : list_any (λ k. is_in eqb k sought) path ≡ false
+  pub gathered : now ≡ fold step none path
 
 -- The walk from a node.
-module _ (f : NamedTrees) (key : ℕ) (sought : List ℕ) where
+module _ {B : Type 0} (f : NamedTrees) (key : ℕ) (step : B → ℕ → B) (none : B) where
   -- the beginning
-  pub passes-first : key < length f.names → HasPassed f key sought (Some key)
-  passes-first node = record { path = []; climbed = climbs-first f key node; none = refl }
+  pub gathers-first : key < length f.names → HasGathered f key step none none (Some key)
+  gathers-first node = record { path = []; climbed = climbs-first f key node; gathered = refl }
 
   -- a step
-  pub passes-more : StandOnce f → StandAlone f → {k : ℕ} {next : Option ℕ} → HasPassed f key sought (Some k) → is_in eqb k sought ≡ false
-      → option_map (name_at f.names) next ≡ parent_of f.trees (name_at f.names k) → ForSome next (IsKey f.names) → HasPassed f key sought next
-  passes-more once only {k = k} {next = next} done off is nodes =
-      record {
-        path = done.path ++ k ∷ [];
-        climbed = climbs-more f once only next done.climbed is nodes;
-        none =
-            list_any-append (λ j. is_in eqb j sought) done.path (k ∷ [])
-            ∙ or_from (list_any (λ j. is_in eqb j sought) done.path) (is_in eqb k sought || false) done.none (or_from (is_in eqb k sought) false off refl);
-      }
+  module _ (once : StandOnce f) (only : StandAlone f) where
+    pub gathers-more : {now later : B} {k : ℕ} {at next : Option ℕ} → HasGathered f key step none now at → at ≡ Some k → later ≡ step now k
+        → option_map (name_at f.names) next ≡ parent_of f.trees (name_at f.names k) → ForSome next (IsKey f.names) → HasGathered f key step none later next
+    gathers-more {k = k} {next = next} done here adds is nodes =
+        record {
+          path = done.path ++ k ∷ [];
+          climbed = climbs-more f once only next done.climbed here is nodes;
+          gathered = adds ∙ (ap (λ b. step b k) done.gathered ∙ sym (fold-append step none done.path (k ∷ [])));
+        }
 
-  -- the end: none is
-  pub passes-all : TellApart f.names → HasPassed f key sought None → list_any (λ k. is_in eqb k sought) (path_keys f key) ≡ false
-  passes-all apart done = ap (list_any (λ k. is_in eqb k sought)) (sym (climbs-all f apart key done.path done.climbed)) ∙ done.none
-
-  -- one is found
-  pub passes-to : StandOnce f → TellApart f.names → (k : ℕ) → HasPassed f key sought (Some k) → is_in eqb k sought ≡ true
-      → list_any (λ j. is_in eqb j sought) (path_keys f key) ≡ true
-  passes-to once apart k done on =
-      let p = λ (j : ℕ). is_in eqb j sought in
-      let way = climbs-through f once apart done.climbed in
-      ap (list_any p) way.1
-      ∙ (list_any-append p done.path (k ∷ way.0)
-      ∙ or_right (list_any p done.path) (list_any p (k ∷ way.0)) (or_left (is_in eqb k sought) (list_any p way.0) on))
+  -- the end
+  pub gathers-all : {now : B} → TellApart f.names → HasGathered f key step none now None → now ≡ fold step none (path_keys f key)
+  gathers-all apart done = done.gathered ∙ ap (fold step none) (climbs-all f apart key done.path done.climbed)

@@ -1,15 +1,18 @@
 //! The observers that take the record of a change.
 ghost use Rattle.std.specs.Prelude.{◌≡◌, nat_eq, fold, IfOk, OnOk};
 ghost use Rattle.std.specs.List.{list_any};
+ghost use Rattle.dom_model.specs.Observers.{target_of};
+ghost use Rattle.dom_observers.specs.Paths.{path_keys};
 ghost use Rattle.dom_observers.specs.Views.{change_of};
 ghost use Rattle.dom_observers.specs.Taking.{none_found, and_found, found_by, found_at, picked};
 ghost use Rattle.dom_observers.specs.InterestedObservers.{found_of};
+ghost use Rattle.dom_tree.specs.Forest.{IsNode};
 
 use crate::change::Change;
 use crate::registered::{Registered, there_at};
 use crate::watched::Watched;
+use dom_tree::Forest;
 use indexmap::IndexSet;
-use node_arena::Key;
 use std::alloc::{AllocError, Global};
 
 /// The observers that take the record of a change, in their order, and those of them that asked for the old value (DOM
@@ -31,20 +34,26 @@ impl InterestedObservers {
         }
     }
 
-    /// The interested observers of a change, by an owner's registrations, their places, and the inclusive ancestors of the changed node.
+    /// The interested observers of a change, by an owner's registrations and their places, from the changed node upwards.
     pub(crate) fn of(
         alloc: Global,
+        forest: &Forest,
         registrations: &[Registered],
         watched: &Watched,
-        path: &[Key],
         change: &Change,
     ) -> Result<InterestedObservers, AllocError>
-        ensures { IfOk result (λ t. found_of t ≡
-            fold (found_at registrations.now watched.now (change_of change.now)) none_found path.now) }
+        requires { IsNode forest.now (target_of (change_of change.now)) }
+        ensures { IfOk result (λ t. found_of t ≡ fold (found_at registrations.now watched.now (change_of change.now)) none_found
+            (path_keys forest.now (target_of (change_of change.now)))) }
     {
+        forest.law_nodes_stand_once();
+        let target = change.target();
         let mut interested = InterestedObservers::new(alloc);
-        for node in path {
-            interested.add_from(registrations, watched.places(*node), change)?;
+        let mut at = Some(target);
+        while let Some(node) = at {
+            let places = watched.looked_at(node, node == target);
+            interested.add_from(registrations, places, change)?;
+            at = forest.parent(node);
         }
         Ok(interested)
     }

@@ -6,6 +6,7 @@
 mod change;
 mod interested;
 mod laws;
+mod marks;
 mod observers;
 mod options;
 mod owned;

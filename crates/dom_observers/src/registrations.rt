@@ -13,7 +13,6 @@ ghost use Rattle.dom_tree.specs.Forest.{IsNode};
 use crate::change::Change;
 use crate::interested::InterestedObservers;
 use crate::options::Options;
-use crate::path::inclusive_ancestors;
 use crate::registered::{Registered, Source, there_at};
 use crate::removal::Removal;
 use crate::watched::Watched;
@@ -71,7 +70,8 @@ impl Registrations {
     }
 
     /// The observers that are interested in a change of a node, found by looks at the registrations on its inclusive ancestors alone
-    /// (DOM Standard, queue a mutation record: interested observers). Where nobody may be, one look for each of these serves.
+    /// (DOM Standard, queue a mutation record: interested observers). An ancestor without registrations that observe what is below it takes
+    /// one look.
     pub(crate) fn interested_in(
         &mut self,
         forest: &Forest,
@@ -84,17 +84,12 @@ impl Registrations {
         ensures with_old { IfOk result (λ t. (k : ℕ) → record_of t (change_of change.now) k ≡
             record_for nat_eq (path_keys forest.now (target_of (change_of change.now))) self.old (change_of change.now) k) }
     {
-        let target = change.target();
         self.watched.note(self.list.as_slice())?;
-        if self.watched.places(target).is_empty() && !self.watched.covers(forest, target) {
-            return Ok(InterestedObservers::new(self.alloc));
-        }
-        let path = inclusive_ancestors(self.alloc, forest, target)?;
         InterestedObservers::of(
             self.alloc,
+            forest,
             self.list.as_slice(),
             &self.watched,
-            path.as_slice(),
             change,
         )
     }
@@ -162,8 +157,8 @@ impl Registrations {
     fn close_up(&mut self, removal: &Removal)
         ensures { self.new ≡ filter (λ r. not (goes removal.now r)) self.old }
     {
+        self.watched.forget(self.list.as_slice());
         self.list.retain(|registered| !registered.has_gone && !removal.takes(registered));
-        self.watched = Watched::new(self.alloc);
         self.gone = 0;
     }
 
@@ -180,15 +175,12 @@ impl Registrations {
         ensures err { OnErr result (self.new ≡ self.old) }
     {
         self.watched.note(self.list.as_slice())?;
-        if !self.watched.covers(forest, parent) {
-            return Ok(());
-        }
-        let path = inclusive_ancestors(self.alloc, forest, parent)?;
         let mut copies = copies_for(
             self.alloc,
+            forest,
             self.list.as_slice(),
             &self.watched,
-            path.as_slice(),
+            parent,
             node,
         )?;
         self.list.append(&mut copies)?;
@@ -196,21 +188,27 @@ impl Registrations {
     }
 }
 
-/// The transient copies for a removed node of the registrations that observe subtrees, of those on the nodes of a path.
+/// The transient copies for a removed node of the registrations that observe subtrees, of those on its parent and upwards.
 fn copies_for(
     alloc: Global,
+    forest: &Forest,
     registrations: &[Registered],
     watched: &Watched,
-    path: &[Key],
+    parent: Key,
     node: Key,
 ) -> Result<Vec<Registered>, AllocError>
+    requires { IsNode forest.now parent }
     ensures there { IfOk result (λ copies. AreThere copies.items) }
     ensures copies { IfOk result (λ copies. map registration_of copies.items ≡
-        fold (copied_at node registrations.now watched.now) [] path.now) }
+        fold (copied_at node registrations.now watched.now) [] (path_keys forest.now parent)) }
 {
+    forest.law_nodes_stand_once();
     let mut copies = Vec::new(alloc);
-    for above in path {
-        copy_from(registrations, watched.places(*above), node, &mut copies)?;
+    let mut at = Some(parent);
+    while let Some(above) = at {
+        let places = watched.looked_at(above, false);
+        copy_from(registrations, places, node, &mut copies)?;
+        at = forest.parent(above);
     }
     Ok(copies)
 }

@@ -1,31 +1,27 @@
 //! The nodes that observers watch.
-ghost use Rattle.std.specs.Prelude.{◌≡◌, ℕ, ◌≤◌, ◌++◌, ◌∷◌, [], List, nat_eq, length, true, false, IfOk, OnOk, OnErr, if◌then◌else◌};
-ghost use Rattle.std.specs.List.{list_any};
+ghost use Rattle.std.specs.Prelude.{◌≡◌, ℕ, ◌≤◌, ◌&&◌, ◌++◌, ◌∷◌, [], List, nat_eq, length, true, false, IfOk, OnOk, OnErr, if◌then◌else◌};
 ghost use Rattle.indexmap.specs.IndexMap.{get};
-ghost use Rattle.dom_model.specs.Names.{is_in, append_once};
 ghost use Rattle.dom_model.specs.Observers.{is_asked_for};
-ghost use Rattle.dom_observers.specs.Paths.{path_keys};
 ghost use Rattle.dom_observers.specs.Taking.{picked};
 ghost use Rattle.dom_observers.specs.Views.{those_there};
-ghost use Rattle.dom_observers.specs.Watching.{places_or, places_at, among, AreThinned, AreNoted, IsPlaceOf};
-ghost use Rattle.dom_tree.specs.Forest.{IsNode};
+ghost use Rattle.dom_observers.specs.Watching.{places_or, places_at, is_marked, looked_at, among, AreThinned, AreNoted, IsPlaceOf};
 
+use crate::marks::Marks;
 use crate::owned::Owned;
 use crate::places::{Places, count_gone, put};
 use crate::registered::{Registered, there_at};
 use crate::removal::Removal;
-use dom_tree::Forest;
-use indexmap::{IndexMap, IndexSet};
+use indexmap::IndexMap;
 use node_arena::Key;
 use std::alloc::{AllocError, Global};
 
 /// For each node the places of its registrations in an owner's list, of as many from the first on as are noted, among which some of
-/// those that have gone may still be; nodes among which are all that have a noted one that observes what is below them; and whose the
-/// noted ones are (own rule).
+/// those that have gone may still be; marks of nodes, among which are all that have a noted one that observes what is below them; and whose
+/// the noted ones are (own rule).
 #[derive(Drop)]
 pub struct Watched {
     places: IndexMap<usize, Places>,
-    above: IndexSet<Key>,
+    above: Marks,
     owned: Owned,
     noted: usize,
     alloc: Global,
@@ -38,7 +34,7 @@ impl Watched {
     {
         Watched {
             places: IndexMap::new(alloc),
-            above: IndexSet::new(alloc),
+            above: Marks::new(alloc),
             owned: Owned::new(alloc),
             noted: 0,
             alloc,
@@ -64,8 +60,9 @@ impl Watched {
         ensures places { OnOk result ((x : ℕ) → places_at self.new x ≡
             (if nat_eq node x then places_at self.old x ++ place ∷ [] else places_at self.old x)) }
         ensures unchanged { OnErr result ((x : ℕ) → places_at self.new x ≡ places_at self.old x) }
-        ensures above { OnOk result (self.new.above.keys ≡ (if observes_below then append_once nat_eq self.old.above.keys node else self.old.above.keys)) }
-        ensures kept { (x : ℕ) → is_in nat_eq x self.new.above.keys ≡ false → is_in nat_eq x self.old.above.keys ≡ false }
+        ensures above { OnOk result ((x : ℕ) → is_marked self.new.above x ≡
+            (if observes_below && nat_eq node x then true else is_marked self.old.above x)) }
+        ensures kept { (x : ℕ) → is_marked self.new.above x ≡ false → is_marked self.old.above x ≡ false }
         ensures noted { self.new.noted ≡ self.old.noted }
         ensures owned { self.new.owned ≡ self.old.owned }
     {
@@ -87,7 +84,7 @@ impl Watched {
         ensures noted { AreNoted self.old registrations.now → AreNoted self.new registrations.now }
         ensures place { IfOk result (λ place. AreNoted self.old registrations.now →
             IsPlaceOf (is_asked_for nat_eq observer node) registrations.now (those_there registrations.now) place) }
-        ensures above { OnOk result (observes_below ≡ true → is_in nat_eq node self.new.above.keys ≡ true) }
+        ensures above { OnOk result (observes_below ≡ true → is_marked self.new.above node ≡ true) }
     {
         self.note(registrations)?;
         let place = asked_for_in(registrations, self.places(node), observer, node);
@@ -107,6 +104,28 @@ impl Watched {
         }
     }
 
+    /// The places of a node that a walk upwards looks at: the noted ones where the node is wholly looked at or marked, else none.
+    pub(crate) fn looked_at(&self, node: Key, wholly: bool) -> &[usize]
+        ensures { result.now ≡ looked_at self.now wholly node }
+    {
+        if wholly || self.above.contains(node) {
+            return self.places(node);
+        }
+        &[]
+    }
+
+    /// Forgets what is noted of a list's registrations.
+    pub(crate) fn forget(&mut self, registrations: &[Registered])
+        ensures { (rs : List Registered) → AreNoted self.new rs }
+    {
+        for registered in registrations {
+            self.above.remove(registered.node);
+        }
+        self.places = IndexMap::new(self.alloc);
+        self.owned = Owned::new(self.alloc);
+        self.noted = 0;
+    }
+
     /// The noted places among which are those of the registrations that go.
     pub(crate) fn among(&self, removal: &Removal) -> &[usize]
         ensures { result.now ≡ among self.now.owned removal.now }
@@ -121,30 +140,6 @@ impl Watched {
     {
         count_gone_in(&mut self.places, registrations, self.owned.among(removal));
         self.owned.drop_gone(registrations, removal);
-    }
-
-    /// Whether a node is among those with registrations that observe what is below.
-    fn has_above(&self, node: Key) -> bool
-        ensures { result ≡ is_in nat_eq node self.now.above.keys }
-    {
-        self.above.contains(&node)
-    }
-
-    /// Whether an inclusive ancestor of a node is among those with registrations that observe what is below. It takes no
-    /// memory.
-    pub(crate) fn covers(&self, forest: &Forest, key: Key) -> bool
-        requires { IsNode forest.now key }
-        ensures { result ≡ list_any (λ k. is_in nat_eq k self.now.above.keys) (path_keys forest.now key) }
-    {
-        forest.law_nodes_stand_once();
-        let mut at = Some(key);
-        while let Some(node) = at {
-            if self.has_above(node) {
-                return true;
-            }
-            at = forest.parent(node);
-        }
-        false
     }
 }
 

@@ -1,6 +1,6 @@
-use Rattle.std.proofs.Common.{◌<◌, length, map, Some, refl, sym, ap, subst, ◌∙◌}
+use Rattle.std.proofs.Common.{map, Some, sym, ap, subst, ◌∙◌}
 use Rattle.dom_tree.specs.Forest.{name_at}
-use Rattle.dom_observers.proofs.Ascending.{HasClimbed, above, climbs-first, climbs-more, climbs-fewer, climbs-all, path_keys-named}
+use Rattle.dom_observers.proofs.Ascending.{HasClimbed, climbs-first, climbs-more, climbs-fewer, climbs-all, path_keys-named}
 use Rattle.dom_observers.proofs.path.inclusive_ancestors.Goals as goal
 
 pub loop-at-init : goal.loop-at-init
@@ -11,18 +11,14 @@ loop-at-init c =
 pub loop-at-preserved : goal.loop-at-preserved
 loop-at-preserved c =
     let f = c.args.forest.now in
-    let done = subst (HasClimbed f c.args.key c.loop-at.path.items) c.in-Some.is c.loop-at.invariant in
     subst (λ path. HasClimbed f c.args.key path c.parent-at.result) (sym c.in_ok-push.ensures.items)
-    (climbs-more f c.law_nodes_stand_once.ensures.once c.law_nodes_stand_once.ensures.only c.parent-at.result done c.parent-at.ensures.value
-    c.parent-at.ensures.node)
+    (climbs-more f c.law_nodes_stand_once.ensures.once c.law_nodes_stand_once.ensures.only c.parent-at.result c.loop-at.invariant c.in-Some.is
+    c.parent-at.ensures.value c.parent-at.ensures.node)
 
 pub loop-at-smaller : goal.loop-at-smaller
 loop-at-smaller c =
-    let f = c.args.forest.now in
-    let done = subst (HasClimbed f c.args.key c.loop-at.path.items) c.in-Some.is c.loop-at.invariant in
-    subst (λ at. length (above f c.parent-at.result) < length (above f at)) (sym c.in-Some.is)
-    (climbs-fewer f c.law_nodes_stand_once.ensures.once c.law_nodes_stand_once.ensures.only c.in-Some.node c.parent-at.result
-    (done.next c.in-Some.node refl) c.parent-at.ensures.value)
+    climbs-fewer c.args.forest.now c.law_nodes_stand_once.ensures.once c.law_nodes_stand_once.ensures.only c.parent-at.result c.loop-at.invariant c.in-Some.is
+    c.parent-at.ensures.value
 
 pub returns-clause-keys : goal.returns-clause-keys
 returns-clause-keys c =

@@ -1,12 +1,16 @@
-use Rattle.std.proofs.Common.{◌≡◌, [], take, map}
-use Rattle.std.specs.List.{fold}
+use Rattle.std.proofs.Common.{[], length, map}
 use Rattle.dom_observers.specs.Views.{registration_of, AreThere}
 use Rattle.dom_observers.specs.Taking.{copied_at}
+use Rattle.dom_observers.proofs.Ascending.{above}
+use Rattle.dom_observers.proofs.Watching.{HasGathered}
 use Rattle.dom_observers.proofs.registrations.copies_for.Given as goal
 
-abbrev pub invariant-loop-above : goal.invariant-loop-above
-invariant-loop-above l =
+abbrev pub invariant-loop-at : goal.invariant-loop-at
+invariant-loop-at l =
     record {
       there : AreThere l.copies.items;
-      copies : map registration_of l.copies.items ≡ fold (copied_at l.node l.registrations l.watched) [] (take l.above-index l.path);
+      copies : HasGathered l.forest l.fn.parent (copied_at l.node l.registrations l.watched) [] (map registration_of l.copies.items) l.at;
     }
+
+abbrev pub decreases-loop-at : goal.decreases-loop-at
+decreases-loop-at l = length (above l.forest l.at)

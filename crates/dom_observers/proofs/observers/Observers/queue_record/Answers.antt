@@ -23,50 +23,43 @@ moved Q names e g q = subst (λ i. Q (name_at names i).owner) g (subst (λ (y : 
 
 pub returns-in_default-clause-taken : goal.returns-in_default-clause-taken
 returns-in_default-clause-taken c =
-    let names = c.args.forest.now.names in
     let ch = change_of c.args.change in
     let path = path_keys c.args.forest.now (target_of ch) in
-    let o = c.name-owner.result.owner in
-    let all = c.args.self.now in
-    let none = ap (λ (t : TablesOf ℕ). is_empty t.registrations) (had-none c.self.inside c.self.view_is o c.in_default.ensures.value) in
-    moved (λ p. false ≡ is_taken nat_eq path (tables_of all p) ch) names c.name-owner.ensures.at c.target-target.ensures
-    (sym (not_taken path ch (tables_of all o) (interested-none path (tables_of all o).registrations ch none)))
+    let t = tables_of c.args.self.now c.name-owner.result.owner in
+    let none = ap (λ (u : TablesOf ℕ). is_empty u.registrations)
+    (had-none c.self.inside c.self.view_is c.name-owner.result.owner c.in_default.ensures.value) in
+    moved (λ p. false ≡ is_taken nat_eq path (tables_of c.args.self.now p) ch) c.args.forest.now.names c.name-owner.ensures.at c.target-target.ensures
+    (sym (not_taken path ch t (interested-none path t.registrations ch none)))
 
 pub returns-in_default-clause-tables : goal.returns-in_default-clause-tables
 returns-in_default-clause-tables c =
-    let names = c.args.forest.now.names in
     let ch = change_of c.args.change in
-    let path = path_keys c.args.forest.now (target_of ch) in
-    let o = c.name-owner.result.owner in
-    let all = c.args.self.now in
+    let rule = told nat_eq (path_keys c.args.forest.now (target_of ch)) ch in
     let r : Inside = record { tables = c.get_mut.follows.lender-at-none; alloc = c.self.inside.alloc } in
-    moved (λ p. ChangesTables p (told nat_eq path ch (tables_of all p)) all (all_tables r)) names c.name-owner.ensures.at c.target-target.ensures
-    (untouched-changes c.self.inside c.self.view_is o r (told nat_eq path ch) c.in_default.ensures.value c.get_mut.follows.holds-at-none
-    (not_told path ch no_tables (interested-none path [] ch refl)))
+    moved (λ p. ChangesTables p (rule (tables_of c.args.self.now p)) c.args.self.now (all_tables r)) c.args.forest.now.names c.name-owner.ensures.at
+    c.target-target.ensures
+    (untouched-changes c.self.inside c.self.view_is c.name-owner.result.owner r rule c.in_default.ensures.value c.get_mut.follows.holds-at-none
+    (not_told (path_keys c.args.forest.now (target_of ch)) ch no_tables
+    (interested-none (path_keys c.args.forest.now (target_of ch)) [] ch refl)))
 
 pub returns-clause-taken : goal.returns-clause-taken
 returns-clause-taken c =
-    let names = c.args.forest.now.names in
     let ch = change_of c.args.change in
     let path = path_keys c.args.forest.now (target_of ch) in
-    let o = c.name-owner.result.owner in
-    let all = c.args.self.now in
-    let there = had c.self.inside c.self.view_is o c.in-Some.table.now c.in-Some.ensures.value in
-    moved (λ p. IfOk c.queue_record.result (λ taken. taken ≡ is_taken nat_eq path (tables_of all p) ch)) names c.name-owner.ensures.at c.target-target.ensures
-    (subst (λ (t : TablesOf ℕ). IfOk c.queue_record.result (λ taken. taken ≡ is_taken nat_eq path t ch)) (sym there) c.queue_record.ensures.taken)
+    moved (λ p. IfOk c.queue_record.result (λ taken. taken ≡ is_taken nat_eq path (tables_of c.args.self.now p) ch)) c.args.forest.now.names
+    c.name-owner.ensures.at c.target-target.ensures
+    (subst (λ (t : TablesOf ℕ). IfOk c.queue_record.result (λ taken. taken ≡ is_taken nat_eq path t ch))
+    (sym (had c.self.inside c.self.view_is c.name-owner.result.owner c.in-Some.table.now c.in-Some.ensures.value)) c.queue_record.ensures.taken)
 
 pub returns-clause-tables : goal.returns-clause-tables
 returns-clause-tables c =
-    let names = c.args.forest.now.names in
-    let ch = change_of c.args.change in
-    let o = c.name-owner.result.owner in
-    let all = c.args.self.now in
-    let rule = told nat_eq (path_keys c.args.forest.now (target_of ch)) ch in
-    let t = c.in-Some.table.now in
+    let o = (name_at c.args.forest.now.names (target_of (change_of c.args.change))).owner in
+    let rule = told nat_eq (path_keys c.args.forest.now (target_of (change_of c.args.change))) (change_of c.args.change) in
     let r : Inside = record { tables = c.get_mut.follows.lender c.queue_record.new.self; alloc = c.self.inside.alloc } in
-    let step : table_of c.queue_record.new.self ≡ rule (table_of t) →
-    ChangesTables (name_at names (target_of ch)).owner (rule (tables_of all (name_at names (target_of ch)).owner)) all (all_tables r) =
-    λ e. moved (λ p. ChangesTables p (rule (tables_of all p)) all (all_tables r)) names c.name-owner.ensures.at c.target-target.ensures
-    (rewritten c.self.inside c.self.view_is o r c.queue_record.new.self rule c.in-Some.ensures.value
+    let step : table_of c.queue_record.new.self ≡ rule (table_of c.in-Some.table.now) →
+    ChangesTables o (rule (tables_of c.args.self.now o)) c.args.self.now (all_tables r) =
+    λ e. moved (λ p. ChangesTables p (rule (tables_of c.args.self.now p)) c.args.self.now (all_tables r)) c.args.forest.now.names
+    c.name-owner.ensures.at c.target-target.ensures
+    (rewritten c.self.inside c.self.view_is c.name-owner.result.owner r c.queue_record.new.self rule c.in-Some.ensures.value
     (λ some. ((c.get_mut.follows.holds c.queue_record.new.self).3 some).0) e) in
     on_ok_weaker c.queue_record.result step c.queue_record.ensures.tables

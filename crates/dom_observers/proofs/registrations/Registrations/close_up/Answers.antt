@@ -14,7 +14,7 @@ invariant_of-self c =
     let kept = filter_same _ (λ (r : Registered). not r.has_gone && not (p (registration_of r))) _
     (λ x b q k. (search (rules, tests), search (rules, tests))) items c.retain.new.self.items c.retain.ensures.filtered in
     record {
-      noted = c.new.ensures c.retain.new.self.items;
+      noted = c.forget.ensures c.retain.new.self.items;
       counted =
           let same = subst (λ (rs : List Registered). length (those_there rs) ≡ length rs) (sym kept) (kept-there p items) in
           omega (arith, same);

@@ -1,10 +1,10 @@
-use Rattle.std.proofs.Common.{◌≡◌, ◌+◌, ◌++◌, ◌∷◌, [], true, eqb, cond, map, get_or, refl, sym, ap, ◌∙◌, subst, arith}
+use Rattle.std.proofs.Common.{◌≡◌, ◌+◌, ◌&&◌, ◌++◌, ◌∷◌, [], true, eqb, cond, map, get_or, refl, sym, ap, ◌∙◌, subst, arith}
 use Rattle.std.proofs.lemmas.List.{get_or-map}
-use Rattle.dom_model.specs.Names.{is_in, append_once}
+use Rattle.dom_model.specs.Names.{is_in}
 use Rattle.dom_observers.specs.declared.options.Options.{Options}
 use Rattle.dom_observers.specs.declared.owned.Owned.{Owned}
 use Rattle.dom_observers.specs.Views.{registration_of}
-use Rattle.dom_observers.specs.Watching.{places_at, among}
+use Rattle.dom_observers.specs.Watching.{places_at, is_marked, among}
 use Rattle.dom_observers.proofs.Watching.{noted-next}
 use Rattle.dom_observers.proofs.watched.Watched.note.Goals as goal
 
@@ -25,9 +25,9 @@ loop-place-preserved c =
           (record {
             places = λ x.
                 c.in_ok-add-2.ensures.places x ∙ ap (λ n. cond (eqb item.node x) (places_at before x ++ n ∷ []) (places_at before x)) (sym next);
-            above =
-                c.in_ok-add-2.ensures.above
-                ∙ ap (λ (o : Options). cond o.subtree (append_once eqb before.above.keys item.node) before.above.keys) c.deref.ensures;
+            above = λ x.
+                c.in_ok-add-2.ensures.above x
+                ∙ ap (λ (o : Options). cond (o.subtree && eqb item.node x) true (is_marked before.above x)) c.deref.ensures;
             noted = ap (λ n. n + 1) (sym next);
             stay = λ removal j e.
                 subst (λ (o : Owned). is_in eqb j (among o removal) ≡ true) (sym c.add-in-loop-place.ensures.owned) (c.add.ensures.stay removal j e);
