@@ -1,17 +1,14 @@
 -- The siblings before a node and behind it, by the links.
-use Rattle.std.proofs.Common.{◌≡◌, ℕ, suc, ◌<◌, List, [], ◌∷◌, ◌++◌, length, Option, Some, None, refl, ap, sym, subst, ◌∙◌, append_assoc, arith}
-use Rattle.std.proofs.Common.{length-append, inl}
-use Rattle.std.specs.Option.{option_map, option_map_or}
+use Rattle.std.proofs.Common.{◌≡◌, List, [], ◌∷◌, ◌++◌, Option, Some, None, refl, ap, sym, subst, ◌∙◌, append_assoc, inl}
+use Rattle.std.specs.Option.{option_map_or}
 use Rattle.std.proofs.lemmas.Option.{none-some}
 use Rattle.dom_base.specs.declared.NodeName.{NodeName}
 use Rattle.dom_model.specs.Names.{name_eq, first_of, last_of, items_before, items_after}
 use Rattle.dom_model.specs.Tree.{Trees, children_of, siblings, parent_of, previous_sibling, next_sibling}
-use Rattle.dom_tree.specs.Forest.{NamedTrees, name_at}
 use Rattle.dom_laws.proofs.Lists.{In, In-right, Single, Single-apart, split_at, before-split, after-split, first_split, last_split, no_first, no_last}
 use Rattle.dom_laws.proofs.Shapes.{Has}
 use Rattle.dom_laws.proofs.Counts.{Once}
 use Rattle.dom_laws.proofs.Children.{parent-of_child, child-of_parent, children-single}
-use Rattle.dom_tree.proofs.Standing.{StandOnce, StandAlone, Once-forest, Has-forest}
 
 -- the siblings before a node
 abbrev pub before_list : Trees → NodeName → List NodeName
@@ -120,35 +117,3 @@ after-next ts x once h = by (first_of (after_list ts x)) refl
     by : (o : Option NodeName) → first_of (after_list ts x) ≡ o → after_list ts x ≡ from ts (first_of (after_list ts x))
     by None e = no_first (after_list ts x) e ∙ ap (from ts) (sym e)
     by (Some s) e = has_parent s e (parent_of ts x) refl ∙ ap (from ts) (sym e)
-
--- A node of a forest, and a node beside it.
-module _ (f : NamedTrees) (once : StandOnce f) (only : StandAlone f) (k : ℕ) (o : Option ℕ) (node : k < length f.names) where
-  -- the siblings before a node are its previous sibling and those before that one, by keys
-  pub previous_step : option_map (name_at f.names) o ≡ previous_sibling f.trees (name_at f.names k) → before_list f.trees (name_at f.names k)
-      ≡ up_to f.trees (option_map (name_at f.names) o)
-  previous_step is = before-previous f.trees (name_at f.names k) (Once-forest f once only) (Has-forest f once k node) ∙
-      ap (up_to f.trees) (sym is)
-
-  -- the siblings behind a node are its next sibling and those behind that one, by keys
-  pub next_step : option_map (name_at f.names) o ≡ next_sibling f.trees (name_at f.names k) → after_list f.trees (name_at f.names k)
-      ≡ from f.trees (option_map (name_at f.names) o)
-  next_step is = after-next f.trees (name_at f.names k) (Once-forest f once only) (Has-forest f once k node) ∙ ap (from f.trees) (sym is)
-
--- there are fewer before a node than up to it
-pub previous_less : (f : NamedTrees) (k : ℕ) (at o : Option ℕ) → at ≡ Some k →
-    before_list f.trees (name_at f.names k) ≡ up_to f.trees (option_map (name_at f.names) o)
-    → length (up_to f.trees (option_map (name_at f.names) o)) < length (up_to f.trees (option_map (name_at f.names) at))
-previous_less f k at o is e =
-    let front = before_list f.trees (name_at f.names k) in
-    let longer : length (up_to f.trees (option_map (name_at f.names) at)) ≡ length (front ++ name_at f.names k ∷ []) =
-    ap (λ o'. length (up_to f.trees (option_map (name_at f.names) o'))) is in
-    omega (arith, longer, length-append front (name_at f.names k ∷ []), ap (length {A = NodeName}) e)
-
--- there are fewer behind a node than from it on
-pub next_less : (f : NamedTrees) (k : ℕ) (at o : Option ℕ) → at ≡ Some k →
-    after_list f.trees (name_at f.names k) ≡ from f.trees (option_map (name_at f.names) o)
-    → length (from f.trees (option_map (name_at f.names) o)) < length (from f.trees (option_map (name_at f.names) at))
-next_less f k at o is e =
-    let longer : length (from f.trees (option_map (name_at f.names) at)) ≡ suc (length (after_list f.trees (name_at f.names k))) =
-    ap (λ o'. length (from f.trees (option_map (name_at f.names) o'))) is in
-    omega (arith, longer, ap (length {A = NodeName}) e)

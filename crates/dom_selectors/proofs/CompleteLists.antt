@@ -87,22 +87,22 @@ head-fails : (test : ℕ → Bool) → ((c : ℕ) → begins_part c ≡ true →
 head-fails test not_part [] rest h = cc
 head-fails test not_part (c ∷ text) rest h = not_part c h
 
+-- no part begins with such a unit
+no-sign : (c : ℕ) → begins_part c ≡ false → ((35 == c) ≡ false) × ((46 == c) ≡ false) × ((91 == c) ≡ false) × ((58 == c) ≡ false)
+no-sign c h =
+    let a = or_parts ((35 == c) || (46 == c) || (91 == c)) (58 == c) h in
+    let b = or_parts ((35 == c) || (46 == c)) (91 == c) a.0 in
+    let d = or_parts (35 == c) (46 == c) b.0 in
+    (d.0, d.1, b.1, a.1)
+
 -- no simple selector is read where none begins
 simple-none : (rest : DomString) → head_passes begins_part rest ≡ false → read_simple rest ≡ None
 simple-none [] h = refl
-simple-none (c ∷ cs) h =
-    let a = or_parts ((35 == c) || (46 == c) || (91 == c)) (58 == c) h in
-    let b = or_parts ((35 == c) || (46 == c)) (91 == c) a.0 in
-    let d = or_parts (35 == c) (46 == c) b.0 in
-    rw (d.0, d.1, b.1, a.1) refl
+simple-none (c ∷ cs) h = let d = no-sign c h in rw (d.0, d.1, d.2, d.3) refl
 
 part-none : (rest : DomString) → head_passes begins_part rest ≡ false → read_part rest ≡ None
 part-none [] h = refl
-part-none (c ∷ cs) h =
-    let a = or_parts ((35 == c) || (46 == c) || (91 == c)) (58 == c) h in
-    let b = or_parts ((35 == c) || (46 == c)) (91 == c) a.0 in
-    let d = or_parts (35 == c) (46 == c) b.0 in
-    rw (d.0, d.1, b.1, a.1) refl
+part-none (c ∷ cs) h = let d = no-sign c h in rw (d.0, d.1, d.2, d.3) refl
 
 -- nor NAME or `*` where a part begins
 type-none : (text rest : DomString) → head_passes begins_part text ≡ true → read_type_name (text ++ rest) ≡ None

@@ -1,6 +1,6 @@
 -- Readers that read one after another.
-use Rattle.std.proofs.Common.{◌≡◌, ℕ, zero, suc, ◌<◌, ◌≤◌, List, [], ◌∷◌, ◌++◌, length, Option, Some, None, refl, ap, sym, ◌∙◌, arith, append_assoc}
-use Rattle.std.specs.Prelude.{map}
+use Rattle.std.proofs.Common.{◌≡◌, ℕ, zero, suc, ◌<◌, ◌≤◌, List, [], ◌∷◌, ◌++◌, length, Option, Some, None, Bor, refl, ap, sym, ◌∙◌, arith, append_assoc}
+use Rattle.std.specs.Prelude.{map, option_map}
 use Rattle.std.proofs.lemmas.List.{map-append}
 use Rattle.dom_model.specs.Names.{DomString}
 use Rattle.dom_model.specs.SelectorText.{Reader, read_more, read_each, read_all}
@@ -50,7 +50,7 @@ all-none read [] h = refl
 all-none read (c ∷ cs) h = ap (read_more (λ rest. read_each (length cs) read rest) (c ∷ cs)) h
 
 -- one more is read, and put behind those so far
-pub one_more : {X A : Type 0} {read : Reader A} → Shrinks read → (view : X → A) (before : List X) (x : X) (cs : DomString) {behind : DomString} →
+one_more : {X A : Type 0} {read : Reader A} → Shrinks read → (view : X → A) (before : List X) (x : X) (cs : DomString) {behind : DomString} →
     read cs ≡ Some (view x, behind) → behind_list (map view (before ++ x ∷ [])) (read_all read behind) ≡ behind_list (map view before) (read_all read cs)
 one_more {X} {A} {read} s view before x cs {behind} h =
     let more = read_all read behind in
@@ -58,3 +58,18 @@ one_more {X} {A} {read} s view before x cs {behind} h =
     ap front (map-append view before (x ∷ []))
     ∙ ap (λ ys. (ys, more.1)) (append_assoc (map view before) (view x ∷ []) more.0)
     ∙ sym (ap (behind_list (map view before)) (all-one read s cs (view x, behind) h))
+
+-- A round of a loop that reads one after another: it read one.
+module _ {X A : Type 0} {read : Reader A} (s : Shrinks read) (view : X → A) (cs : DomString) {found : Option (X × Bor (List ℕ))} {x : X}
+    {behind : Bor (List ℕ)} (is : option_map (λ y. (view y.0, y.1.now)) found ≡ read cs) (one : found ≡ Some (x, behind)) where
+  reads : read cs ≡ Some (view x, behind.now)
+  reads = sym is ∙ ap (option_map (λ y. (view y.0, y.1.now))) one
+
+  -- less is left behind it
+  pub round-less : length behind.now < length cs
+  round-less = Shrinks-rest read s cs (view x, behind.now) reads
+
+  -- it is put behind those so far
+  pub round-more : (before : List X) {after : List X} → after ≡ before ++ x ∷ [] →
+      behind_list (map view after) (read_all read behind.now) ≡ behind_list (map view before) (read_all read cs)
+  round-more before put = ap (λ xs. behind_list (map view xs) (read_all read behind.now)) put ∙ one_more s view before x cs reads

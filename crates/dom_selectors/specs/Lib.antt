@@ -6,3 +6,4 @@ pub mod Texts
 pub mod Words
 pub mod Grammar
 pub mod Laws
+pub mod Siblings

@@ -8,7 +8,7 @@ ghost use Rattle.dom_selectors.specs.Views.{complex_from};
 
 use crate::matching::compound_matches;
 use crate::selector::{Combinator, CompoundPart, Link};
-use crate::siblings::element_before;
+use crate::siblings::{Side, element_beside};
 use dom_tree::Forest;
 use node_arena::Key;
 
@@ -45,7 +45,7 @@ pub(crate) fn chain_end<'a>(
         }
         let next = match last.combinator {
             Combinator::Child => forest.parent(at),
-            Combinator::Next => element_before(forest, at),
+            Combinator::Next => element_beside(forest, Side::Before, at),
             Combinator::Descendant | Combinator::Later => {
                 return Some(Place {
                     links: rest,
@@ -81,12 +81,12 @@ pub(crate) fn chain_before<'a>(
     ensures shorter { IfSome result (λ end. length end.links.now ≤ length links.entry.now) }
 {
     forest.law_nodes_stand_once();
-    let mut at = element_before(forest, key);
+    let mut at = element_beside(forest, Side::Before, key);
     while let Some(before) = at {
         if let Some(end) = chain_end(forest, first, links, before) {
             return Some(end);
         }
-        at = element_before(forest, before);
+        at = element_beside(forest, Side::Before, before);
     }
     None
 }

@@ -8,7 +8,7 @@ ghost use Rattle.dom_tree.specs.Forest.{IsNode, name_of};
 ghost use Rattle.dom_selectors.specs.Views.{test_view, simple_view, part_view, compound_view};
 
 use crate::selector::{AttributeTest, CompoundPart, Simple};
-use crate::siblings::{element_before, element_behind, is_element};
+use crate::siblings::{Side, element_beside, is_element};
 use crate::values::value_passes;
 use dom_attributes::is_same_text;
 use dom_tree::Forest;
@@ -49,8 +49,8 @@ fn simple_matches(forest: &Forest, simple: &Simple, key: Key) -> bool
         Simple::WithValue(name, test, value) => {
             attribute_passes(forest, key, name.as_str(), *test, value)
         }
-        Simple::FirstChild => element_before(forest, key).is_none(),
-        Simple::LastChild => element_behind(forest, key).is_none(),
+        Simple::FirstChild => element_beside(forest, Side::Before, key).is_none(),
+        Simple::LastChild => element_beside(forest, Side::Behind, key).is_none(),
     }
 }
 

@@ -57,13 +57,13 @@ loop-last-preserved c =
                 (sym w.parent-next.ensures.value ∙ ap (option_map (name_at f.names)) to));
           }
       | in-Next w ↦
-          let to : w.element_before-next.result ≡ Some c.in_ok-at.at = sym w.next-is ∙ c.in_ok-at.was in
+          let to : w.element_beside-next.result ≡ Some c.in_ok-at.at = sym w.next-is ∙ c.in_ok-at.was in
           record {
-            node = w.element_before-next.ensures.node c.in_ok-at.at to;
+            node = w.element_beside-next.ensures.node c.in_ok-at.at to;
             shorter = omega (arith, fewer);
             leads = leads-on c.loop-last.invariant.leads
                 (to_nearest f.trees whole left k x once has hit z (is ∙ ap (λ h. joined left (combinator_view h) k) w.in-Next.is)
-                (sym w.element_before-next.ensures.value ∙ ap (option_map (name_at f.names)) to));
+                (sym w.element_beside-next.ensures.value ∙ ap (option_map (name_at f.names)) to));
           }
     ]
 
@@ -115,7 +115,7 @@ returns-in_err-at-clause-ends c =
       | in-Child w ↦ no_parent f.trees whole left k x once has hit (is ∙ ap (λ h. joined left (combinator_view h) k) w.in-Child.is)
           (sym w.parent-next.ensures.value ∙ ap (option_map (name_at f.names)) (sym w.next-is ∙ c.in_err-at.was))
       | in-Next w ↦ no_nearest f.trees whole left k x once has hit (is ∙ ap (λ h. joined left (combinator_view h) k) w.in-Next.is)
-          (sym w.element_before-next.ensures.value ∙ ap (option_map (name_at f.names)) (sym w.next-is ∙ c.in_err-at.was))
+          (sym w.element_beside-next.ensures.value ∙ ap (option_map (name_at f.names)) (sym w.next-is ∙ c.in_err-at.was))
     ] in
     rw c.from_residual.ensures (c.loop-last.invariant.leads.same ∙ none)
 

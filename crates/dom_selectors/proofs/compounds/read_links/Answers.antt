@@ -1,29 +1,20 @@
 -- One more is read.
-use Rattle.std.proofs.Common.{◌≡◌, Some, None, ap, sym, ◌∙◌, arith}
+use Rattle.std.proofs.Common.{◌≡◌, None, ap, sym, ◌∙◌, arith}
 use Rattle.std.proofs.lemmas.List.{append-nil}
 use Rattle.std.specs.Prelude.{map}
-use Rattle.dom_model.specs.SelectorText.{read_all, read_link}
+use Rattle.dom_model.specs.SelectorText.{read_link}
 use Rattle.dom_selectors.specs.Reads.{behind_list}
 use Rattle.dom_selectors.specs.Views.{link_view}
-use Rattle.dom_selectors.proofs.Shorter.{Shrinks-rest, link-ends}
-use Rattle.dom_selectors.proofs.Repeats.{one_more, all-none}
+use Rattle.dom_selectors.proofs.Shorter.{link-ends}
+use Rattle.dom_selectors.proofs.Repeats.{round-less, round-more, all-none}
 use Rattle.dom_selectors.proofs.compounds.read_links.Goals as goal
 
 pub loop-links-smaller : goal.loop-links-smaller
-loop-links-smaller c =
-    let h = c.in_ok-link.ensures in
-    let g = c.in-Some.is in
-    let e : read_link c.loop-links.rest.now ≡ Some (link_view c.in-Some.link, c.in-Some.behind.now) = grind arith in
-    Shrinks-rest read_link link-ends c.loop-links.rest.now _ e
+loop-links-smaller c = round-less link-ends link_view c.loop-links.rest.now c.in_ok-link.ensures c.in-Some.is
 
 pub loop-links-preserved : goal.loop-links-preserved
 loop-links-preserved c =
-    let h = c.in_ok-link.ensures in
-    let g = c.in-Some.is in
-    let e : read_link c.loop-links.rest.now ≡ Some (link_view c.in-Some.link, c.in-Some.behind.now) = grind arith in
-    ap (λ xs. behind_list (map link_view xs) (read_all read_link c.in-Some.behind.now)) c.in_ok-push.ensures.items
-    ∙ one_more link-ends link_view c.loop-links.links.items c.in-Some.link c.loop-links.rest.now e
-    ∙ c.loop-links.invariant
+    round-more link-ends link_view c.loop-links.rest.now c.in_ok-link.ensures c.in-Some.is _ c.in_ok-push.ensures.items ∙ c.loop-links.invariant
 
 pub returns : goal.returns
 returns c =

@@ -22,11 +22,10 @@ loop-at-init c =
 
 pub loop-at-smaller : goal.loop-at-smaller
 loop-at-smaller c =
-    let f = c.args.forest.now in
-    let node = c.loop-at.invariant.node c.in-Some.above c.in-Some.is in
-    above_less f c.in-Some.above c.loop-at.at c.parent-at-in-Some.result c.in-Some.is
-    (above_step f c.law_nodes_stand_once.ensures.once c.law_nodes_stand_once.ensures.only c.in-Some.above c.parent-at-in-Some.result node
-    c.parent-at-in-Some.ensures.value)
+    let e = c.law_nodes_stand_once.ensures in
+    above_less c.args.forest.now c.in-Some.above c.loop-at.at c.parent-at-in-Some.result c.in-Some.is
+    (above_step c.args.forest.now e.once e.only c.in-Some.above c.parent-at-in-Some.result
+    (c.loop-at.invariant.node c.in-Some.above c.in-Some.is) c.parent-at-in-Some.ensures.value)
 
 pub loop-at-preserved : goal.loop-at-preserved
 loop-at-preserved c =

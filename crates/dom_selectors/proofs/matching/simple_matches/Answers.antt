@@ -10,7 +10,7 @@ pub returns-in-FirstChild : goal.returns-in-FirstChild
 returns-in-FirstChild c =
     let f = c.args.forest.now in
     let x = name_at f.names c.args.key in
-    let empty = no_last_seen (name_at f.names) c.element_before.result (elements_before f.trees x) c.element_before.ensures.value in
+    let empty = no_last_seen (name_at f.names) c.element_beside.result (elements_before f.trees x) c.element_beside.ensures.value in
     let none = c.is_none.ensures in
     let same = ap (λ s. simple_matches f.trees x (simple_view s)) c.in-FirstChild.is in
     grind (arith, empty, none, same)
