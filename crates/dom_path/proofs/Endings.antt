@@ -270,27 +270,20 @@ pub record HostsStand (f : NamedTrees) (hosts : List ShadowHost) (depth : ℕ) :
   pub nodes : HostsAreNodes f.names hosts
 
 module _ (f : NamedTrees) (there : ((k : ℕ) → k < length f.names → Has f.trees (name_at f.names k))) where
-  -- a host that is found is a node
-  host-has : (hosts : List ShadowHost) → HostsAreNodes f.names hosts → (root host : NodeName) → host_named f.names hosts root ≡ Some host → Has f.trees host
-  host-has [] nodes root host e = cc
-  host-has (h ∷ hosts) nodes root host e = by (name_eq root (name_at f.names h.root)) (λ k. host-has hosts nodes.2 root host k) e
-    where
-      by : (b : Bool) → (host_named f.names hosts root ≡ Some host → Has f.trees host) →
-          option_map (λ (k : ShadowHost). name_at f.names k.host)
-          (if b then Some h else find (λ (k : ShadowHost). name_eq root (name_at f.names k.root)) hosts) ≡ Some host → Has f.trees host
-      by true again k = let same : name_at f.names h.host ≡ host = cc in subst (Has f.trees) same (there h.host nodes.0)
-      by false again k = again k
-
-  -- and so is a shadow root
-  root-has : (hosts : List ShadowHost) → HostsAreNodes f.names hosts → (host root : NodeName) → root_named f.names hosts host ≡ Some root → Has f.trees root
-  root-has [] nodes host root e = cc
-  root-has (h ∷ hosts) nodes host root e = by (name_eq host (name_at f.names h.host)) (λ k. root-has hosts nodes.2 host root k) e
-    where
-      by : (b : Bool) → (root_named f.names hosts host ≡ Some root → Has f.trees root) →
-          option_map (λ (k : ShadowHost). name_at f.names k.root)
-          (if b then Some h else find (λ (k : ShadowHost). name_eq host (name_at f.names k.host)) hosts) ≡ Some root → Has f.trees root
-      by true again k = let same : name_at f.names h.root ≡ root = cc in subst (Has f.trees) same (there h.root nodes.1)
-      by false again k = again k
+  module _ (key value : ShadowHost → ℕ) (within : (h : ShadowHost) → h.host < length f.names → h.root < length f.names → value h < length f.names) where
+    -- one of two keys that is found among hosts by the other one is a node
+    found-has : (hosts : List ShadowHost) → HostsAreNodes f.names hosts → (x y : NodeName) →
+        option_map (λ (h : ShadowHost). name_at f.names (value h)) (find (λ (h : ShadowHost). name_eq x (name_at f.names (key h))) hosts) ≡ Some y →
+        Has f.trees y
+    found-has [] nodes x y e = cc
+    found-has (h ∷ hosts) nodes x y e = by (name_eq x (name_at f.names (key h))) (λ k. found-has hosts nodes.2 x y k) e
+      where
+        by : (b : Bool) →
+            (option_map (λ (k : ShadowHost). name_at f.names (value k)) (find (λ (k : ShadowHost). name_eq x (name_at f.names (key k))) hosts) ≡ Some y →
+            Has f.trees y) → option_map (λ (k : ShadowHost). name_at f.names (value k))
+            (if b then Some h else find (λ (k : ShadowHost). name_eq x (name_at f.names (key k))) hosts) ≡ Some y → Has f.trees y
+        by true again k = let same : name_at f.names (value h) ≡ y = cc in subst (Has f.trees) same (there (value h) (within h nodes.0 nodes.1))
+        by false again k = again k
 
   -- each node has its path
   pub paths-end : Once f.trees → {hosts : List ShadowHost} {depth : ℕ} → HostsStand f hosts depth → (k : ℕ) → k < length f.names →
@@ -298,5 +291,6 @@ module _ (f : NamedTrees) (there : ((k : ℕ) → k < length f.names → Has f.t
   paths-end once {hosts = hosts} {depth = depth} stand k node related composed =
       let t = name_at f.names k in
       path-there (shadows f hosts) depth t related composed
-      (ways-end f hosts once depth stand.hosted (host-has hosts stand.nodes) (root-has hosts stand.nodes) composed (root_of f.trees t) depth t
+      (ways-end f hosts once depth stand.hosted (found-has (λ h. h.root) (λ h. h.host) (λ h host root. host) hosts stand.nodes)
+      (found-has (λ h. h.host) (λ h. h.root) (λ h host root. root) hosts stand.nodes) composed (root_of f.trees t) depth t
       (stand.hosted.nested t) (there k node))

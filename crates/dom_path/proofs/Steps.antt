@@ -81,9 +81,9 @@ module _ (f : NamedTrees) (hosts : List ShadowHost) (once : Once f.trees) where
           subst (λ y. IsTreeOf f trees t.outer y) same (its.outer k e)
 
   -- a parent stands in the node's tree
-  pub tree-parent : (trees : List Tree) (place : ℕ) (x : NodeName) {p : NodeName} → Has f.trees x → parent_of f.trees x ≡ Some p → IsTreeOf f trees place x →
-      IsTreeOf f trees place p
-  tree-parent trees place x {p} has up is = is ∙ ap Some (root-parent f.trees once x p has up)
+  pub tree-parent : {trees : List Tree} {x : PathNode} {p : NodeName} → IsPathNode f hosts trees x → Has f.trees (name x.node) →
+      Some p ≡ parent_of f.trees (name x.node) → (depth : ℕ) → IsHosted f hosts depth → IsTreeOf f trees x.tree p
+  tree-parent {x = x} {p = p} stands has up depth hosted = stands.tree depth hosted ∙ ap Some (root-parent f.trees once (name x.node) p has (sym up))
 
   -- a slot stands in the tree of its shadow root
   pub slot-root : (x : NodeName) {p r y : NodeName} → parent_of f.trees x ≡ Some p → root_named f.names hosts p ≡ Some r → Has f.trees r →

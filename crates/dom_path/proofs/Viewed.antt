@@ -1,21 +1,29 @@
 -- What is seen from the places of a path by keys is what is seen by names, and so are its items.
-use Rattle.std.proofs.Common.{◌≡◌, ℕ, ◌<◌, not, ◌&&◌, List, length, Option, Some, None, refl, ap, ◌∙◌}
-use Rattle.std.specs.Prelude.{option_map, option_to_list}
-use Rattle.std.specs.Option.{ForSome}
+use Rattle.std.proofs.Common.{◌≡◌, ℕ, ◌<◌, Bool, not, ◌&&◌, List, length, Option, Some, None, refl, sym, ap, ◌∙◌}
+use Rattle.std.specs.Prelude.{option_map, option_to_list, if◌then◌else◌}
+use Rattle.std.specs.Option.{ForSome, option_and_then}
 use Rattle.dom_base.specs.declared.NodeName.{NodeName}
 use Rattle.dom_model.specs.Names.{name_eq, is_in}
+use Rattle.dom_model.specs.Tree.{root_of}
 use Rattle.dom_tree.specs.Forest.{NamedTrees, name_at}
 use Rattle.dom_tree.specs.Apart.{TellApart}
 use Rattle.dom_slots.specs.Hosts.{ShadowHost}
 use Rattle.dom_slots.specs.Shadows.{ShadowTrees, shadows}
 use Rattle.dom_slots.proofs.Hosted.{key-test, found-test}
+use Rattle.dom_path.specs.declared.event.Event.{Event}
 use Rattle.dom_path.specs.declared.path_node.PathNode.{PathNode}
 use Rattle.dom_path.specs.declared.trees.Tree.{Tree}
 use Rattle.dom_path.specs.Built.{IsEvent, IsItemOf, related_name}
 use Rattle.dom_path.specs.Hosted.{IsHosted}
 use Rattle.dom_path.specs.PathNodes.{AreTrees, IsPathNode, seen_of, related_from, is_key, ends_before, is_silent, item_from}
-use Rattle.dom_path.specs.Ways.{seen_at, related_at, ends_at, is_empty_at}
+use Rattle.dom_path.specs.Ways.{seen_at, related_at, ends_at, event_parent_at, is_empty_at, next_at, unless_ended}
 use Rattle.dom_path.proofs.Places.{seen-node, seen-named}
+
+-- a related node by its place is that by its key
+pub related-key : (names : List NodeName) (r : Option PathNode) (k : Option ℕ) → option_map (λ (a : PathNode). a.node) r ≡ k →
+    related_name names r ≡ option_map (name_at names) k
+related-key names None k e = ap (option_map (name_at names)) e
+related-key names (Some a) k e = ap (option_map (name_at names)) e
 
 module _ (f : NamedTrees) (hosts : List ShadowHost) (distinct : TellApart f.names) (trees : List Tree) (are : AreTrees f hosts trees) where
   abbrev name : ℕ → NodeName
@@ -45,7 +53,7 @@ module _ (f : NamedTrees) (hosts : List ShadowHost) (distinct : TellApart f.name
     related-named (Some a) x h g = ap Some (of-named a x (h a refl) g)
 
     -- whether a path ends before a place
-    pub ends-named : (t : PathNode) (r : Option PathNode) (x : PathNode) → IsPathNode f hosts trees t → ForSome r (IsPathNode f hosts trees) →
+    ends-named : (t : PathNode) (r : Option PathNode) (x : PathNode) → IsPathNode f hosts trees t → ForSome r (IsPathNode f hosts trees) →
         IsPathNode f hosts trees x
         → ends_before trees t r x ≡ ends_at s depth (name t.node) (related_name f.names r) (name x.node)
     ends-named t r x ht hr hx =
@@ -56,8 +64,16 @@ module _ (f : NamedTrees) (hosts : List ShadowHost) (distinct : TellApart f.name
         ∙ ap (λ o. is_in name_eq (name x.node) (option_to_list o)) (related-named r x hr hx) in
         λ j. not (test_node j) && (test_seen j && test_related j)
 
+    -- the node behind another one on the path, whose event parent has this place
+    pub next-named : {t : PathNode} {r : Option PathNode} {x : PathNode} {b : Bool} (composed : Bool) (from : NodeName) → IsEvent f hosts trees t r →
+        IsPathNode f hosts trees x → b ≡ ends_before trees t r x → event_parent_at s composed (root_of f.trees (name t.node)) from ≡ Some (name x.node)
+        → (if b then None else Some (name x.node)) ≡ next_at s depth (name t.node) (related_name f.names r) composed from
+    next-named {t} {r} {x} composed from event at ends up =
+        ap (λ (b : Bool). if b then None else Some (name x.node)) (ends ∙ ends-named t r x event.at_target event.at_related at)
+        ∙ sym (ap (option_and_then (unless_ended s depth (name t.node) (related_name f.names r))) up)
+
     -- whether there is a path
-    pub silent-named : (t : PathNode) (r : Option PathNode) → IsPathNode f hosts trees t → ForSome r (IsPathNode f hosts trees)
+    silent-named : (t : PathNode) (r : Option PathNode) → IsPathNode f hosts trees t → ForSome r (IsPathNode f hosts trees)
         → is_silent trees t r ≡ is_empty_at s depth (name t.node) (related_name f.names r)
     silent-named t r ht hr =
         let test_related = found-test f.names distinct (related_from trees t.tree r) t.node (related-node t.tree r hr) ht.node
@@ -68,6 +84,13 @@ module _ (f : NamedTrees) (hosts : List ShadowHost) (distinct : TellApart f.name
             is_key (option_map (λ (a : PathNode). a.node) r) t.node ≡ is_in name_eq (name t.node) (option_to_list (related_name f.names r))
         is_related None h = refl
         is_related (Some a) h = found-test f.names distinct (Some a.node) t.node (λ k e. let same : a.node ≡ k = cc in rw (← same) ((h a refl).node)) ht.node
+
+    -- the same of nodes with these keys
+    pub silent-keys : {t : PathNode} {r : Option PathNode} {k : ℕ} {o : Option ℕ} {b : Bool} → IsPathNode f hosts trees t →
+        ForSome r (IsPathNode f hosts trees) → t.node ≡ k → option_map (λ (a : PathNode). a.node) r ≡ o →
+        b ≡ is_silent trees t r → is_empty_at s depth (name k) (option_map name o) ≡ b
+    silent-keys {t} {r} {k} {o} ht hr at its silent =
+        sym (λ j. is_empty_at s depth (name (at j)) (related-key f.names r o its j)) ∙ sym (silent ∙ silent-named t r ht hr)
 
   -- the item of a place
   pub item-made : (t : PathNode) (r : Option PathNode) (x : PathNode) → IsEvent f hosts trees t r → IsPathNode f hosts trees x
@@ -86,8 +109,14 @@ module _ (f : NamedTrees) (hosts : List ShadowHost) (distinct : TellApart f.name
     };
   }
 
--- a related node by its place is that by its key
-pub related-key : (names : List NodeName) (r : Option PathNode) (k : Option ℕ) → option_map (λ (a : PathNode). a.node) r ≡ k →
-    related_name names r ≡ option_map (name_at names) k
-related-key names None k e = ap (option_map (name_at names)) e
-related-key names (Some a) k e = ap (option_map (name_at names)) e
+module _ (f : NamedTrees) (hosts : List ShadowHost) (e : Event) (from : NodeName) where
+  -- the event parent of a node, where it has this place
+  pub parent-named : {o : Option Tree} {top : Tree} {above : Option PathNode} {x : PathNode} →
+      option_map (λ (t : Tree). name_at f.names t.root) o ≡ Some (root_of f.trees (name_at f.names e.target.node)) → o ≡ Some top → above ≡ Some x →
+      option_map (λ (a : PathNode). name_at f.names a.node) above ≡ event_parent_at (shadows f hosts) e.composed (name_at f.names top.root) from →
+      event_parent_at (shadows f hosts) e.composed (root_of f.trees (name_at f.names e.target.node)) from ≡ Some (name_at f.names x.node)
+  parent-named {o} {top} root at found up =
+      let both : Some (name_at f.names top.root) ≡ Some (root_of f.trees (name_at f.names e.target.node)) =
+      ap (option_map (λ (t : Tree). name_at f.names t.root)) (sym at) ∙ root in
+      let same : name_at f.names top.root ≡ root_of f.trees (name_at f.names e.target.node) = cc in
+      sym (ap (λ y. event_parent_at (shadows f hosts) e.composed y from) same) ∙ sym up ∙ ap (option_map (λ (a : PathNode). name_at f.names a.node)) found

@@ -115,9 +115,8 @@ impl Trees {
         if place == viewer {
             return None;
         }
-        let trees = self.trees.as_slice();
-        let tree = trees[place];
-        if encloses(trees, tree.root, viewer) {
+        let tree = self.at(place);
+        if encloses(self.trees.as_slice(), tree.root, viewer) {
             None
         } else {
             tree.host

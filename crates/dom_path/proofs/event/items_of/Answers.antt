@@ -1,4 +1,4 @@
-use Rattle.std.proofs.Common.{◌≡◌, ℕ, true, false, List, Option, sym, ap, subst, ◌∙◌}
+use Rattle.std.proofs.Common.{ℕ, List, Option, sym, ap, subst}
 use Rattle.std.specs.Prelude.{option_map, map, IfOk}
 use Rattle.smallvec.specs.SmallVec.{SmallVec}
 use Rattle.dom_base.specs.declared.NodeName.{NodeName}
@@ -9,10 +9,9 @@ use Rattle.dom_path.specs.Built.{IsBuilt, IsWay, related_name}
 use Rattle.dom_path.specs.Hosted.{IsHosted}
 use Rattle.dom_path.specs.Items.{item_named}
 use Rattle.dom_path.specs.Paths.{IsTrail}
-use Rattle.dom_path.specs.Ways.{is_empty_at}
 use Rattle.dom_path.proofs.Goings.{stand-kept, tree-kept}
 use Rattle.dom_path.proofs.Tracks.{ok-other, built-way}
-use Rattle.dom_path.proofs.Viewed.{silent-named, related-key}
+use Rattle.dom_path.proofs.Viewed.{silent-keys, related-key}
 use Rattle.dom_path.proofs.event.items_of.Goals as goal
 
 pub items-requires-clause-event : goal.items-requires-clause-event
@@ -29,17 +28,10 @@ pub returns-then-is_silent-clause-path : goal.returns-then-is_silent-clause-path
 returns-then-is_silent-clause-path c = λ depth hosted.
     let f = c.args.forest.now in
     let hosts = c.args.slots.now.hosts in
-    let target = c.in_ok-target.target in
-    let related = c.in_ok-related.related in
-    let trees = c.of_any.new.trees in
-    let at_target = stand-kept f hosts c.of.new.trees trees target c.in_ok-related.ensures.grown c.in_ok-target.ensures.stands in
-    let silent : is_empty_at (shadows f hosts) depth (name_at f.names target.node) (related_name f.names related) ≡ true =
-    sym (silent-named f hosts c.law_nodes_stand_once.ensures.distinct trees c.in_ok-related.ensures.trees depth hosted target related at_target
-    c.in_ok-related.ensures.stands) ∙ sym c.if-is_silent.ensures in
-    let t = ap (name_at f.names) c.in_ok-target.ensures.node in
-    let r = related-key f.names related c.args.related c.in_ok-related.ensures.node in
     subst (IsBuilt f hosts (name_at f.names c.args.target) (option_map (name_at f.names) c.args.related) depth c.args.composed) (sym c.new.ensures.items)
-    (sym (λ j. is_empty_at (shadows f hosts) depth (t j) (r j)) ∙ silent)
+    (silent-keys f hosts c.law_nodes_stand_once.ensures.distinct c.of_any.new.trees c.in_ok-related.ensures.trees depth hosted
+    (stand-kept f hosts c.of.new.trees c.of_any.new.trees c.in_ok-target.target c.in_ok-related.ensures.grown c.in_ok-target.ensures.stands)
+    c.in_ok-related.ensures.stands c.in_ok-target.ensures.node c.in_ok-related.ensures.node c.if-is_silent.ensures)
 
 pub returns-clause-path : goal.returns-clause-path
 returns-clause-path c =
@@ -48,7 +40,6 @@ returns-clause-path c =
     let target = c.in_ok-target.target in
     let related = c.in_ok-related.related in
     let trees = c.of_any.new.trees in
-    let at_target = stand-kept f hosts c.of.new.trees trees target c.in_ok-related.ensures.grown c.in_ok-target.ensures.stands in
     let t = ap (name_at f.names) c.in_ok-target.ensures.node in
     let r = related-key f.names related c.args.related c.in_ok-related.ensures.node in
     ok-other (λ (items : SmallVec Item). (depth : ℕ) → IsHosted f hosts depth →
@@ -56,11 +47,11 @@ returns-clause-path c =
     (λ (items : SmallVec Item). (depth : ℕ) → IsHosted f hosts depth →
     IsBuilt f hosts (name_at f.names c.args.target) (option_map (name_at f.names) c.args.related) depth c.args.composed items.items)
     (λ (items : SmallVec Item) way depth hosted.
-    let shown : is_empty_at (shadows f hosts) depth (name_at f.names target.node) (related_name f.names related) ≡ false =
-    sym (silent-named f hosts c.law_nodes_stand_once.ensures.distinct trees c.in_ok-related.ensures.trees depth hosted target related at_target
-    c.in_ok-related.ensures.stands) ∙ sym c.if-is_silent.ensures in
-    subst (λ (p : NodeName × Option NodeName). IsBuilt f hosts p.0 p.1 depth c.args.composed items.items) (λ j. (t j, r j))
-    (built-way f hosts (name_at f.names target.node) (related_name f.names related) c.args.composed depth items.items shown (way depth hosted)))
+    let shown = silent-keys f hosts c.law_nodes_stand_once.ensures.distinct trees c.in_ok-related.ensures.trees depth hosted
+    (stand-kept f hosts c.of.new.trees trees target c.in_ok-related.ensures.grown c.in_ok-target.ensures.stands)
+    c.in_ok-related.ensures.stands c.in_ok-target.ensures.node c.in_ok-related.ensures.node c.if-is_silent.ensures in
+    built-way f hosts (name_at f.names c.args.target) (option_map (name_at f.names) c.args.related) c.args.composed depth items.items shown
+    (subst (λ (p : NodeName × Option NodeName). IsWay f hosts p.0 p.1 depth c.args.composed items.items) (λ j. (t j, r j)) (way depth hosted)))
     c.items.result c.items.ensures.way
 
 pub returns-then-is_silent-clause-trail : goal.returns-then-is_silent-clause-trail

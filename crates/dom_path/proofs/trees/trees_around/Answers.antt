@@ -11,13 +11,11 @@ loop-next-preserved c =
     let f = c.args.forest.now in
     let hosts = c.args.slots.now.hosts in
     let root = c.root-root.result in
-    let node = c.in-Some.node in
-    let here = c.loop-next.invariant.1 in
     let so_far = subst (λ o. GoesOut f hosts (Some (name_at f.names c.args.node)) c.loop-next.trees.items (option_map (name_at f.names) o))
-    c.in-Some.is here in (
+    c.in-Some.is c.loop-next.invariant.1 in (
       λ k e. host-node f.names hosts c.requires.hosts root k (sym c.host_of-next.ensures ∙ e),
       subst (λ ts. GoesOut f hosts (Some (name_at f.names c.args.node)) ts (option_map (name_at f.names) c.host_of-next.result)) (sym c.in_ok-push.ensures.ok)
-          (goes-on f hosts (Some (name_at f.names c.args.node)) c.loop-next.trees.items (name_at f.names node) _ so_far (record {
+          (goes-on f hosts (Some (name_at f.names c.args.node)) c.loop-next.trees.items (name_at f.names c.in-Some.node) _ so_far (record {
             nodes = record { root = c.root-root.ensures.node; host = λ k e. host-node f.names hosts c.requires.hosts root k (sym c.host_of-next.ensures ∙ e) };
             root = c.root-root.ensures.value;
             host = ap (option_map (name_at f.names)) c.host_of-next.ensures ∙ host-named f.names c.law_nodes_stand_once.ensures.distinct hosts

@@ -32,14 +32,8 @@ loop-next-preserved c =
 
 pub returns-clause-way : goal.returns-clause-way
 returns-clause-way c =
-    let f = c.args.forest.now in
-    let e = c.args.self.now in
-    track-last f c.args.slots.now.hosts (name_at f.names e.target.node) (related_name f.names e.related) e.composed c.in_default.is
-    c.loop-next.invariant.track
+    track-last c.args.forest.now c.args.slots.now.hosts _ _ c.args.self.now.composed c.in_default.is c.loop-next.invariant.track
 
 pub returns-clause-trail : goal.returns-clause-trail
 returns-clause-trail c =
-    let f = c.args.forest.now in
-    let e = c.args.self.now in
-    trail-last f c.args.slots.now.hosts (name_at f.names e.target.node) (related_name f.names e.related) e.composed c.in_default.is
-    c.loop-next.invariant.track
+    trail-last c.args.forest.now c.args.slots.now.hosts _ _ c.args.self.now.composed c.in_default.is c.loop-next.invariant.track
