@@ -1,7 +1,7 @@
 -- The places of a node's entries in a table, and the entries in them.
 use Rattle.std.proofs.Common.{◌≡◌, ℕ, ◌+◌, ◌<◌, ◌||◌, Bool, true, false, not, List, [], ◌∷◌, ◌++◌, length, get_or, take, filter, Option, Some, None}
 use Rattle.std.proofs.Common.{zero, suc, refl, sym, ap, subst, ◌∙◌, arith, append_assoc, append-nil, length-append}
-use Rattle.std.specs.Prelude.{nat_eq, is_some, filter_map, slice_get, slice_set, remove, if◌then◌else◌}
+use Rattle.std.specs.Prelude.{nat_eq, is_some, filter_map, slice_get, slice_index_or, slice_set, remove, if◌then◌else◌}
 use Rattle.std.specs.List.{list_any, cons_option}
 use Rattle.std.specs.Option.{option_flatten, option_map_or}
 use Rattle.std.proofs.Math.Bool.{or-false, or-true}
@@ -9,14 +9,15 @@ use Rattle.std.proofs.Math.Seq.{set-append_seam}
 use Rattle.std.proofs.lemmas.Bool.{cond-true, cond-false, eqb-true}
 use Rattle.std.proofs.lemmas.List.{map-append, length_push, take_more}
 use Rattle.std.proofs.lemmas.List.Folds.{list_any-append}
-use Rattle.std.proofs.lemmas.Option.{slice_get_within, get_or_from_slice_get}
+use Rattle.std.proofs.lemmas.Option.{slice_get_within, slice_get-get_or, get_or_from_slice_get}
 use Rattle.std.proofs.lemmas.List.Elements.{filter_map-append, filter-append, filter_more}
 use Rattle.std.proofs.lemmas.Map.Views.{any-filter_same}
 use Rattle.dom_worlds.proofs.ListLemmas.{by_cases}
 use Rattle.dom_model.specs.Listeners.{Listener}
 use Rattle.dom_dispatch.specs.declared.listeners.Entry.{Entry}
 use Rattle.dom_dispatch.specs.Entries.{listener_of, listeners_in}
-use Rattle.dom_dispatch.specs.Tables.{present, entry_at, is_of_node, places_from, passes_in}
+use Rattle.dom_dispatch.specs.declared.places.Places.{Places}
+use Rattle.dom_dispatch.specs.Tables.{present, entry_at, is_of_node, places_at, places_from, passes_in, IsIndexed}
 use Rattle.dom_dispatch.proofs.Entered.{kept-mapped}
 use Rattle.dom_dispatch.proofs.Narrowing.{filter-wider}
 
@@ -187,6 +188,13 @@ module _ (k : ℕ) where
 
   pub parted : (es : List (Option Entry)) (at j : ℕ) → slice_get (places_from k 0 es) at ≡ Some j → IsParted 0 es at j
   parted es at j h = parted-from 0 es at j h
+
+  -- so is it at a place of the node that was read
+  pub parted-at : (es : List (Option Entry)) (p : Places) {ps : List ℕ} (at : ℕ) → IsIndexed p es → at < length (places_at p k) → ps ≡ places_at p k →
+      (slice_get (places_at p k) at ≡ Some (slice_index_or ps at 0)) × IsParted 0 es at (slice_index_or ps at 0)
+  parted-at es p {ps} at indexed within read =
+      let there = slice_get-get_or (places_at p k) at 0 within ∙ ap (λ xs. Some (slice_index_or xs at 0)) (sym read) in
+      (there, parted es at (slice_index_or ps at 0) (subst (λ xs. slice_get xs at ≡ Some (slice_index_or ps at 0)) (indexed k) there))
 
   module _ (es : List (Option Entry)) (at j : ℕ) (s : IsParted 0 es at j) where
     -- the place, by what is in front of it

@@ -40,10 +40,10 @@ impl Places {
         ensures room { OnOk result (HasRoom self.new node) }
     {
         self.open(node)?;
-        if let Some(list) = self.lists.get_mut(&node) {
-            list.reserve(1)?;
+        match self.lists.get_mut(&node) {
+            Some(list) => list.reserve(1),
+            None => Ok(()),
         }
-        Ok(())
     }
 
     /// Gives a node a list, unless it has one.
