@@ -1,28 +1,35 @@
 -- The types for which there are listeners.
-use Rattle.std.proofs.Common.{◌≡◌, ℕ, Bool, true, false, cond, List, [], ◌∷◌, ◌++◌, filter, Result, Ok, Err, String, sym, ap, subst, ◌∙◌}
+use Rattle.std.proofs.Common.{◌≡◌, ℕ, Bool, true, false, ◌&&◌, cond, List, [], ◌∷◌, ◌++◌, filter, Result, Ok, Err, refl, sym, ap, subst, ◌∙◌}
 use Rattle.std.proofs.Common.{true≢false}
 use Rattle.std.specs.Prelude.{OnOk, OnErr, if◌then◌else◌}
-use Rattle.std.specs.HashSet.{HashSet, contains_text}
-use Rattle.std.specs.List.{AllByRecursion}
-use Rattle.std.proofs.lemmas.Bool.{false_from_ne_true}
+use Rattle.std.specs.Bool.{beq}
 use Rattle.std.proofs.lemmas.Slice.Eq.{bytes_eq-Decides}
 use Rattle.dom_attributes.proofs.Attributes.{text_test}
 use Rattle.dom_model.specs.Listeners.{Listener}
-use Rattle.dom_model.specs.Names.{text_eq}
+use Rattle.dom_model.specs.Names.{Word, text_eq}
 use Rattle.dom_dispatch.specs.declared.listeners.Entry.{Entry}
-use Rattle.dom_dispatch.specs.Entries.{listener_of, listeners_in}
-use Rattle.dom_dispatch.specs.Tables.{HasTypes}
+use Rattle.dom_dispatch.specs.declared.types.Types.{Types}
+use Rattle.dom_dispatch.specs.Entries.{listener_of, listeners_in, NoneHears}
+use Rattle.dom_dispatch.specs.Tables.{is_noted, HasTypes}
 
-module _ {Y S : Type 0} (types : HashSet (String Y) S) where
+module _ (types : Types) where
+  -- a listener of a type that is among them doesn't hear one that is not
+  apart : (same a b : Bool) {text event : Word} → (same ≡ true → text ≡ event) → is_noted types a text ≡ true → is_noted types b event ≡ false →
+      (same && beq a b) ≡ false
+  apart false a b is there none = refl
+  apart true true true is there none = absurd (true≢false (sym there ∙ ap (is_noted types true) (is refl) ∙ none))
+  apart true true false is there none = refl
+  apart true false true is there none = refl
+  apart true false false is there none = absurd (true≢false (sym there ∙ ap (is_noted types false) (is refl) ∙ none))
+
   -- of a type that is not among them there is no listener
-  pub none-typed : (ls : List (Listener ℕ)) (event : List ℕ) → HasTypes types ls → contains_text types event ≡ false →
-      AllByRecursion (λ l. text_eq l.words.event event ≡ false) ls
-  none-typed [] event typed none = tt
-  none-typed (l ∷ ls) event typed none = (
-    false_from_ne_true (text_eq l.words.event event) (λ same.
-        let is : l.words.event ≡ event = (bytes_eq-Decides l.words.event event).0 (text_test l.words.event event ∙ same) in
-        true≢false (sym typed.0 ∙ (ap (contains_text types) is ∙ none))),
-    none-typed ls event typed.1 none,
+  pub none-typed : (ls : List (Listener ℕ)) (event : Word) (capturing : Bool) → HasTypes types ls → is_noted types capturing event ≡ false →
+      NoneHears event capturing ls
+  none-typed [] event capturing typed none = tt
+  none-typed (l ∷ ls) event capturing typed none = (
+    apart (text_eq l.words.event event) l.words.capture capturing
+        (λ same. (bytes_eq-Decides l.words.event event).0 (text_test l.words.event event ∙ same)) typed.0 none,
+    none-typed ls event capturing typed.1 none,
   )
 
   -- fewer listeners have them too
@@ -35,23 +42,23 @@ module _ {Y S : Type 0} (types : HashSet (String Y) S) where
       by false rest = rest
 
   -- and one more, if it is for one of them
-  behind-typed : (es : List Entry) (e : Entry) → HasTypes types (listeners_in es) → contains_text types (listener_of e).words.event ≡ true →
-      HasTypes types (listeners_in (es ++ e ∷ []))
+  behind-typed : (es : List Entry) (e : Entry) → HasTypes types (listeners_in es) →
+      is_noted types (listener_of e).words.capture (listener_of e).words.event ≡ true → HasTypes types (listeners_in (es ++ e ∷ []))
   behind-typed [] e typed its = (its, tt)
   behind-typed (f ∷ es) e typed its = (typed.0, behind-typed es e typed.1 its)
 
   -- so it is whether one more was put there or not
   module _ (old new : List Entry) (e : Entry) where
     pub pushed-typed : {E : Type 0} (r : Result (Unit {0}) E) → OnOk r (new ≡ old ++ e ∷ []) → OnErr r (new ≡ old) →
-        HasTypes types (listeners_in old) → contains_text types (listener_of e).words.event ≡ true → HasTypes types (listeners_in new)
+        HasTypes types (listeners_in old) → is_noted types (listener_of e).words.capture (listener_of e).words.event ≡ true → HasTypes types (listeners_in new)
     pushed-typed (Ok u) is same typed its = subst (λ es. HasTypes types (listeners_in es)) (sym is) (behind-typed old e typed its)
     pushed-typed (Err x) is same typed its = subst (λ es. HasTypes types (listeners_in es)) (sym same) typed
 
 -- more types
-pub more-typed : {Y S : Type 0} (old new : HashSet (String Y) S) → ((text : List ℕ) → contains_text old text ≡ true → contains_text new text ≡ true) →
+pub more-typed : (old new : Types) → ((either : Bool) (text : Word) → is_noted old either text ≡ true → is_noted new either text ≡ true) →
     (ls : List (Listener ℕ)) → HasTypes old ls → HasTypes new ls
 more-typed old new kept [] typed = tt
-more-typed old new kept (l ∷ ls) typed = (kept l.words.event typed.0, more-typed old new kept ls typed.1)
+more-typed old new kept (l ∷ ls) typed = (kept l.words.capture l.words.event typed.0, more-typed old new kept ls typed.1)
 
 -- one more type leaves the others
 pub type-kept : (same was now : Bool) → now ≡ cond same true was → was ≡ true → now ≡ true

@@ -1,6 +1,6 @@
 -- The steps of loops over listeners and over the visits of a path, and the dispatch in a world.
 use Rattle.std.proofs.Common.{◌≡◌, ℕ, ◌+◌, ◌<◌, Bool, true, false, cond, List, [], ◌∷◌, ◌++◌, length, get_or, take, drop, filter, fold, map, reverse}
-use Rattle.std.proofs.Common.{Option, Some, option_map, zero, suc, refl, sym, ap, ◌∙◌, arith, drop-cons}
+use Rattle.std.proofs.Common.{Option, Some, option_map, zero, suc, refl, sym, ap, subst, ◌∙◌, arith, drop-cons}
 use Rattle.std.specs.Prelude.{◌&&◌, nat_eq, slice_get, if◌then◌else◌}
 use Rattle.std.specs.List.{AllByRecursion}
 use Rattle.std.proofs.lemmas.Bool.{cond-false}
@@ -11,8 +11,7 @@ use Rattle.std.proofs.lemmas.Option.{slice_get-map, slice_get-get_or, slice_get_
 use Rattle.dom_base.specs.declared.NodeName.{NodeName}
 use Rattle.dom_model.specs.Command.{EventWords}
 use Rattle.dom_model.specs.Dispatch.{event_output, visit_of}
-use Rattle.dom_model.specs.Listeners.{Dispatching, Listener, Visit, hears, after_inner_invoke, after_invoke, begun}
-use Rattle.dom_model.specs.Names.{text_eq}
+use Rattle.dom_model.specs.Listeners.{Dispatching, Listener, hears, after_inner_invoke, after_invoke}
 use Rattle.dom_model.specs.Output.{EventLine}
 use Rattle.dom_model.specs.Paths.{View}
 use Rattle.dom_model.specs.World.{part_of}
@@ -25,6 +24,7 @@ use Rattle.dom_path.specs.Items.{ShowsNodes}
 use Rattle.dom_path.specs.PathNodes.{view_in}
 use Rattle.dom_dispatch.specs.declared.event.Outcome.{Outcome}
 use Rattle.dom_dispatch.specs.Dispatches.{IsDispatched, IsDispatchedIn}
+use Rattle.dom_dispatch.specs.Entries.{NoneHears}
 use Rattle.dom_dispatch.specs.Kept.{is_of_owner}
 use Rattle.dom_dispatch.specs.ListenersByName.{listener_named, line_named, IsListenerAt, IsViewOf}
 use Rattle.dom_dispatch.proofs.Among.{dispatched-along}
@@ -81,23 +81,28 @@ module _ (e : EventWords) (capturing : Bool) where
       ap call is ∙ sym (cond-false d.stopped d (call (filter (hears nat_eq e (visit_of nat_eq capturing v)) d.listeners)) running) ∙
       ap (λ u. after_invoke nat_eq e d (visit_of nat_eq capturing u)) one
 
--- where nobody listens for its type a dispatch ends as it begins
-module _ (e : EventWords) where
-  unheard : (ls : List (Listener ℕ)) → AllByRecursion (λ l. text_eq l.words.event e.event ≡ false) ls → (v : Visit ℕ) → filter (hears nat_eq e v) ls ≡ []
+  -- where nobody listens visits change nothing
+  unheard : (ls : List (Listener ℕ)) → NoneHears e.event capturing ls → (v : View ℕ) → filter (hears nat_eq e (visit_of nat_eq capturing v)) ls ≡ []
   unheard [] all v = refl
   unheard (l ∷ ls) all v =
-      ap (λ b. if b then l ∷ filter (hears nat_eq e v) ls else filter (hears nat_eq e v) ls) (deaf (nat_eq l.node v.current) _ _ all.0) ∙
-      unheard ls all.1 v
+      ap (λ b. if b then l ∷ filter (hears nat_eq e (visit_of nat_eq capturing v)) ls else filter (hears nat_eq e (visit_of nat_eq capturing v)) ls)
+      (deaf (nat_eq l.node v.node) _ all.0) ∙ unheard ls all.1 v
     where
-      deaf : (a b d : Bool) → b ≡ false → (a && (b && d)) ≡ false
-      deaf true b d none = ap (λ x. x && d) none
-      deaf false b d none = refl
+      deaf : (a b : Bool) → b ≡ false → (a && b) ≡ false
+      deaf true b none = none
+      deaf false b none = refl
 
-  pub silent : (ls : List (Listener ℕ)) → AllByRecursion (λ l. text_eq l.words.event e.event ≡ false) ls → (vs : List (Visit ℕ)) →
-      fold (after_invoke nat_eq e) (begun ls) vs ≡ begun ls
-  silent ls all [] = refl
-  silent ls all (v ∷ vs) = ap (λ d. fold (after_invoke nat_eq e) d vs) (ap (fold (after_inner_invoke nat_eq e v) (begun ls)) (unheard ls all v))
-      ∙ silent ls all vs
+  pub silent : (d : Dispatching ℕ) → NoneHears e.event capturing d.listeners → (vs : List (View ℕ)) →
+      fold (after_invoke nat_eq e) d (map (visit_of nat_eq capturing) vs) ≡ d
+  silent d all [] = refl
+  silent d all (v ∷ vs) =
+      ap (λ d. fold (after_invoke nat_eq e) d (map (visit_of nat_eq capturing) vs))
+      (ap (λ ls. if d.stopped then d else fold (after_inner_invoke nat_eq e (visit_of nat_eq capturing v)) d ls) (unheard d.listeners all v) ∙ either d.stopped)
+      ∙ silent d all vs
+    where
+      either : (b : Bool) → (if b then d else d) ≡ d
+      either true = refl
+      either false = refl
 
 -- an item that is there
 there : {X : Type 0} (xs : List X) (i : ℕ) → i < length xs → (x : X) × (slice_get xs i ≡ Some x)
@@ -107,8 +112,9 @@ there (x ∷ xs) (suc i) h = there xs i (omega arith)
 
 module _ (trees : List Tree) (items : List Item) (vs : List (View ℕ)) (shown : vs ≡ map (view_in trees items) items) where
   -- what is shown at an item
-  pub view-is : (i : ℕ) (x : Item) → i < length items → x ≡ get_or items i x → slice_get vs i ≡ Some (view_in trees items x)
-  view-is i x h g =
+  pub view-is : {xs : List Item} (i : ℕ) {x : Item} → i < length items → xs ≡ items → x ≡ get_or xs i x → slice_get vs i ≡ Some (view_in trees items x)
+  view-is i {x} h same is =
+      let g : x ≡ get_or items i x = subst (λ ys. x ≡ get_or ys i x) same is in
       ap (λ xs. slice_get xs i) shown ∙ slice_get-map (view_in trees items) items i ∙
       ap (option_map (view_in trees items)) (slice_get-get_or items i x h ∙ ap Some (sym g))
 

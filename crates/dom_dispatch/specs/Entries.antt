@@ -1,6 +1,7 @@
 -- What a contract sees of `Listeners`.
-use Rattle.std.specs.Prelude.{ℕ, nat_eq, Bool, ◌&&◌, List, map, string_bytes}
+use Rattle.std.specs.Prelude.{◌≡◌, ℕ, nat_eq, Bool, false, ◌&&◌, List, map, string_bytes}
 use Rattle.std.specs.Bool.{beq}
+use Rattle.std.specs.List.{AllByRecursion}
 use Rattle.dom_model.specs.Names.{Word, text_eq}
 use Rattle.dom_model.specs.Command.{ListenerWords}
 use Rattle.dom_model.specs.Listeners.{Listener}
@@ -22,3 +23,7 @@ listeners_in es = map listener_of es
 -- whether a listener is at a node and fits in type and capture (DOM Standard, concept: inner invoke)
 abbrev pub hears_at : ℕ → Word → Bool → Listener ℕ → Bool
 hears_at x event capturing l = nat_eq l.node x && (text_eq l.words.event event && beq l.words.capture capturing)
+
+-- no listener hears events of this type, while they are capturing or while they are not
+abbrev pub NoneHears : Word → Bool → List (Listener ℕ) → Type 0
+NoneHears event capturing ls = AllByRecursion (λ (l : Listener ℕ). (text_eq l.words.event event && beq l.words.capture capturing) ≡ false) ls

@@ -1,15 +1,16 @@
 -- How a table holds its entries: each in a place, and for each node the places of its entries.
 use Rattle.std.specs.Prelude.{◌≡◌, ℕ, ◌+◌, ◌<◌, nat_eq, Bool, true, false, List, [], ◌∷◌, filter_map, slice_get, Option, MatchOption, IsSome, if◌then◌else◌}
 use Rattle.std.specs.HashMap.{get as value_at}
-use Rattle.std.specs.HashSet.{HashSet, contains_text}
+use Rattle.std.specs.HashSet.{contains_text}
 use Rattle.std.specs.List.{AllByRecursion}
-use Rattle.std.specs.declared.string.String.{String}
 use Rattle.std.specs.Vec.{vec_len, vec_capacity}
 use Rattle.std.specs.Option.{option_flatten, option_map_or}
 use Rattle.dom_model.specs.Listeners.{Listener}
+use Rattle.dom_model.specs.Names.{Word}
 use Rattle.dom_dispatch.specs.Entries.{listener_of, listeners_in}
 use Rattle.dom_dispatch.specs.declared.listeners.Entry.{Entry}
 use Rattle.dom_dispatch.specs.declared.places.Places.{Places}
+use Rattle.dom_dispatch.specs.declared.types.Types.{Types}
 
 -- the entries that are there
 abbrev pub present : List (Option Entry) → List Entry
@@ -52,11 +53,15 @@ HasRoom p k = MatchOption (value_at nat_eq p.lists k) ⊥ (λ v. vec_len v < vec
 abbrev pub IsIndexed : Places → List (Option Entry) → Type 0
 IsIndexed p es = (k : ℕ) → places_at p k ≡ places_from k 0 es
 
--- all listeners are for one of these types
-abbrev pub HasTypes : {Y S : Type 0} → HashSet (String Y) S → List (Listener ℕ) → Type 0
-HasTypes types ls = AllByRecursion (λ (l : Listener ℕ). contains_text types l.words.event ≡ true) ls
+-- whether a type is among those of capturing listeners, or among those of the others
+abbrev pub is_noted : Types → Bool → Word → Bool
+is_noted types capturing event = if capturing then contains_text types.capturing event else contains_text types.others event
+
+-- the type of each listener is among these, for capturing ones or for the others
+abbrev pub HasTypes : Types → List (Listener ℕ) → Type 0
+HasTypes types ls = AllByRecursion (λ (l : Listener ℕ). is_noted types l.words.capture l.words.event ≡ true) ls
 
 -- how a table of listeners is kept
-pub record IsTable {Y S : Type 0} (p : Places) (es : List (Option Entry)) (types : HashSet (String Y) S) : Type 0 where
+pub record IsTable (p : Places) (es : List (Option Entry)) (types : Types) : Type 0 where
   pub indexed : IsIndexed p es
   pub typed : HasTypes types (listeners_in (present es))

@@ -45,12 +45,6 @@ impl Listeners {
         forest.law_nodes_stand_once();
         let alloc = self.alloc;
         let path = Path::build(alloc, forest, slots, target, event.related, event.composed)?;
-        if !self.may_hear(event.name.as_str()) {
-            return Ok(Outcome {
-                answer: true,
-                lines: Vec::new(alloc),
-            });
-        }
         let mut handed = Handed::new(alloc);
         let mut so_far = Progress::new(alloc);
         self.capture(forest, &event, &path, &mut handed, &mut so_far)?;
@@ -61,7 +55,7 @@ impl Listeners {
         })
     }
 
-    /// The visits of a path from its last item to its first (DOM Standard, concept: dispatch).
+    /// The visits of a path from its last item to its first (DOM Standard, concept: dispatch). Where no listener hears any, none is made.
     fn capture(
         &mut self,
         forest: &Forest,
@@ -78,6 +72,9 @@ impl Listeners {
         ensures shown { OnOk result (IsShownOf path.now handed.new.shown) }
         ensures owners { OnOk result (AllByRecursion (IsOwnLine forest.now.names) so_far.new.lines.items) }
     {
+        if !self.may_hear(event.name.as_str(), true) {
+            return Ok(());
+        }
         let mut at = path.items().len();
         while at > 0 {
             at -= 1;
@@ -87,7 +84,7 @@ impl Listeners {
     }
 
     /// The visits of a path from its first item to its last: where the event doesn't bubble, only of those that are the event's
-    /// target as seen from themselves (DOM Standard, concept: dispatch).
+    /// target as seen from themselves (DOM Standard, concept: dispatch). Where no listener hears any, none is made.
     fn bubble(
         &mut self,
         forest: &Forest,
@@ -105,6 +102,9 @@ impl Listeners {
         ensures shown { OnOk result (IsShownOf path.now handed.new.shown) }
         ensures owners { OnOk result (AllByRecursion (IsOwnLine forest.now.names) so_far.new.lines.items) }
     {
+        if !self.may_hear(event.name.as_str(), false) {
+            return Ok(());
+        }
         for at in 0..path.items().len() {
             let item = path.items()[at];
             if event.bubbles || item.node == item.event_target {

@@ -11,6 +11,7 @@ mod places;
 mod progress;
 mod shown;
 mod table;
+mod types;
 mod visit;
 
 pub use event::{EventInit, LogLine, Outcome};

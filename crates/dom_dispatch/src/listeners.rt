@@ -1,17 +1,15 @@
 //! The listeners of all nodes.
-ghost use Rattle.std.specs.Prelude.{◌≡◌, ℕ, List, nat_eq, true, false, [], string_bytes, IfOk, OnOk, OnErr};
+ghost use Rattle.std.specs.Prelude.{◌≡◌, nat_eq, false, [], string_bytes, IfOk, OnOk, OnErr};
 ghost use Rattle.dom_model.specs.Listeners.{is_listener, with_listener_added, with_listener_removed};
-ghost use Rattle.std.specs.HashSet.{contains_text};
-ghost use Rattle.std.specs.List.{list_any, AllByRecursion};
-ghost use Rattle.dom_model.specs.Names.{text_eq};
-ghost use Rattle.dom_dispatch.specs.Entries.{words_of, listener_of, hears_at};
+ghost use Rattle.std.specs.List.{list_any};
+ghost use Rattle.dom_dispatch.specs.Entries.{words_of, listener_of, hears_at, NoneHears};
 
 use crate::table::Table;
+use crate::types::Types;
 use dom_attributes::is_same_text;
 use dom_base::Action;
 use node_arena::Key;
 use std::alloc::{AllocError, Global};
-use std::collections::HashSet;
 use std::marker::Model;
 use std::rc::Rc;
 
@@ -66,11 +64,12 @@ impl Entry {
 }
 
 /// The listeners of all nodes, in the order of adding (DOM Standard, concept: event listener list). A node's own are found by one
-/// look. The types for which there was a listener are kept, so that an event of another type visits no node.
+/// look. The types for which there was a listener are kept, so that an event of another type visits no node, and one that no capturing
+/// listener was for visits none while it is capturing.
 #[derive(Drop)]
 pub struct Listeners {
     pub(crate) table: Table,
-    types: HashSet<String>,
+    types: Types,
     pub(crate) alloc: Global,
 }
 
@@ -95,7 +94,7 @@ impl Listeners {
     {
         Listeners {
             table: Table::new(alloc),
-            types: HashSet::new(alloc),
+            types: Types::new(alloc),
             alloc,
         }
     }
@@ -109,16 +108,17 @@ impl Listeners {
         if self.has(node, &words) {
             return Ok(());
         }
-        note(self.alloc, &mut self.types, words.event.as_str())?;
+        self.types
+            .note(self.alloc, words.event.as_str(), words.capture)?;
         let words = Rc::new(self.alloc, words)?;
         self.table.push(Entry { node, words })
     }
 
-    /// Whether there may be a listener for events of this type: there was one.
-    pub(crate) fn may_hear(&self, event: &str) -> bool
-        ensures { result ≡ false → AllByRecursion (λ l. text_eq l.words.event event.now ≡ false) self.now }
+    /// Whether there may be a listener that hears events of this type, while they are capturing or while they are not: there was one.
+    pub(crate) fn may_hear(&self, event: &str, capturing: bool) -> bool
+        ensures { result ≡ false → NoneHears event.now capturing self.now }
     {
-        self.types.contains(event)
+        self.types.contains(event, capturing)
     }
 
     /// Whether a node has a listener with the type, the label and the capture of these words.
@@ -143,16 +143,4 @@ impl Listeners {
             self.table.take(node, at);
         }
     }
-}
-
-/// Adds a type to those for which there was a listener.
-fn note(alloc: Global, types: &mut HashSet<String>, event: &str) -> Result<(), AllocError>
-    ensures kept { (text : List ℕ) → contains_text types.old text ≡ true → contains_text types.new text ≡ true }
-    ensures noted { OnOk result (contains_text types.new event.now ≡ true) }
-{
-    if types.contains(event) {
-        return Ok(());
-    }
-    let _ = types.insert(String::from_str(alloc, event)?)?;
-    Ok(())
 }

@@ -1,4 +1,4 @@
-use Rattle.std.proofs.Common.{◌≡◌, ℕ, ◌||◌, Bool, true, false, cond, nat_eq, length, get_or, Some, ap, subst, sym, ◌∙◌, arith, rules, tests}
+use Rattle.std.proofs.Common.{◌≡◌, ℕ, ◌||◌, Bool, true, false, cond, nat_eq, filter, length, Some, ap, subst, sym, ◌∙◌, arith, rules, tests}
 use Rattle.std.specs.Prelude.{slice_get}
 use Rattle.std.specs.List.{AllByRecursion}
 use Rattle.std.proofs.lemmas.Bool.{cond-true, cond-false}
@@ -7,10 +7,17 @@ use Rattle.dom_model.specs.Listeners.{after_invoke}
 use Rattle.dom_model.specs.Paths.{View}
 use Rattle.dom_path.specs.PathNodes.{view_in}
 use Rattle.dom_dispatch.specs.Dispatches.{event_words, dispatching_in, IsOwnLine, IsShownOf}
-use Rattle.dom_dispatch.proofs.Visiting.{bubbled-more, view-is}
+use Rattle.dom_dispatch.specs.Entries.{NoneHears}
+use Rattle.dom_dispatch.proofs.Visiting.{bubbled-more, silent, view-is}
 use Rattle.dom_dispatch.proofs.listeners.Listeners.bubble.Goals as goal
 use Rattle.dom_dispatch.proofs.listeners.Listeners.bubble.Goals.{then-event+in_ok-visit, then-event-via-then-event, then-event-via-else-event+then-eq}
 use Rattle.dom_dispatch.proofs.listeners.Listeners.bubble.Goals.{else-event+else-eq}
+
+pub returns-then-not-may_hear-clause-visits : goal.returns-then-not-may_hear-clause-visits
+returns-then-not-may_hear-clause-visits c =
+    sym (silent (event_words c.args.event.now) false (dispatching_in c.args.self.now c.args.so_far.now)
+    (subst (λ text. NoneHears text false c.args.self.now) c.as_str.ensures.value (c.may_hear.ensures c.if-not-may_hear.true))
+    (filter (λ v. c.args.event.now.bubbles || is_at_target nat_eq v) c.args.path.now.views))
 
 pub loop-at-preserved : goal.loop-at-preserved
 loop-at-preserved c =
@@ -18,10 +25,10 @@ loop-at-preserved c =
     let i = c.loop-at.at in
     let item = c.index-items-at.result in
     let step = after_invoke nat_eq (event_words c.args.event.now) in
-    let is : item ≡ get_or path.items i item = subst (λ xs. item ≡ get_or xs i item) c.items.ensures.items c.index-items-at.is in
     let same : length c.items-at-end.result.now ≡ length path.items = ap length c.items-at-end.ensures.items in
     let v = view_in path.trees path.items item in
-    let at : slice_get path.views i ≡ Some v = view-is path.trees path.items path.views c.items.ensures.views i item (omega (arith, same)) is in
+    let at : slice_get path.views i ≡ Some v = view-is path.trees path.items path.views c.items.ensures.views i (omega (arith, same)) c.items.ensures.items
+    c.index-items-at.is in
     let test : View ℕ → Bool = λ v. c.args.event.now.bubbles || is_at_target nat_eq v in
     let before = dispatching_in c.loop-at.self c.loop-at.so_far in
     let after : dispatching_in c.if-event.self c.if-event.so_far ≡ cond (test v) (step before (visit_of nat_eq false v)) before =

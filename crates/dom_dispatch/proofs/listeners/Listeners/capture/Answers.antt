@@ -1,9 +1,15 @@
-use Rattle.std.proofs.Common.{◌≡◌, ◌<◌, ◌-◌, suc, true, nat_eq, length, arith}
+use Rattle.std.proofs.Common.{◌≡◌, ◌<◌, ◌-◌, suc, true, nat_eq, length, reverse, subst, sym, arith}
 use Rattle.dom_model.specs.Dispatch.{visit_of}
 use Rattle.dom_model.specs.Listeners.{after_invoke}
 use Rattle.dom_dispatch.specs.Dispatches.{event_words, dispatching_in}
-use Rattle.dom_dispatch.proofs.Visiting.{captured-more, view-there}
+use Rattle.dom_dispatch.specs.Entries.{NoneHears}
+use Rattle.dom_dispatch.proofs.Visiting.{captured-more, silent, view-there}
 use Rattle.dom_dispatch.proofs.listeners.Listeners.capture.Goals as goal
+
+pub returns-then-not-may_hear-clause-visits : goal.returns-then-not-may_hear-clause-visits
+returns-then-not-may_hear-clause-visits c =
+    sym (silent (event_words c.args.event.now) true (dispatching_in c.args.self.now c.args.so_far.now)
+    (subst (λ text. NoneHears text true c.args.self.now) c.as_str.ensures.value (c.may_hear.ensures c.if-not-may_hear.true)) (reverse c.args.path.now.views))
 
 pub loop-at-preserved : goal.loop-at-preserved
 loop-at-preserved c =

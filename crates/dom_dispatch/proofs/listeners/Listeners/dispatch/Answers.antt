@@ -1,12 +1,11 @@
 use Rattle.std.proofs.Common.{◌≡◌, ℕ, ◌||◌, true, false, not, nat_eq, map, filter, fold, reverse, ap, subst, sym, ◌∙◌}
 use Rattle.std.specs.List.{AllByRecursion}
 use Rattle.std.proofs.lemmas.List.Sums.{fold-append}
-use Rattle.dom_model.specs.Dispatch.{visit_of, visits_of, is_at_target}
-use Rattle.dom_model.specs.Names.{text_eq}
+use Rattle.dom_model.specs.Dispatch.{visit_of, is_at_target}
 use Rattle.dom_model.specs.Listeners.{Dispatching, after_invoke, begun}
-use Rattle.dom_dispatch.specs.Dispatches.{event_words, dispatching_in, line_in, IsOwnLine}
+use Rattle.dom_dispatch.specs.Dispatches.{event_words, dispatching_in, IsOwnLine}
 use Rattle.dom_dispatch.specs.Kept.{dispatch_along}
-use Rattle.dom_dispatch.proofs.Visiting.{dispatched-in, silent}
+use Rattle.dom_dispatch.proofs.Visiting.{dispatched-in}
 use Rattle.dom_dispatch.proofs.listeners.Listeners.dispatch.Goals as goal
 
 pub capture-requires-clause-owners : goal.capture-requires-clause-owners
@@ -40,25 +39,3 @@ returns-clause-keys c =
 pub returns-clause-names : goal.returns-clause-names
 returns-clause-names c =
     dispatched-in c.law_nodes_stand_once.ensures.distinct (returns-clause-keys c)
-
-pub returns-then-not-may_hear-clause-keys : goal.returns-then-not-may_hear-clause-keys
-returns-then-not-may_hear-clause-keys c =
-    let e = event_words c.args.event in
-    let views = c.in_ok-path.path.views in
-    let whole : begun c.args.self.now ≡ dispatch_along c.args.self.now e views =
-    sym (silent e c.args.self.now
-    (subst (λ text. AllByRecursion (λ l. text_eq l.words.event text ≡ false) c.args.self.now) c.as_str.ensures.value
-    (c.may_hear.ensures c.if-not-may_hear.true)) (visits_of nat_eq e.bubbles views)) in
-    record {
-      shown = views;
-      nodes = c.in_ok-path.ensures.shown_nodes;
-      path = c.in_ok-path.ensures.views;
-      hosted = λ depth hosted. (c.in_ok-path.ensures.hosted depth hosted).shown;
-      listeners = ap (λ (d : Dispatching ℕ). d.listeners) whole;
-      lines = ap (map line_in) c.new.ensures.items ∙ ap (λ (d : Dispatching ℕ). d.lines) whole;
-      answer = ap (λ (d : Dispatching ℕ). not d.cancelled) whole;
-    }
-
-pub returns-then-not-may_hear-clause-names : goal.returns-then-not-may_hear-clause-names
-returns-then-not-may_hear-clause-names c =
-    dispatched-in c.law_nodes_stand_once.ensures.distinct (returns-then-not-may_hear-clause-keys c)

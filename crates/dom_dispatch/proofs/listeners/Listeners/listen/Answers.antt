@@ -1,19 +1,18 @@
 use Rattle.std.proofs.Common.{ap, sym, ◌∙◌}
-use Rattle.std.specs.HashSet.{contains_text}
 use Rattle.std.specs.Prelude.{string_bytes}
 use Rattle.dom_dispatch.specs.declared.listeners.ListenerInit.{ListenerInit}
 use Rattle.dom_dispatch.specs.Entries.{listeners_in}
-use Rattle.dom_dispatch.specs.Tables.{present}
+use Rattle.dom_dispatch.specs.Tables.{present, is_noted}
 use Rattle.dom_dispatch.proofs.Typed.{more-typed, pushed-typed}
 use Rattle.dom_dispatch.proofs.listeners.Listeners.listen.Goals as goal
 
 pub invariant_of-self-2 : goal.invariant_of-self-2
 invariant_of-self-2 c = record {
   indexed = c.push.ensures.indexed;
-  typed = pushed-typed c.note.new.types (present c.self.inside.table.entries.items) (present c.push.new.self.entries.items)
+  typed = pushed-typed c.note.new.self (present c.self.inside.table.entries.items) (present c.push.new.self.entries.items)
       record { node = c.args.node; words = c.in_ok-words.words } c.push.result c.push.ensures.ok c.push.ensures.err
-      (more-typed c.self.inside.types c.note.new.types c.in_ok-note.ensures.kept (listeners_in (present c.self.inside.table.entries.items))
+      (more-typed c.self.inside.types c.note.new.self c.in_ok-note.ensures.kept (listeners_in (present c.self.inside.table.entries.items))
       c.self.invariant.typed)
-      (ap (λ (w : ListenerInit). contains_text c.note.new.types (string_bytes w.event)) c.in_ok-words.ensures.ok
-      ∙ ap (contains_text c.note.new.types) (sym c.as_str.ensures.value) ∙ c.in_ok-note.ensures.noted);
+      (ap (λ (w : ListenerInit). is_noted c.note.new.self w.capture (string_bytes w.event)) c.in_ok-words.ensures.ok
+      ∙ ap (is_noted c.note.new.self c.args.words.capture) (sym c.as_str.ensures.value) ∙ c.in_ok-note.ensures.noted);
 }

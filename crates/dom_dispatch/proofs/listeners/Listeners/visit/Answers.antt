@@ -1,10 +1,8 @@
 -- Those that were heard at an item's node are those that hear the visit there.
-use Rattle.std.proofs.Common.{◌≡◌, [], filter, fold, get_or, nat_eq, Some, ap, subst, sym, ◌∙◌, arith}
-use Rattle.std.specs.Prelude.{slice_get}
+use Rattle.std.proofs.Common.{◌≡◌, [], filter, fold, nat_eq, ap, sym, ◌∙◌, arith}
 use Rattle.std.proofs.lemmas.Grind.{common_steps}
 use Rattle.std.proofs.lemmas.Result.{on_ok_weaker}
 use Rattle.dom_model.specs.Listeners.{after_inner_invoke}
-use Rattle.dom_path.specs.PathNodes.{view_in}
 use Rattle.dom_dispatch.specs.Entries.{hears_at, listeners_in}
 use Rattle.dom_dispatch.specs.Dispatches.{event_words, dispatching_in}
 use Rattle.dom_dispatch.proofs.Visiting.{view-is, visited-calls}
@@ -13,31 +11,23 @@ use Rattle.dom_dispatch.proofs.listeners.Listeners.visit.Goals as goal
 pub returns-then-is_empty-clause-visit : goal.returns-then-is_empty-clause-visit
 returns-then-is_empty-clause-visit c = λ view at.
     let path = c.args.path.now in
-    let item = c.index-items-at.result in
-    let is : item ≡ get_or path.items c.args.at item = subst (λ xs. item ≡ get_or xs c.args.at item) c.items.ensures.items c.index-items-at.is in
-    let v = view_in path.trees path.items item in
-    let there : slice_get path.views c.args.at ≡ Some v =
-    view-is path.trees path.items path.views c.items.ensures.views c.args.at item c.requires.within is in
     let none : c.heard.new.heard.items ≡ [] = grind (arith, common_steps) in
     let heard = c.in_ok-heard.ensures
     ∙ (λ j. filter (hears_at (sym c.index-items-at.is j).node (c.as_str.ensures.value j) c.args.capturing) c.args.self.now) in
     visited-calls (event_words c.args.event.now) c.args.capturing (dispatching_in c.args.self.now c.args.so_far.now) [] c.if-so_far.false
-    (sym (ap listeners_in none) ∙ heard) (sym there ∙ at)
+    (sym (ap listeners_in none) ∙ heard)
+    (sym (view-is path.trees path.items path.views c.items.ensures.views c.args.at c.requires.within c.items.ensures.items c.index-items-at.is) ∙ at)
 
 pub returns-clause-visit : goal.returns-clause-visit
 returns-clause-visit c =
     on_ok_weaker c.call_all.result (λ calls view at.
     let path = c.args.path.now in
-    let item = c.index-items-at.result in
-    let is : item ≡ get_or path.items c.args.at item = subst (λ xs. item ≡ get_or xs c.args.at item) c.items.ensures.items c.index-items-at.is in
-    let v = view_in path.trees path.items item in
-    let there : slice_get path.views c.args.at ≡ Some v =
-    view-is path.trees path.items path.views c.items.ensures.views c.args.at item c.requires.within is in
+    let there = view-is path.trees path.items path.views c.items.ensures.views c.args.at c.requires.within c.items.ensures.items c.index-items-at.is in
     let e = event_words c.args.event.now in
     let before = dispatching_in c.args.self.now c.args.so_far.now in
     let called_in = listeners_in c.heard.new.heard.items in
     let heard = c.in_ok-heard.ensures
     ∙ (λ j. filter (hears_at (sym c.index-items-at.is j).node (c.as_str.ensures.value j) c.args.capturing) c.args.self.now) in
     calls
-    ∙ ap (λ w. fold (after_inner_invoke nat_eq e w) before called_in) (c.of-visit.ensures.visit v there)
+    ∙ ap (λ w. fold (after_inner_invoke nat_eq e w) before called_in) (c.of-visit.ensures.visit _ there)
     ∙ visited-calls e c.args.capturing before called_in c.if-so_far.false heard (sym there ∙ at)) c.call_all.ensures.calls

@@ -2,7 +2,7 @@ use Rattle.std.proofs.Common.{true, bytes_eq, string_bytes}
 use Rattle.std.specs.HashSet.{contains_text}
 use Rattle.std.proofs.lemmas.Map.Text.{hash_set_updates_text}
 use Rattle.dom_dispatch.proofs.Typed.{type-kept}
-use Rattle.dom_dispatch.proofs.listeners.note.Goals as goal
+use Rattle.dom_dispatch.proofs.types.note.Goals as goal
 
 pub returns-clause-kept : goal.returns-clause-kept
 returns-clause-kept c = λ text there.
