@@ -22,8 +22,9 @@ use Rattle.dom_path.specs.declared.item.Item.{Item}
 use Rattle.dom_path.specs.declared.trees.Tree.{Tree}
 use Rattle.dom_path.specs.Items.{ShowsNodes}
 use Rattle.dom_path.specs.PathNodes.{view_in}
+use Rattle.dom_dispatch.specs.declared.event.LogLine.{LogLine}
 use Rattle.dom_dispatch.specs.declared.event.Outcome.{Outcome}
-use Rattle.dom_dispatch.specs.Dispatches.{IsDispatched, IsDispatchedIn}
+use Rattle.dom_dispatch.specs.Dispatches.{HasPathOf, IsDispatched, IsDispatchedIn, IsLineAlong, IsOwnLine}
 use Rattle.dom_dispatch.specs.Entries.{NoneHears}
 use Rattle.dom_dispatch.specs.Kept.{is_of_owner}
 use Rattle.dom_dispatch.specs.ListenersByName.{listener_named, line_named, IsListenerAt, IsViewOf}
@@ -123,6 +124,17 @@ module _ (trees : List Tree) (items : List Item) (vs : List (View ℕ)) (shown :
   view-there i h =
       let x = there items i h in
       (view_in trees items x.0, ap (λ xs. slice_get xs i) shown ∙ slice_get-map (view_in trees items) items i ∙ ap (option_map (view_in trees items)) x.1)
+
+module _ (names : List NodeName) (paths : ℕ → List ℕ) where
+  -- lines along a path are their nodes' owners'
+  pub own-lines : (ls : List LogLine) → AllByRecursion (IsLineAlong names paths) ls → AllByRecursion (IsOwnLine names) ls
+  own-lines [] h = tt
+  own-lines (l ∷ ls) h = (h.0.0, own-lines ls h.1)
+
+  -- and have the paths of their numbers
+  pub numbered-lines : (ls : List LogLine) → AllByRecursion (IsLineAlong names paths) ls → AllByRecursion (HasPathOf paths) ls
+  numbered-lines [] h = tt
+  numbered-lines (l ∷ ls) h = (h.0.1, numbered-lines ls h.1)
 
 -- what is shown are nodes
 views-of : (names : List NodeName) (vs : List (View ℕ)) → AllByRecursion (ShowsNodes names) vs → AllByRecursion (IsViewOf names) vs

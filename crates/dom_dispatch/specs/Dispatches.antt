@@ -1,5 +1,5 @@
 -- What a contract sees of a dispatch: the event, the visits, the lines, and how far it is.
-use Rattle.std.specs.Prelude.{◌≡◌, ℕ, ◌<◌, not, List, filter, length, map, slice_get, Option, Some, option_map, string_bytes}
+use Rattle.std.specs.Prelude.{◌≡◌, ℕ, ◌<◌, not, List, [], filter, length, map, slice_get, Option, Some, option_map, string_bytes, unwrap_or}
 use Rattle.std.specs.Option.{ForSome}
 use Rattle.std.specs.List.{AllByRecursion}
 use Rattle.dom_base.specs.declared.Owner.{Owner}
@@ -58,11 +58,28 @@ dispatching_in ls p = record { listeners = ls; stopped = p.stopped; stopped_now 
 abbrev pub IsOwnLine : List NodeName → LogLine → Type 0
 IsOwnLine names l = l.owner ≡ (name_at names l.current).owner
 
--- where the visit is of its node's owner, lines that are their nodes' owners' are followed by such lines
-abbrev pub KeepsOwners : Visit → Progress → Progress → Type 0
-KeepsOwners v before after =
-    (names : List NodeName) → v.owner ≡ (name_at names v.current).owner → AllByRecursion (IsOwnLine names) before.lines.items →
-    AllByRecursion (IsOwnLine names) after.lines.items
+-- the path of a line is the one that stands here for its number
+abbrev pub HasPathOf : (ℕ → List ℕ) → LogLine → Type 0
+HasPathOf paths l = l.path.value.items ≡ paths l.path_at
+
+-- lines with the same number have the same path
+pub record AreNumbered (ls : List LogLine) : Type 0 where
+  pub paths : ℕ → List ℕ
+  pub each : AllByRecursion (HasPathOf paths) ls
+
+-- a line is its node's owner's, and its path is the one of its number
+abbrev pub IsLineAlong : List NodeName → (ℕ → List ℕ) → LogLine → Type 0
+IsLineAlong names paths l = IsOwnLine names l × HasPathOf paths l
+
+-- the nodes that an event shows at the items of its path
+abbrev pub paths_of : PathNow → ℕ → List ℕ
+paths_of p at = unwrap_or (option_map (λ (v : View ℕ). v.path) (slice_get p.views at)) []
+
+-- where the visit is of its node's owner, and its path the one of its number, such lines are followed by such lines
+abbrev pub KeepsLines : Visit → Progress → Progress → Type 0
+KeepsLines v before after =
+    (names : List NodeName) (paths : ℕ → List ℕ) → v.owner ≡ (name_at names v.current).owner → v.path.value.items ≡ paths v.path_at →
+    AllByRecursion (IsLineAlong names paths) before.lines.items → AllByRecursion (IsLineAlong names paths) after.lines.items
 
 module _ (f : NamedTrees) (hosts : List ShadowHost) (before after : List (Listener ℕ)) (target : ℕ) (related : Option ℕ) (e : EventWords)
     (outcome : Outcome) where

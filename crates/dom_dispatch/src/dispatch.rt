@@ -8,7 +8,8 @@ ghost use Rattle.dom_model.specs.Paths.{View};
 ghost use Rattle.dom_slots.specs.Kept.{AreSlotsOf};
 ghost use Rattle.dom_path.specs.Items.{HasNodes};
 ghost use Rattle.dom_dispatch.specs.Entries.{listener_of, listeners_in, hears_at};
-ghost use Rattle.dom_dispatch.specs.Dispatches.{event_words, visit_in, dispatching_in, IsOwnLine, KeepsOwners, IsDispatched, IsDispatchedIn, IsShownOf};
+ghost use Rattle.dom_dispatch.specs.Dispatches.{event_words, visit_in, dispatching_in, IsOwnLine, AreNumbered, IsLineAlong, KeepsLines, paths_of};
+ghost use Rattle.dom_dispatch.specs.Dispatches.{IsDispatched, IsDispatchedIn, IsShownOf};
 ghost use Rattle.dom_dispatch.specs.ListenersByName.{IsListenerAt};
 ghost use Rattle.dom_tree.specs.Forest.{IsNode};
 
@@ -41,6 +42,7 @@ impl Listeners {
         ensures names { IfOk result (λ outcome. AllByRecursion (IsListenerAt forest.now.names) self.old →
             IsDispatchedIn forest.now slots.now.hosts self.old self.new target event.related (event_words event) outcome) }
         ensures owners { IfOk result (λ outcome. AllByRecursion (IsOwnLine forest.now.names) outcome.lines.items) }
+        ensures numbered { IfOk result (λ outcome. AreNumbered outcome.lines.items) }
     {
         forest.law_nodes_stand_once();
         let alloc = self.alloc;
@@ -66,11 +68,11 @@ impl Listeners {
     ) -> Result<(), AllocError>
         requires nodes { AllByRecursion (HasNodes forest.now.names) path.now.items }
         requires shown { IsShownOf path.now handed.old.shown }
-        requires owners { AllByRecursion (IsOwnLine forest.now.names) so_far.old.lines.items }
+        requires lines { AllByRecursion (IsLineAlong forest.now.names (paths_of path.now)) so_far.old.lines.items }
         ensures visits { OnOk result (dispatching_in self.new so_far.new ≡ fold (after_invoke nat_eq (event_words event.now))
             (dispatching_in self.old so_far.old) (map (visit_of nat_eq true) (reverse path.now.views))) }
         ensures shown { OnOk result (IsShownOf path.now handed.new.shown) }
-        ensures owners { OnOk result (AllByRecursion (IsOwnLine forest.now.names) so_far.new.lines.items) }
+        ensures lines { OnOk result (AllByRecursion (IsLineAlong forest.now.names (paths_of path.now)) so_far.new.lines.items) }
     {
         if !self.may_hear(event.name.as_str(), true) {
             return Ok(());
@@ -95,12 +97,12 @@ impl Listeners {
     ) -> Result<(), AllocError>
         requires nodes { AllByRecursion (HasNodes forest.now.names) path.now.items }
         requires shown { IsShownOf path.now handed.old.shown }
-        requires owners { AllByRecursion (IsOwnLine forest.now.names) so_far.old.lines.items }
+        requires lines { AllByRecursion (IsLineAlong forest.now.names (paths_of path.now)) so_far.old.lines.items }
         ensures visits { OnOk result (dispatching_in self.new so_far.new ≡ fold (after_invoke nat_eq (event_words event.now))
             (dispatching_in self.old so_far.old)
             (map (visit_of nat_eq false) (filter (λ v. event.now.bubbles || is_at_target nat_eq v) path.now.views))) }
         ensures shown { OnOk result (IsShownOf path.now handed.new.shown) }
-        ensures owners { OnOk result (AllByRecursion (IsOwnLine forest.now.names) so_far.new.lines.items) }
+        ensures lines { OnOk result (AllByRecursion (IsLineAlong forest.now.names (paths_of path.now)) so_far.new.lines.items) }
     {
         if !self.may_hear(event.name.as_str(), false) {
             return Ok(());
@@ -129,12 +131,12 @@ impl Listeners {
         requires within { at < length path.now.items }
         requires nodes { AllByRecursion (HasNodes forest.now.names) path.now.items }
         requires shown { IsShownOf path.now handed.old.shown }
-        requires owners { AllByRecursion (IsOwnLine forest.now.names) so_far.old.lines.items }
+        requires lines { AllByRecursion (IsLineAlong forest.now.names (paths_of path.now)) so_far.old.lines.items }
         ensures visit { OnOk result ((view : View ℕ) → slice_get path.now.views at ≡ Some view →
             dispatching_in self.new so_far.new ≡ after_invoke nat_eq (event_words event.now) (dispatching_in self.old so_far.old)
             (visit_of nat_eq capturing view)) }
         ensures shown { OnOk result (IsShownOf path.now handed.new.shown) }
-        ensures owners { OnOk result (AllByRecursion (IsOwnLine forest.now.names) so_far.new.lines.items) }
+        ensures lines { OnOk result (AllByRecursion (IsLineAlong forest.now.names (paths_of path.now)) so_far.new.lines.items) }
     {
         if so_far.stopped {
             return Ok(());
@@ -144,8 +146,8 @@ impl Listeners {
         if handed.heard.is_empty() {
             return Ok(());
         }
-        let nodes = handed.shown.at(self.alloc, path, at)?;
-        let visit = Visit::of(forest, path, at, capturing, nodes);
+        let shown = handed.shown.at(self.alloc, path, at)?;
+        let visit = Visit::of(forest, path, at, capturing, shown);
         self.call_all(event, &visit, &mut handed.heard, so_far)
     }
 
@@ -182,7 +184,7 @@ impl Listeners {
     ) -> Result<(), AllocError>
         ensures calls { OnOk result (dispatching_in self.new so_far.new ≡ fold (after_inner_invoke nat_eq (event_words event.now) (visit_in visit.now))
             (dispatching_in self.old so_far.old) (listeners_in heard.old.items)) }
-        ensures owners { OnOk result (KeepsOwners visit.now so_far.old so_far.new) }
+        ensures lines { OnOk result (KeepsLines visit.now so_far.old so_far.new) }
     {
         while let Some(listener) = heard.pop_front() {
             self.call(event, visit, listener, so_far)?;
@@ -201,7 +203,7 @@ impl Listeners {
     ) -> Result<(), AllocError>
         ensures call { OnOk result (dispatching_in self.new so_far.new ≡ after_inner_invoke nat_eq (event_words event.now) (visit_in visit.now)
             (dispatching_in self.old so_far.old) (listener_of listener)) }
-        ensures owners { OnOk result (KeepsOwners visit.now so_far.old so_far.new) }
+        ensures lines { OnOk result (KeepsLines visit.now so_far.old so_far.new) }
     {
         if so_far.stopped_now {
             return Ok(());

@@ -33,6 +33,8 @@ pub struct LogLine {
     pub related: Option<Key>,
     /// The nodes of the event's path that it shows there. Lines of one dispatch may hold them in common.
     pub path: Rc<SmallVec<Key, 16>>,
+    /// The place of an item of the path at which the event shows just these. Lines of one dispatch with the same number have the same path.
+    pub path_at: usize,
 }
 
 /// How a dispatch ended: the lines of the calls in their order, and the answer, which is false exactly where the event was

@@ -11,6 +11,7 @@ ghost use Rattle.dom_dispatch.specs.Dispatches.{visit_in, line_in};
 
 use crate::event::LogLine;
 use crate::listeners::ListenerInit;
+use crate::shown::ShownAt;
 use dom_base::Owner;
 use dom_path::Path;
 use dom_tree::Forest;
@@ -29,6 +30,7 @@ pub(crate) struct Visit {
     pub(crate) target: Key,
     pub(crate) related: Option<Key>,
     pub(crate) path: Rc<SmallVec<Key, 16>>,
+    pub(crate) path_at: usize,
 }
 
 impl Visit {
@@ -38,13 +40,15 @@ impl Visit {
         path: &Path,
         at: usize,
         capturing: bool,
-        nodes: Rc<SmallVec<Key, 16>>,
+        shown: ShownAt,
     ) -> Visit
         requires within { at < length path.now.items }
         requires nodes { AllByRecursion (HasNodes forest.now.names) path.now.items }
-        requires shown { option_map (λ (v : View ℕ). v.path) (slice_get path.now.views at) ≡ Some nodes.value.items }
+        requires shown { option_map (λ (v : View ℕ). v.path) (slice_get path.now.views at) ≡ Some shown.nodes.value.items }
         ensures visit { (view : View ℕ) → slice_get path.now.views at ≡ Some view → visit_in result ≡ visit_of nat_eq capturing view }
         ensures owner { result.owner ≡ (name_of forest.now result.current).owner }
+        ensures path { result.path.value.items ≡ shown.nodes.value.items }
+        ensures path_at { result.path_at ≡ shown.at }
     {
         let item = path.items()[at];
         let phase = if item.node == item.event_target {
@@ -61,7 +65,8 @@ impl Visit {
             capturing,
             target: item.event_target,
             related: item.related,
-            path: nodes,
+            path: shown.nodes,
+            path_at: shown.at,
         }
     }
 
@@ -69,6 +74,8 @@ impl Visit {
     pub(crate) fn line(&self, words: Rc<ListenerInit>) -> Result<LogLine, AllocError>
         ensures line { IfOk result (λ l. line_in l ≡ line_of (visit_in self.now) (words_of words.value)) }
         ensures owner { IfOk result (λ l. l.owner ≡ self.now.owner) }
+        ensures path { IfOk result (λ l. l.path.value.items ≡ self.now.path.value.items) }
+        ensures path_at { IfOk result (λ l. l.path_at ≡ self.now.path_at) }
     {
         Ok(LogLine {
             owner: self.owner,
@@ -78,6 +85,7 @@ impl Visit {
             current: self.current,
             related: self.related,
             path: self.path.clone()?,
+            path_at: self.path_at,
         })
     }
 }

@@ -6,7 +6,7 @@ use Rattle.dom_model.specs.Dispatch.{visit_of, is_at_target}
 use Rattle.dom_model.specs.Listeners.{after_invoke}
 use Rattle.dom_model.specs.Paths.{View}
 use Rattle.dom_path.specs.PathNodes.{view_in}
-use Rattle.dom_dispatch.specs.Dispatches.{event_words, dispatching_in, IsOwnLine, IsShownOf}
+use Rattle.dom_dispatch.specs.Dispatches.{event_words, dispatching_in, IsLineAlong, IsShownOf, paths_of}
 use Rattle.dom_dispatch.specs.Entries.{NoneHears}
 use Rattle.dom_dispatch.proofs.Visiting.{bubbled-more, silent, view-is}
 use Rattle.dom_dispatch.proofs.listeners.Listeners.bubble.Goals as goal
@@ -51,9 +51,10 @@ loop-at-preserved c =
         | then-event+in_ok-visit w ↦ subst (λ h. IsShownOf path h.shown) (sym w.handed-is) w.in_ok-visit.ensures.shown
         | else-event+else-eq w ↦ subst (λ h. IsShownOf path h.shown) (sym w.handed-is) c.loop-at.invariant.shown
       ];
-      owners = elim c.if-event.branch [
-        | then-event+in_ok-visit w ↦ subst (λ p. AllByRecursion (IsOwnLine c.args.forest.now.names) p.lines.items) (sym w.so_far-is)
-            w.in_ok-visit.ensures.owners
-        | else-event+else-eq w ↦ subst (λ p. AllByRecursion (IsOwnLine c.args.forest.now.names) p.lines.items) (sym w.so_far-is) c.loop-at.invariant.owners
+      lines = elim c.if-event.branch [
+        | then-event+in_ok-visit w ↦ subst (λ p. AllByRecursion (IsLineAlong c.args.forest.now.names (paths_of path)) p.lines.items) (sym w.so_far-is)
+            w.in_ok-visit.ensures.lines
+        | else-event+else-eq w ↦ subst (λ p. AllByRecursion (IsLineAlong c.args.forest.now.names (paths_of path)) p.lines.items) (sym w.so_far-is)
+            c.loop-at.invariant.lines
       ];
     }

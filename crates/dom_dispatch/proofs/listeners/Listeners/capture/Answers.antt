@@ -23,5 +23,5 @@ loop-at-preserved c =
           (dispatching_in c.args.self.now c.args.so_far.now)
           c.loop-at.invariant.visits (c.in_ok-visit.ensures.visit v.0 v.1);
       shown = c.in_ok-visit.ensures.shown;
-      owners = c.in_ok-visit.ensures.owners;
+      lines = c.in_ok-visit.ensures.lines;
     }

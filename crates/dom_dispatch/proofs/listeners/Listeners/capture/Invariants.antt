@@ -2,7 +2,7 @@ use Rattle.std.proofs.Common.{◌≡◌, ◌≤◌, nat_eq, true, fold, map, rev
 use Rattle.std.specs.List.{AllByRecursion}
 use Rattle.dom_model.specs.Dispatch.{visit_of}
 use Rattle.dom_model.specs.Listeners.{after_invoke}
-use Rattle.dom_dispatch.specs.Dispatches.{event_words, dispatching_in, IsOwnLine, IsShownOf}
+use Rattle.dom_dispatch.specs.Dispatches.{event_words, dispatching_in, IsLineAlong, IsShownOf, paths_of}
 use Rattle.dom_dispatch.proofs.listeners.Listeners.capture.Given as goal
 
 abbrev pub invariant-loop-at : goal.invariant-loop-at
@@ -11,7 +11,7 @@ invariant-loop-at l = record {
   visits : dispatching_in l.self l.so_far ≡ fold (after_invoke nat_eq (event_words l.event)) (dispatching_in l.fn.self l.fn.so_far)
       (map (visit_of nat_eq true) (reverse (drop l.at l.path.views)));
   shown : IsShownOf l.path l.handed.shown;
-  owners : AllByRecursion (IsOwnLine l.forest.names) l.so_far.lines.items;
+  lines : AllByRecursion (IsLineAlong l.forest.names (paths_of l.path)) l.so_far.lines.items;
 }
 
 abbrev pub decreases-loop-at : goal.decreases-loop-at

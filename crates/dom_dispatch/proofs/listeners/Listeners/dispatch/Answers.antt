@@ -3,13 +3,14 @@ use Rattle.std.specs.List.{AllByRecursion}
 use Rattle.std.proofs.lemmas.List.Sums.{fold-append}
 use Rattle.dom_model.specs.Dispatch.{visit_of, is_at_target}
 use Rattle.dom_model.specs.Listeners.{Dispatching, after_invoke, begun}
-use Rattle.dom_dispatch.specs.Dispatches.{event_words, dispatching_in, IsOwnLine}
+use Rattle.dom_dispatch.specs.Dispatches.{event_words, dispatching_in, IsLineAlong, paths_of}
 use Rattle.dom_dispatch.specs.Kept.{dispatch_along}
-use Rattle.dom_dispatch.proofs.Visiting.{dispatched-in}
+use Rattle.dom_dispatch.proofs.Visiting.{dispatched-in, own-lines, numbered-lines}
 use Rattle.dom_dispatch.proofs.listeners.Listeners.dispatch.Goals as goal
 
-pub capture-requires-clause-owners : goal.capture-requires-clause-owners
-capture-requires-clause-owners c = subst (AllByRecursion (IsOwnLine c.args.forest.now.names)) (sym c.new-so_far.ensures.lines) tt
+pub capture-requires-clause-lines : goal.capture-requires-clause-lines
+capture-requires-clause-lines c =
+    subst (AllByRecursion (IsLineAlong c.args.forest.now.names (paths_of c.in_ok-path.path))) (sym c.new-so_far.ensures.lines) tt
 
 pub capture-requires-clause-shown : goal.capture-requires-clause-shown
 capture-requires-clause-shown c = c.new-handed.ensures c.in_ok-path.path
@@ -39,3 +40,12 @@ returns-clause-keys c =
 pub returns-clause-names : goal.returns-clause-names
 returns-clause-names c =
     dispatched-in c.law_nodes_stand_once.ensures.distinct (returns-clause-keys c)
+
+pub returns-clause-owners : goal.returns-clause-owners
+returns-clause-owners c = own-lines c.args.forest.now.names (paths_of c.in_ok-path.path) _ c.in_ok-bubble.ensures.lines
+
+pub returns-clause-numbered : goal.returns-clause-numbered
+returns-clause-numbered c = record {
+  paths = paths_of c.in_ok-path.path;
+  each = numbered-lines c.args.forest.now.names (paths_of c.in_ok-path.path) _ c.in_ok-bubble.ensures.lines;
+}

@@ -4,7 +4,7 @@ use Rattle.std.proofs.lemmas.Grind.{common_steps}
 use Rattle.std.proofs.lemmas.Result.{on_ok_weaker}
 use Rattle.dom_model.specs.Listeners.{after_inner_invoke}
 use Rattle.dom_dispatch.specs.Entries.{hears_at, listeners_in}
-use Rattle.dom_dispatch.specs.Dispatches.{event_words, dispatching_in}
+use Rattle.dom_dispatch.specs.Dispatches.{event_words, dispatching_in, paths_of}
 use Rattle.dom_dispatch.proofs.Visiting.{view-is, visited-calls}
 use Rattle.dom_dispatch.proofs.listeners.Listeners.visit.Goals as goal
 
@@ -31,3 +31,10 @@ returns-clause-visit c =
     calls
     ∙ ap (λ w. fold (after_inner_invoke nat_eq e w) before called_in) (c.of-visit.ensures.visit _ there)
     ∙ visited-calls e c.args.capturing before called_in c.if-so_far.false heard (sym there ∙ at)) c.call_all.ensures.calls
+
+pub returns-clause-lines : goal.returns-clause-lines
+returns-clause-lines c =
+    on_ok_weaker c.call_all.result (λ keeps.
+    keeps c.args.forest.now.names (paths_of c.args.path.now) c.of-visit.ensures.owner
+    (c.of-visit.ensures.path ∙ c.in_ok-shown.ensures.same ∙ ap (paths_of c.args.path.now) (sym c.of-visit.ensures.path_at)) c.requires.lines)
+    c.call_all.ensures.lines
