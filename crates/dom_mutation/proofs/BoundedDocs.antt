@@ -1,29 +1,28 @@
 -- After a plan, or a part of one, live ranges' offsets are within lengths in the state that it leaves, if they were: so the next
 -- step that asks for that may be made.
-use Rattle.std.proofs.Common.{◌≡◌, ℕ, ◌+◌, ◌<◌, ◌≤◌, true, false, None, Some, List, [], ◌∷◌, ◌++◌, length, refl, subst, sym, ap, ◌∙◌, arith}
+use Rattle.std.proofs.Common.{◌≡◌, ℕ, ◌+◌, ◌<◌, ◌≤◌, true, false, None, Some, List, [], Option, length, refl, subst, sym, ap, arith}
 use Rattle.std.proofs.lemmas.Bool.{ltb-false}
-use Rattle.std.proofs.Math.ListN.{get_or-append}
 use Rattle.dom_base.specs.declared.NodeName.{NodeName}
 use Rattle.dom_base.specs.declared.Owner.{Owner}
-use Rattle.dom_base.specs.declared.Owner.TheVariants.{Page}
 use Rattle.dom_model.specs.Changes.{Plan, Observing, suppressed, in_turn, doing, remove_plan, emptying}
 use Rattle.dom_model.specs.CommandRefusals.{past_limit}
-use Rattle.dom_model.specs.Names.{DomString, node_of}
+use Rattle.dom_model.specs.Names.{DomString}
 use Rattle.dom_model.specs.Output.{Change, child_list}
 use Rattle.dom_model.specs.Steps.{make, queue_record, after}
-use Rattle.dom_model.specs.TextChanges.{replacing_data}
-use Rattle.dom_model.specs.Part.{Part}
+use Rattle.dom_model.specs.TextChanges.{replacing_data, new_text_node}
+use Rattle.dom_model.specs.Part.{Part, next_name}
 use Rattle.dom_model.specs.Tree.{Node, has_data, kind_of, children_of, parent_of, index_of}
 use Rattle.dom_model.specs.World.{World, part_of}
 use Rattle.dom_worlds.specs.Bounds.{HasBounds}
 use Rattle.dom_worlds.specs.Worlds.{IsPart}
 use Rattle.dom_worlds.proofs.RangeLemmas.{make-keeps, queue_record-keeps, removal-keeps, data-keeps}
 use Rattle.dom_tree.specs.Forest.{name_at}
-use Rattle.dom_parts.specs.Doc.{DocState, owner_in, made, planned}
+use Rattle.dom_parts.specs.Doc.{DocState, owner_in, planned}
 use Rattle.dom_parts.specs.Hosting.{PlansOwn, IsAlone}
 use Rattle.dom_parts.proofs.BoundedPlans.{removals-keep, emptying-keeps, index_few}
 use Rattle.dom_parts.proofs.OwnParts.{children_few}
 use Rattle.dom_parts.proofs.Made.{plan_alone}
+use Rattle.dom_mutation.proofs.Grown.{IsMade, same_name}
 use Rattle.dom_parts.proofs.OwnPlans.{plans_then, plans_each, plans_removing, plans_data}
 
 module _ (o : Owner) (d : DocState) (alone : IsAlone d.world o) (part : IsPart (part_of d.world o)) (bounds : HasBounds (part_of d.world o)) where
@@ -77,16 +76,15 @@ module _ (d e : DocState) (k : ℕ) where
   pub bounds_at : e.names ≡ d.names → HasBounds (part_of e.world (owner_in d k)) → HasBounds (part_of e.world (owner_in e k))
   bounds_at names h = subst (λ (ns : List NodeName). HasBounds (part_of e.world (name_at ns k).owner)) (sym names) h
 
-  -- where a node was made
-  pub bounds_added : (y : NodeName) (n : Node) → HasBoundedPart d k → e.names ≡ d.names ++ y ∷ [] →
-      e.world ≡ made (owner_in d k) (doing (make n)) d.world → HasBounds (part_of e.world (owner_in e k))
-  bounds_added y n of names world =
+  -- where a Text was made
+  pub bounds_added : {new : ℕ} {doc : Option NodeName} {text : DomString} → IsMade d e k new doc text → IsPart (part_of d.world (owner_in d k)) →
+      HasBounds (part_of d.world (owner_in d k)) → HasBounds (part_of e.world (owner_in e k))
+  bounds_added {new} {doc} {text} made part bounds =
       let o = owner_in d k in
-      let same : owner_in e k ≡ o = ap (λ (ns : List NodeName). (name_at ns k).owner) names ∙
-      ap (λ (x : NodeName). x.owner) (get_or-append d.names (y ∷ []) (node_of Page 0) k of.here) in
-      subst (λ (p : Owner). HasBounds (part_of e.world p)) (sym same)
-      (subst (λ (w : World). HasBounds (part_of w o)) (sym world)
-      (bounds_made o d of.alone of.part of.bounds n (planned o (doing (make n)) d) refl))
+      let n = new_text_node (next_name (part_of d.world o)) doc text in
+      subst (λ (p : Owner). HasBounds (part_of e.world p)) (sym (ap (λ (z : NodeName). z.owner) (same_name made)))
+      (subst (λ (w : World). HasBounds (part_of w o)) (sym made.world)
+      (bounds_made o d made.alone part bounds n (planned o (doing (make n)) d) refl))
 
 -- ---- how many nodes there are
 

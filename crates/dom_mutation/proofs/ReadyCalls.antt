@@ -10,7 +10,7 @@ use Rattle.dom_base.specs.declared.Owner.{Owner}
 use Rattle.dom_base.specs.declared.Refusal.{Refusal}
 use Rattle.dom_base.specs.declared.Refusal.TheVariants.{IndexSize}
 use Rattle.dom_model.specs.Changes.{Plan, doing}
-use Rattle.dom_model.specs.Command.{Command, own, effect}
+use Rattle.dom_model.specs.Command.{Command, NodeWord, own, effect}
 use Rattle.dom_model.specs.CommandNames.{named}
 use Rattle.dom_model.specs.CommandRefusals.{past_end}
 use Rattle.dom_model.specs.Names.{node_of}
@@ -27,6 +27,7 @@ use Rattle.dom_worlds.specs.Bounds.{EndsWithin}
 use Rattle.dom_worlds.specs.Tables.{EndsIn, IsNodeIn}
 use Rattle.dom_worlds.specs.Worlds.{IsPart}
 use Rattle.dom_worlds.proofs.PlanLemmas.{Fits, MadeIn}
+use Rattle.dom_parts.specs.Calls.{SetsEnd}
 use Rattle.dom_parts.specs.Doc.{DocState, Makes, MakesSaying, made, planned, stepped, name_in, owner_in, trees_in}
 use Rattle.dom_parts.specs.Hosting.{IsAlone, SetsOwnDocuments}
 use Rattle.dom_mutation.specs.Ready.{IsReadyPart, AreReady, IsReady, MayStand}
@@ -149,13 +150,15 @@ module _ (b d e : DocState) (same : b ≡ d) (laws : HasLaws b) (o : Owner) (k o
   within : past_end p (name_in b k) offset ≡ false → past_end p x offset ≡ false
   within low = ap (λ y. past_end p y offset) (named-own b.world o (name_in b k) (ap (λ (a : DocState). owner_in a k) same ∙ mine)) ∙ low
 
-  pub end-set : (c : Command) → (IsReadyPart p → IsNodeIn p.trees x → past_end p x offset ≡ false → ReadyEffect (effect p c)) →
-      {X : Type 0} (m : Result X Refusal) → (m ≡ Err IndexSize) ↔ (past_end p (name_in b k) offset ≡ true) →
-      OnOk m (Makes o c nothing b.world e.world) → OnErr m (e ≡ b) → IsReady e
-  end-set c keep m refused w err =
-      or-same m b e err h
-      (within-done {P = Makes o c nothing b.world e.world} {Q = IsReady e} m (past_end p (name_in b k) offset) refused
-      (λ low n. table-ready b e o c h (λ r. keep r here (within low)) {lines = []} {v = nothing} n) w)
+  pub end-set : (number : ℕ) (c : ℕ → NodeWord → ℕ → Command) → ((q : Part) → IsReadyPart q → (n : ℕ) (y : NodeWord) (i : ℕ) → IsPart q →
+      IsNodeIn q.trees (named q y) → past_end q (named q y) i ≡ false → ReadyEffect (effect q (c n y i))) →
+      {m : Result (Unit {0}) Refusal} → SetsEnd o (c number (own (name_in b k).number) offset) k offset m b e → IsReady e
+  end-set number c ready {m} says =
+      let word = own (name_in b k).number in
+      or-same m b e says.err h
+      (within-done {P = Makes o (c number word offset) nothing b.world e.world} {Q = IsReady e} m (past_end p (name_in b k) offset) says.refused
+      (λ low n. table-ready b e o (c number word offset) h (λ r. ready p r number word offset (laws.parts o) here (within low)) {lines = []} {v = nothing} n)
+      says.world)
 
 -- So do these calls.
 module _ (b e : DocState) (laws : HasLaws b) (h : IsReady b) where

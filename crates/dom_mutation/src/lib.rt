@@ -8,7 +8,6 @@ mod documents;
 mod inserting;
 mod normalizing;
 mod removing;
-mod replacing;
 mod settling;
 mod splitting;
 mod still;

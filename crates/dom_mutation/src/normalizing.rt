@@ -14,7 +14,7 @@ use crate::character_data::replacing_data;
 use crate::inserting::take_each;
 use crate::removing::{SuppressObserversFlag, removing};
 use dom_base::{DomStr, Kind};
-use dom_parts::Parts;
+use dom_parts::{DataChange, Parts};
 use node_arena::Key;
 use std::alloc::AllocError;
 
@@ -69,7 +69,12 @@ fn joining(parts: &mut Parts, node: Key, parent: Key, nexts: &[Key]) -> Result<(
     parts.laws();
     let size = parts.length(node);
     let units = data_of(parts, node, nexts)?;
-    replacing_data(parts, node, size, 0, units)?;
+    let change = DataChange {
+        offset: size,
+        count: 0,
+        units,
+    };
+    replacing_data(parts, node, change)?;
     parts.join_each(node, size, nexts, parent);
     take_each(parts, SuppressObserversFlag::Observed, node, nexts)
 }

@@ -19,7 +19,7 @@ use crate::inserting::inserting;
 use crate::removing::SuppressObserversFlag;
 use crate::settling::given_up;
 use dom_base::{DomStr, Fault, Kind, Refusal};
-use dom_parts::Parts;
+use dom_parts::{DataChange, Parts};
 use dom_tree::NodeData;
 use indexmap::IndexMap;
 use node_arena::Key;
@@ -123,7 +123,12 @@ fn cut_tail(
         placing_tail(parts, node, offset, new, parent)?;
     }
     let none = Vec::new(parts.alloc());
-    replacing_data(parts, node, offset, count, none)
+    let change = DataChange {
+        offset,
+        count,
+        units: none,
+    };
+    replacing_data(parts, node, change)
 }
 
 /// The new Text is placed just behind the one that was split, a child of this parent.

@@ -31,7 +31,7 @@ use Rattle.dom_parts.specs.Doc.{named_trees, shown_tables, contents, world_from,
 use Rattle.dom_parts.proofs.Worlds.{part_at, part_off, there_same, changed}
 use Rattle.dom_parts.proofs.OwnNodes.{next_own, previous_own, move_own}
 use Rattle.dom_ranges.specs.Tables.{ranges_of}
-use Rattle.dom_parts.proofs.DocInvariant.{held_with, single_owners}
+use Rattle.dom_parts.proofs.DocInvariant.{held_with, single_owners, still_named}
 use Rattle.dom_parts.proofs.RangedKeeping.{ranges_stay}
 
 -- an item that is written where it stands
@@ -117,8 +117,7 @@ module _ (names : List NodeName) (ts : Trees) (tables : AllTables) (held : IsDoc
         held_with names ts tables held o there names ts (with_table tables o u) refl record {
           owned = held.owned;
           apart = λ p other. refl;
-          present = held.present;
-          limited = held.limited;
+          named = still_named held;
           own = λ p. elim (cases_Bool (owner_eq o p)) [
             | inl same ↦ subst (AreTablesOf (named_trees names ts) p) (sym (cond-true (owner_eq o p) u (tables.each p) same))
                 (subst (λ q. AreTablesOf (named_trees names ts) q u) (owner_eq-true o p same) h)
@@ -126,13 +125,11 @@ module _ (names : List NodeName) (ts : Trees) (tables : AllTables) (held : IsDoc
           ];
           idle = λ p off.
               with-other tables.each o u p (λ same. true≢false (sym there ∙ ap (is_there (world_from names ts tables)) (sym same) ∙ off)) ∙ held.idle p off;
-          made = held.made;
           signals = record { slots = held.signals.slots; nodes = held.signals.nodes };
           speaks = held.speaks;
           unobserved = held.unobserved;
           due = held.due;
           ranges = ranges_stay (contents names ts (with_table tables o u)) held.ranges refl refl (λ p. refl);
-          numbered = held.numbered;
         }
 
     there_set : is_there (world_from names ts (with_table tables o u)) o ≡ true
@@ -177,9 +174,12 @@ module _ (names : List NodeName) (ts : Trees) (tables : AllTables) (held : IsDoc
   with_iterators : List Iterator → Part
   with_iterators is = record (with_own t) { iterators = is }
 
+  -- the effect of moving one
+  abbrev pub moved_effect : ℕ → KeyedIterator → Bool → Option ℕ → Effect
+  moved_effect k i before r = Effect.tables (with_own (with_iterator k (iterator_at i before r))) [] (node_or_null (option_map (name_at names) r))
+
   iterator_effect : (k : ℕ) (i : KeyedIterator) (before : Bool) (r : Option ℕ) (x : Option NodeName) → x ≡ option_map (name_at names) r
-      → moves_iterator (with_own t) k before (iterator_view names i) x ≡ Effect.tables (with_own (with_iterator k (iterator_at i before r))) []
-      (node_or_null (option_map (name_at names) r))
+      → moves_iterator (with_own t) k before (iterator_view names i) x ≡ moved_effect k i before r
   unfolding with_iterators
   iterator_effect k i before r x is =
       ap (λ y. moves_iterator (with_own t) k before (iterator_view names i) y) is
@@ -197,27 +197,27 @@ module _ (names : List NodeName) (ts : Trees) (tables : AllTables) (held : IsDoc
             h.stands.reference.within) ∙ h.own,
       )
 
+  -- it moves to what is found from it, in the owner's trees as in all
+  module _ (before : Bool) (find : Trees → Iterator → Option NodeName)
+      (same : (i : Iterator) → i.root.owner ≡ o → i.reference.owner ≡ o → find ts i ≡ find (trees_of_owner o ts) i) where
+    found_effect : (k : ℕ) (i : KeyedIterator) (r : Option ℕ) → slice_get t.iterators k ≡ Some i → option_map (name_at names) r ≡ find ts
+        (iterator_view names i)
+        → option_map_or (λ j. moves_iterator (with_own t) k before j (find (trees_of_owner o ts) j)) (slice_get (with_own t).iterators k)
+        (answers (with_own t) nothing) ≡ moved_effect k i before r
+    found_effect k i r e value =
+        let own = reference_own k i e in
+        ap (λ m. option_map_or (λ j. moves_iterator (with_own t) k before j (find (trees_of_owner o ts) j)) m (answers (with_own t) nothing))
+        (iterator_got k i e)
+        ∙ iterator_effect k i before r (find (trees_of_owner o ts) (iterator_view names i)) (sym (same (iterator_view names i) own.0 own.1) ∙ sym value)
+
   pub next_effect : (k : ℕ) (i : KeyedIterator) (r : Option ℕ) → slice_get t.iterators k ≡ Some i →
-      option_map (name_at names) r ≡ iterator_next_node ts (iterator_view names i)
-      → effect (with_own t) (Command.iterator_next k) ≡ Effect.tables (with_own (with_iterator k (iterator_at i false r))) []
-      (node_or_null (option_map (name_at names) r))
-  next_effect k i r e value =
-      let own = reference_own k i e in
-      ap (λ m. option_map_or (λ j. moves_iterator (with_own t) k false j (iterator_next_node (trees_of_owner o ts) j)) m
-      (answers (with_own t) nothing)) (iterator_got k i e)
-      ∙ iterator_effect k i false r (iterator_next_node (trees_of_owner o ts) (iterator_view names i))
-      (sym (next_own ts held.owned o (iterator_view names i) own.0 own.1) ∙ sym value)
+      option_map (name_at names) r ≡ iterator_next_node ts (iterator_view names i) → effect (with_own t) (Command.iterator_next k) ≡ moved_effect k i false r
+  next_effect = found_effect false iterator_next_node (next_own ts held.owned o)
 
   pub previous_effect : (k : ℕ) (i : KeyedIterator) (r : Option ℕ) → slice_get t.iterators k ≡ Some i →
-      option_map (name_at names) r ≡ iterator_previous_node ts (iterator_view names i)
-      → effect (with_own t) (Command.iterator_previous k) ≡ Effect.tables (with_own (with_iterator k (iterator_at i true r))) []
-      (node_or_null (option_map (name_at names) r))
-  previous_effect k i r e value =
-      let own = reference_own k i e in
-      ap (λ m. option_map_or (λ j. moves_iterator (with_own t) k true j (iterator_previous_node (trees_of_owner o ts) j)) m
-      (answers (with_own t) nothing)) (iterator_got k i e)
-      ∙ iterator_effect k i true r (iterator_previous_node (trees_of_owner o ts) (iterator_view names i))
-      (sym (previous_own ts held.owned o (iterator_view names i) own.0 own.1) ∙ sym value)
+      option_map (name_at names) r ≡ iterator_previous_node ts (iterator_view names i) → effect (with_own t) (Command.iterator_previous k) ≡ moved_effect k
+      i true r
+  previous_effect = found_effect true iterator_previous_node (previous_own ts held.owned o)
 
   pub at_effect : (k : ℕ) (i : KeyedIterator) → slice_get t.iterators k ≡ Some i →
       effect (with_own t) (Command.iterator_at k) ≡ Effect.tables (with_own t) [] (reference (name_at names i.reference) i.before)

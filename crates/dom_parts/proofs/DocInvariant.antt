@@ -13,11 +13,12 @@ use Rattle.dom_tree.specs.Owners.{AreOwned, trees_of_owner, IsOwnChange}
 use Rattle.dom_observers.specs.Tables.{TablesOf, no_tables as no_observers}
 use Rattle.dom_observers.specs.Naming.{IsKey, SpeaksOf}
 use Rattle.dom_traversal.specs.OwnTables.{no_keyed_tables}
-use Rattle.dom_parts.specs.AllTables.{AreTablesOf, AllTables, trees_with, with_queue, with_observers}
-use Rattle.dom_node_trees.specs.Signalled.{AreSignals}
+use Rattle.dom_parts.specs.AllTables.{AreTablesOf, AllTables, trees_with, with_queue, with_observers, with_live}
+use Rattle.dom_node_trees.specs.Signalled.{AreSignals, AreNames}
 use Rattle.dom_parts.specs.Hosting.{maker_of, hosts_of, host_names, host_owners, AreMadeBehind, AreHostsOf}
 use Rattle.dom_parts.specs.Numbering.{AreNumbered}
 use Rattle.dom_parts.specs.Ranging.{AreRangesOf}
+use Rattle.dom_ranges.specs.Tables.{RangeLists}
 use Rattle.dom_slots.specs.Hosts.{ShadowHost, HostsAreNodes}
 use Rattle.dom_slots.specs.Kept.{AreSlotsOf}
 use Rattle.dom_model.proofs.OwnerLaws.{ne-owner_eq}
@@ -73,22 +74,29 @@ due_kept w v there (t ∷ tasks) all = (by t all.0, due_kept w v there tasks all
     by (micro_task o label) h = tt
     by (notify_task o) h = there o h
 
+-- what is asked of other names than a document's
+pub record StaysNamed (names : List NodeName) (ts : Trees) (tables : AllTables) (more : List NodeName) : Type 0 where
+  pub present : (k : ℕ) → k < length more → is_there (world_from names ts tables) (name_at more k).owner ≡ true
+  pub limited : (p : Owner) → count_of p more ≤ 1000000
+  pub made : AreMadeBehind more [] tables.slots.hosts
+  pub numbered : AreNumbered more
+
+pub still_named : {names : List NodeName} {ts : Trees} {tables : AllTables} → IsDoc names ts tables → StaysNamed names ts tables names
+still_named held = record { present = held.present; limited = held.limited; made = held.made; numbered = held.numbered }
+
 -- what is asked of other names, trees and tables than a document's, of which only the owner's o trees may differ, that they be held
 pub record StaysHeld (names : List NodeName) (ts : Trees) (tables : AllTables) (o : Owner) (more : List NodeName) (us : Trees) (others : AllTables) :
     Type 0 where
   pub owned : AreOwned us
   pub apart : (p : Owner) → p ≢ o → trees_of_owner p us ≡ trees_of_owner p ts
-  pub present : (k : ℕ) → k < length more → is_there (world_from names ts tables) (name_at more k).owner ≡ true
-  pub limited : (p : Owner) → count_of p more ≤ 1000000
+  pub named : StaysNamed names ts tables more
   pub own : (p : Owner) → AreTablesOf (named_trees more us) p (others.each p)
   pub idle : (p : Owner) → is_there (world_from names ts tables) p ≡ false → others.each p ≡ no_keyed_tables
-  pub made : AreMadeBehind more [] tables.slots.hosts
   pub signals : AreSignals (trees_with more us others)
   pub speaks : (p : Owner) → SpeaksOf (IsKey more) (others.observers p)
   pub unobserved : (p : Owner) → is_there (world_from names ts tables) p ≡ false → others.observers p ≡ no_observers
   pub due : AllByRecursion (IsDue (world_from names ts tables)) others.tasks
   pub ranges : AreRangesOf (contents more us others) others.ranges
-  pub numbered : AreNumbered more
 
 -- other trees and tables, where only one owner's trees change
 module _ (names : List NodeName) (ts : Trees) (tables : AllTables) (held : IsDoc names ts tables) (o : Owner)
@@ -101,20 +109,20 @@ module _ (names : List NodeName) (ts : Trees) (tables : AllTables) (held : IsDoc
   pub held_with : StaysHeld names ts tables o more us others → IsDoc more us others
   held_with stays = record {
     owned = stays.owned;
-    present = λ k k<. who (name_at more k).owner ∙ stays.present k k<;
+    present = λ k k<. who (name_at more k).owner ∙ stays.named.present k k<;
     absent = λ p off. stays.apart p (λ same_owner. let on : is_there (world_from names ts tables) p ≡ true = subst
         (λ (q : Owner). is_there (world_from names ts tables) q ≡ true) (sym same_owner) there in let gone = sym (who p) ∙ off in cc)
         ∙ held.absent p (sym (who p) ∙ off);
-    limited = stays.limited;
+    limited = stays.named.limited;
     own = stays.own;
     idle = λ p off. stays.idle p (sym (who p) ∙ off);
-    made = subst (AreMadeBehind more []) (sym hosts) stays.made;
+    made = subst (AreMadeBehind more []) (sym hosts) stays.named.made;
     signals = stays.signals;
     speaks = stays.speaks;
     unobserved = λ p off. stays.unobserved p (sym (who p) ∙ off);
     due = due_kept (world_from names ts tables) (world_from more us others) (λ p on. who p ∙ on) others.tasks stays.due;
     ranges = stays.ranges;
-    numbered = stays.numbered;
+    numbered = stays.named.numbered;
   }
 
 -- A document that holds its invariant.
@@ -125,55 +133,57 @@ module _ (names : List NodeName) (ts : Trees) (tables : AllTables) (held : IsDoc
       held_with names ts tables held o there names (f ts) tables refl record {
         owned = change.owned;
         apart = change.others;
-        present = held.present;
-        limited = held.limited;
+        named = still_named held;
         own = λ p. tables_kept names ts (f ts) keeps (held.own p);
         idle = held.idle;
-        made = held.made;
         signals = record { slots = slots; nodes = held.signals.nodes };
         speaks = held.speaks;
         unobserved = held.unobserved;
         due = held.due;
         ranges = ranges_stay (contents names (f ts) tables) held.ranges refl refl (λ p. refl);
-        numbered = held.numbered;
       }
+
+  -- the same trees and cursors, and other tables beside them
+  module _ (seen : Owner → TablesOf ℕ) (tasks : List Task) (signalled : List NodeName) (live : RangeLists) where
+    abbrev others : AllTables
+    others = record tables { observers = seen; tasks = tasks; signalled = signalled; ranges = live }
+
+    same_owners : (o : Owner) → is_there (world_from names ts others) o ≡ is_there (world_from names ts tables) o
+    same_owners o = there_same (contents names ts others) (contents names ts tables) refl o
+
+    pub held_beside : ((o : Owner) → SpeaksOf (IsKey names) (seen o)) →
+        ((o : Owner) → is_there (world_from names ts tables) o ≡ false → seen o ≡ no_observers) →
+        AllByRecursion (IsDue (world_from names ts tables)) tasks → AreNames names signalled → AreRangesOf (contents names ts others) live → IsDoc names ts
+        others
+    held_beside speaks unobserved due nodes ranges =
+        record {
+          owned = held.owned;
+          present = λ k k<. same_owners (name_at names k).owner ∙ held.present k k<;
+          absent = λ o off. held.absent o (sym (same_owners o) ∙ off);
+          limited = held.limited;
+          own = held.own;
+          idle = λ o off. held.idle o (sym (same_owners o) ∙ off);
+          made = held.made;
+          signals = record { slots = held.signals.slots; nodes = nodes };
+          speaks = speaks;
+          unobserved = λ o off. unobserved o (sym (same_owners o) ∙ off);
+          due = due_kept (world_from names ts tables) (world_from names ts others) (λ o on. same_owners o ∙ on) tasks due;
+          ranges = ranges;
+          numbered = held.numbered;
+        }
 
   -- other observers
   pub held_observers : (observers : Owner → TablesOf ℕ) → ((p : Owner) → SpeaksOf (IsKey names) (observers p)) →
       ((p : Owner) → is_there (world_from names ts tables) p ≡ false → observers p ≡ no_observers) → IsDoc names ts (with_observers tables observers)
-  held_observers observers speaks unobserved = record {
-    owned = held.owned;
-    present = λ k k<. who (name_at names k).owner ∙ held.present k k<;
-    absent = λ o off. held.absent o (sym (who o) ∙ off);
-    limited = held.limited;
-    own = held.own;
-    idle = λ o off. held.idle o (sym (who o) ∙ off);
-    made = held.made;
-    signals = record { slots = held.signals.slots; nodes = held.signals.nodes };
-    speaks = speaks;
-    unobserved = λ o off. unobserved o (sym (who o) ∙ off);
-    due = due_kept (world_from names ts tables) (world_from names ts (with_observers tables observers)) (λ o on. who o ∙ on) tables.tasks held.due;
-    ranges = ranges_stay (contents names ts (with_observers tables observers)) held.ranges refl refl (λ o. refl);
-    numbered = held.numbered;
-  }
-    where
-      who : (o : Owner) → is_there (world_from names ts (with_observers tables observers)) o ≡ is_there (world_from names ts tables) o
-      who o = there_same (contents names ts (with_observers tables observers)) (contents names ts tables) refl o
+  held_observers observers speaks unobserved =
+      held_beside observers tables.tasks tables.signalled tables.ranges speaks unobserved held.due held.signals.nodes
+      (ranges_stay (contents names ts (with_observers tables observers)) held.ranges refl refl (λ o. refl))
 
   -- other tasks
   pub held_tasks : (tasks : List Task) → AllByRecursion (IsDue (world_from names ts tables)) tasks → IsDoc names ts (with_queue tables tasks)
-  held_tasks tasks due = record {
-    owned = held.owned;
-    present = held.present;
-    absent = held.absent;
-    limited = held.limited;
-    own = held.own;
-    idle = held.idle;
-    made = held.made;
-    signals = record { slots = held.signals.slots; nodes = held.signals.nodes };
-    speaks = held.speaks;
-    unobserved = held.unobserved;
-    due = due_kept (world_from names ts tables) (world_from names ts (with_queue tables tasks)) (λ o on. on) tasks due;
-    ranges = ranges_stay (contents names ts (with_queue tables tasks)) held.ranges refl refl (λ o. refl);
-    numbered = held.numbered;
-  }
+  held_tasks tasks due = held_beside tables.observers tasks tables.signalled tables.ranges held.speaks held.unobserved due held.signals.nodes
+      (ranges_stay (contents names ts (with_queue tables tasks)) held.ranges refl refl (λ o. refl))
+
+  -- other live ranges
+  pub held_live : (live : RangeLists) → AreRangesOf (contents names ts (with_live tables live)) live → IsDoc names ts (with_live tables live)
+  held_live live stand = held_beside tables.observers tables.tasks tables.signalled live held.speaks held.unobserved held.due held.signals.nodes stand

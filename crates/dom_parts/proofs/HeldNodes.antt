@@ -87,11 +87,14 @@ module _ (names : List NodeName) (ts : Trees) (tables : AllTables) (held : IsDoc
       held_with names ts tables held o there grown (with_node n ts) tables refl record {
         owned = own_change.owned;
         apart = own_change.others;
-        present = present_more;
-        limited = limited_more room;
+        named = record {
+          present = present_more;
+          limited = limited_more room;
+          made = made_renamed names grown (names_pushed names (next_name o names)) [] tables.slots.hosts tt held.signals.slots.hosts held.made;
+          numbered = numbered_more names o held.numbered;
+        };
         own = λ p. tables_more names (next_name o names) ts n is new (held.own p);
         idle = held.idle;
-        made = made_renamed names grown (names_pushed names (next_name o names)) [] tables.slots.hosts tt held.signals.slots.hosts held.made;
         signals = record {
           slots = slots;
           nodes = names_grown names (next_name o names) tables.signalled held.signals.nodes;
@@ -101,7 +104,6 @@ module _ (names : List NodeName) (ts : Trees) (tables : AllTables) (held : IsDoc
         due = held.due;
         ranges = ranges_grown (contents grown (with_node n ts) tables) (next_name o names) held.ranges refl refl
             (named_grown names (next_name o names) tables.ranges held.ranges.own);
-        numbered = numbered_more names o held.numbered;
       }
 
   -- each owner's tables are the same in names

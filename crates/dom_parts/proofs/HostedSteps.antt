@@ -160,21 +160,21 @@ hosts_stepped {a} {b} {hosts} {o} s held there keeps owned change = record {
 
 -- ---- the steps
 
+-- a step after which nothing follows elsewhere, with hosts or without
+abbrev pub IsPlain : Step → Type 0
+IsPlain (place x parent before) = ⊥
+IsPlain (take_out x) = ⊥
+IsPlain (set_document x d) = ⊥
+IsPlain (set_attribute x n v) = ⊥
+IsPlain (queue_record c) = ⊥
+IsPlain s = Unit {0}
+
 module _ (a : Contents) (hosts : List ShadowHost) (held : AreHostsOf a hosts) (o : Owner) (there : is_there (world_of a) o ≡ true) where
   -- the step in its owner's part, before what follows elsewhere
   pub stepped_hosted : (b : Contents) (s : Step) → IsChangeOf a b o (part_step (part_in a o) s) → world_of b ≡ stepped o (world_of a) s
   stepped_hosted b s change =
       changed a b o (single_hosted a hosts held) there change ∙
       ap (λ (p : Part). Rattle.dom_model.specs.World.with_part (world_of a) (part_step p s)) (sym (part_at a o there))
-
-  -- a step after which nothing follows elsewhere, with hosts or without
-  abbrev pub IsPlain : Step → Type 0
-  IsPlain (place x parent before) = ⊥
-  IsPlain (take_out x) = ⊥
-  IsPlain (set_document x d) = ⊥
-  IsPlain (set_attribute x n v) = ⊥
-  IsPlain (queue_record c) = ⊥
-  IsPlain s = Unit {0}
 
   pub plain_step : (b : Contents) (s : Step) → IsPlain s → IsChangeOf a b o (part_step (part_in a o) s) → world_of b ≡ world_step o (world_of a) s
   plain_step b s plain change = by s plain (stepped_hosted b s change)

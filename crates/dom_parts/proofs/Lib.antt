@@ -37,7 +37,6 @@ mod RangedPassing
 mod RangedRefusals
 mod RangedStates
 mod RangedSteps
-mod RangedWorlds
 mod Records
 mod Roots
 mod Shown

@@ -29,8 +29,10 @@ use Rattle.dom_observers.specs.Views.{change_of, notice_of}
 use Rattle.dom_observers.specs.declared.change.Change.{Change as Record}
 use Rattle.dom_observers.proofs.Speaking.{speaks_none, speaks_made, speaks_observing, speaks_disconnected, speaks_emptied, speaks_notified, all_queued, all_got}
 use Rattle.dom_parts.specs.AllTables.{AllTables, with_observers}
-use Rattle.dom_parts.specs.Doc.{DocState, world_from, state_from, IsDoc, Makes, MakesSaying, NamesNodes, notice_in, notices_of}
+use Rattle.dom_parts.specs.Contents.{part_in}
+use Rattle.dom_parts.specs.Doc.{DocState, contents, owner_in, world_from, state_from, IsDoc, Makes, MakesSaying, NamesNodes, notice_in, notices_of}
 use Rattle.dom_parts.proofs.DocInvariant.{held_observers}
+use Rattle.dom_parts.proofs.Worlds.{read_same}
 use Rattle.dom_parts.proofs.Observed.{with_seen, has_observer, there_observer, queues_in, part_seen, held_seen, makes_seen, seen_world}
 
 -- ---- lists
@@ -108,23 +110,6 @@ module _ (f : NamedTrees) {tables : AllTables} (held : IsDoc f.names f.trees tab
   same_if seen (Ok x) same = tt
   same_if seen (Err e) same = same_state seen same
 
-  -- an observer that is there is known, so a call is refused for no other reason
-  module _ (b : Bool) (known : b ≡ true) {T : Type 0} (r : Result T Fault) where
-    pub refused_known : {P : Type 0} → ((r ≡ Err (Refused TypeFault)) ↔ ((b ≡ true) × P)) → (r ≡ Err (Refused TypeFault)) ↔ P
-    refused_known h = (λ e. (h.0 e).1, λ p. h.1 (known, p))
-
-    pub faults_known : ((r ≡ Err (Refused Unknown)) ↔ (b ≡ false)) →
-        IfErr r (λ fault. (fault ≡ Refused Unknown) ⊎ ((fault ≡ Refused TypeFault) ⊎ (fault ≡ Memory))) →
-        IfErr r (λ fault. (fault ≡ Refused TypeFault) ⊎ (fault ≡ Memory))
-    faults_known = by r
-      where
-        by : (r : Result T Fault) → ((r ≡ Err (Refused Unknown)) ↔ (b ≡ false)) →
-            IfErr r (λ fault. (fault ≡ Refused Unknown) ⊎ ((fault ≡ Refused TypeFault) ⊎ (fault ≡ Memory))) →
-            IfErr r (λ fault. (fault ≡ Refused TypeFault) ⊎ (fault ≡ Memory))
-        by (Ok x) unknown other = tt
-        by (Err e) unknown (inl is) = absurd (true≢false (sym known ∙ unknown.0 (ap Err is)))
-        by (Err e) unknown (inr rest) = rest
-
   pub same_held : (seen : Owner → TablesOf ℕ) → ((q : Owner) → seen q ≡ tables.observers q) → IsDoc f.names f.trees (with_observers tables seen)
   same_held seen same = held_observers f.names f.trees tables held seen (λ q. subst (SpeaksOf (IsKey f.names)) (sym (same q)) (held.speaks q))
       (λ q off. same q ∙ held.unobserved q off)
@@ -133,6 +118,14 @@ module _ (f : NamedTrees) {tables : AllTables} (held : IsDoc f.names f.trees tab
   pub none_held : (seen : Owner → TablesOf ℕ) → ((q : Owner) → seen q ≡ no_observers) → IsDoc f.names f.trees (with_observers tables seen)
   none_held seen none = held_observers f.names f.trees tables held seen
       (λ q. subst (SpeaksOf (IsKey f.names)) (sym (none q)) (speaks_none (IsKey f.names))) (λ q off. none q)
+
+  -- what does not depend on observers is as it was
+  pub unseen : {R : Type 0} (seen : Owner → TablesOf ℕ) (read : Part → R) →
+      ((q : Owner) → read (part_in (contents f.names f.trees (with_observers tables seen)) q) ≡ read (part_in (contents f.names f.trees tables) q)) →
+      read (part_of (world_from f.names f.trees (with_observers tables seen)) o) ≡ read (part_of d.world o)
+  unseen seen read same =
+      read_same (contents f.names f.trees (with_observers tables seen)) (contents f.names f.trees tables) refl read same o
+      ∙ ap (λ (e : DocState). read (part_of e.world o)) is_d
 
   module _ (there : is_there (world_from f.names f.trees tables) o ≡ true) (r : TablesOf ℕ) (seen : Owner → TablesOf ℕ)
       (is : (q : Owner) → seen q ≡ (if owner_eq o q then r else tables.observers q)) where
@@ -155,7 +148,10 @@ module _ (f : NamedTrees) {tables : AllTables} (held : IsDoc f.names f.trees tab
 
   -- ---- the commands
 
-  module _ (there : is_there (world_from f.names f.trees tables) o ≡ true) (seen : Owner → TablesOf ℕ) where
+  module _ (is_there_now : is_there d.world o ≡ true) (seen : Owner → TablesOf ℕ) where
+    there : is_there (world_from f.names f.trees tables) o ≡ true
+    there = subst (λ (e : DocState). is_there e.world o ≡ true) (sym is_d) is_there_now
+
     -- an observer more
     module _ (r : Result ℕ Fault) (was : OnErr r ((q : Owner) → seen q ≡ tables.observers q))
         (is : OnOk r ((q : Owner) → seen q ≡ (if owner_eq o q then with_observer (tables.observers o) else tables.observers q))) where
@@ -184,80 +180,6 @@ module _ (f : NamedTrees) {tables : AllTables} (held : IsDoc f.names f.trees tab
               ∙ ap (λ t. Effect.tables (own_part there (with_observer (tables.observers o)) seen is t) [] (an_observer n))
               (sym (making_law f.names (tables.observers o))))
           by (Err e) is number = tt
-
-    -- a registration
-    module _ (k x : ℕ) (at_x : x < length f.names) (own_x : (name_at f.names x).owner ≡ o) (w : ObserveWords) {T : Type 0} where
-      pub observed_held : (r : Result T Fault) → OnErr r ((q : Owner) → seen q ≡ tables.observers q) →
-          OnOk r ((q : Owner) → seen q ≡ (if owner_eq o q then observing nat_eq k x w (tables.observers o) else tables.observers q))
-          → IsDoc f.names f.trees (with_observers tables seen)
-      observed_held (Ok u) was is = held_then there (observing nat_eq k x w (tables.observers o)) seen is
-          (speaks_observing (IsKey f.names) nat_eq k x w (tables.observers o) (held.speaks o) at_x)
-      observed_held (Err e) was is = same_held seen was
-
-      pub observed_world : TellApart f.names → (r : Result T Fault) →
-          OnOk r ((q : Owner) → seen q ≡ (if owner_eq o q then observing nat_eq k x w (tables.observers o) else tables.observers q))
-          → OnOk r (Makes o (Command.observe k (own (name_at d.names x).number) w) nothing d.world (world_from f.names f.trees (with_observers tables seen)))
-      observed_world apart (Ok u) is =
-          writes there (observing nat_eq k x w (tables.observers o)) seen is (λ ns. Command.observe k (own (name_at ns x).number) w) (λ ns. []) nothing
-          (ap (λ p. Effect.tables (with_seen f.names f.trees tables held o
-          (observing name_eq k (node_of p (name_at f.names x).number) w (named_tables (name_at f.names) (tables.observers o)))) [] nothing)
-          (sym own_x)
-          ∙ ap (λ t. Effect.tables (with_seen f.names f.trees tables held o t) [] nothing)
-          (sym (observing_law f.names apart (tables.observers o) k x w (held.speaks o).registrations at_x)))
-      observed_world apart (Err e) is = tt
-
-    -- registrations that go
-    module _ (k : ℕ) (b : Bool) (there_is : b ≡ true)
-        (is : (q : Owner) → seen q ≡ (if owner_eq o q then (if b then disconnected k (tables.observers o) else tables.observers o) else
-        tables.observers q)) where
-      gone : (q : Owner) → seen q ≡ (if owner_eq o q then disconnected k (tables.observers o) else tables.observers q)
-      gone q = is q ∙ ap (λ c. if owner_eq o q then (if c then disconnected k (tables.observers o) else tables.observers o) else tables.observers q) there_is
-
-      pub disconnected_held : IsDoc f.names f.trees (with_observers tables seen)
-      disconnected_held = held_then there (disconnected k (tables.observers o)) seen gone
-          (speaks_disconnected (IsKey f.names) k (tables.observers o) (held.speaks o))
-
-      pub disconnected_world : Makes o (Command.disconnect k) nothing d.world (world_from f.names f.trees (with_observers tables seen))
-      disconnected_world =
-          writes there (disconnected k (tables.observers o)) seen gone (λ ns. Command.disconnect k) (λ ns. []) nothing
-          (ap (λ t. Effect.tables (with_seen f.names f.trees tables held o t) [] nothing) (sym (disconnected_law f.names k (tables.observers o))))
-
-    -- records that are taken
-    module _ (k : ℕ) (rs : List Record) (got : Some (map change_of rs) ≡ slice_get (tables.observers o).record_queues k)
-        (is : (q : Owner) → seen q ≡ (if owner_eq o q then emptied k (tables.observers o) else tables.observers q)) where
-      pub taken_held : IsDoc f.names f.trees (with_observers tables seen)
-      taken_held = held_then there (emptied k (tables.observers o)) seen is (speaks_emptied (IsKey f.names) k (tables.observers o) (held.speaks o))
-
-      records_named : queue_of (named_tables (name_at f.names) (tables.observers o)).record_queues k ≡ map
-          (λ r. named_change (name_at f.names) (change_of r)) rs
-      records_named =
-          ap (λ m. unwrap_or m []) (slice_get-map (map (named_change (name_at f.names))) (tables.observers o).record_queues k ∙
-          ap (option_map (map (named_change (name_at f.names)))) (sym got))
-          ∙ map_twice change_of (named_change (name_at f.names)) rs
-
-      pub taken_world : MakesSaying o (Command.take k) (map (λ r. recorded k (named_change (name_at d.names) (change_of r))) rs)
-          (a_count (length rs)) d.world (world_from f.names f.trees (with_observers tables seen))
-      taken_world =
-          writes there (emptied k (tables.observers o)) seen is (λ ns. Command.take k)
-          (λ ns. map (λ r. recorded k (named_change (name_at ns) (change_of r))) rs) (a_count (length rs))
-          (ap (λ cs. Effect.tables (with_seen f.names f.trees tables held o (emptied k (named_tables (name_at f.names) (tables.observers o))))
-          (map (recorded k) cs) (a_count (length cs))) records_named
-          ∙ ap (λ lines. Effect.tables (with_seen f.names f.trees tables held o (emptied k (named_tables (name_at f.names) (tables.observers o))))
-          lines (a_count (length (map (λ r. named_change (name_at f.names) (change_of r)) rs))))
-          (map_twice (λ r. named_change (name_at f.names) (change_of r)) (recorded k) rs)
-          ∙ ap (λ n. Effect.tables (with_seen f.names f.trees tables held o (emptied k (named_tables (name_at f.names) (tables.observers o))))
-          (map (λ r. recorded k (named_change (name_at f.names) (change_of r))) rs) (a_count n))
-          (length-map rs (λ r. named_change (name_at f.names) (change_of r)))
-          ∙ ap (λ t. Effect.tables (with_seen f.names f.trees tables held o t)
-          (map (λ r. recorded k (named_change (name_at f.names) (change_of r))) rs) (a_count (length rs)))
-          (sym (emptied_law f.names k (tables.observers o))))
-
-      pub taken_nodes : AllByRecursion (NamesNodes d) rs
-      taken_nodes =
-          subst (λ (e : DocState). AllByRecursion (NamesNodes e) rs) is_d
-          (all_mapped change_of (IsChangeAt (IsKey f.names)) rs
-          (all_got (AreAll (IsChangeAt (IsKey f.names))) (tables.observers o).record_queues k (map change_of rs) (held.speaks o).records
-          (sym got)))
 
     -- a notification
     pub notified_held : ((q : Owner) → seen q ≡ (if owner_eq o q then keyed_notified (tables.observers o) else tables.observers q)) →
@@ -288,3 +210,111 @@ module _ (f : NamedTrees) {tables : AllTables} (held : IsDoc f.names f.trees tab
         (all_noticed (IsChangeAt (IsKey f.names)) list
         (subst (AreAll (λ (n : Notice ℕ). AreAll (IsChangeAt (IsKey f.names)) n.1)) (sym is)
         (each_queued (IsChangeAt (IsKey f.names)) (tables.observers o).record_queues (held.speaks o).records (tables.observers o).pending)))
+
+  -- ---- the commands on an observer that is there
+
+  module _ (k : ℕ) (known : is_some (slice_get (part_of d.world o).record_queues k) ≡ true) (seen : Owner → TablesOf ℕ) where
+    of : is_there (world_from f.names f.trees tables) o ≡ true
+    of = there_by k known
+
+    in_queues : nat_lt k (length (tables.observers o).record_queues) ≡ true
+    in_queues = within (tables.observers o).record_queues k (observer_is k ∙ known)
+
+    -- it is known, so a call is refused for no other reason
+    module _ {T : Type 0} (r : Result T Fault) where
+      pub refused_known : {P : Type 0} → ((r ≡ Err (Refused TypeFault)) ↔ ((nat_lt k (length (tables.observers o).record_queues) ≡ true) × P)) →
+          (r ≡ Err (Refused TypeFault)) ↔ P
+      refused_known h = (λ e. (h.0 e).1, λ p. h.1 (in_queues, p))
+
+      pub faults_known : ((r ≡ Err (Refused Unknown)) ↔ (nat_lt k (length (tables.observers o).record_queues) ≡ false)) →
+          IfErr r (λ fault. (fault ≡ Refused Unknown) ⊎ ((fault ≡ Refused TypeFault) ⊎ (fault ≡ Memory))) →
+          IfErr r (λ fault. (fault ≡ Refused TypeFault) ⊎ (fault ≡ Memory))
+      faults_known = by r
+        where
+          by : (r : Result T Fault) → ((r ≡ Err (Refused Unknown)) ↔ (nat_lt k (length (tables.observers o).record_queues) ≡ false)) →
+              IfErr r (λ fault. (fault ≡ Refused Unknown) ⊎ ((fault ≡ Refused TypeFault) ⊎ (fault ≡ Memory))) →
+              IfErr r (λ fault. (fault ≡ Refused TypeFault) ⊎ (fault ≡ Memory))
+          by (Ok x) unknown other = tt
+          by (Err e) unknown (inl is) = absurd (true≢false (sym in_queues ∙ unknown.0 (ap Err is)))
+          by (Err e) unknown (inr rest) = rest
+
+    -- a registration
+    module _ (x : ℕ) (is_node : x < length d.names) (own_node : owner_in d x ≡ o) (w : ObserveWords) where
+      at_x : x < length f.names
+      at_x = subst (λ (e : DocState). x < length e.names) (sym is_d) is_node
+
+      own_x : (name_at f.names x).owner ≡ o
+      own_x = subst (λ (e : DocState). owner_in e x ≡ o) (sym is_d) own_node
+
+      pub observed_held : {T : Type 0} (r : Result T Fault) → OnErr r ((q : Owner) → seen q ≡ tables.observers q) →
+          OnOk r ((q : Owner) → seen q ≡ (if owner_eq o q then observing nat_eq k x w (tables.observers o) else tables.observers q))
+          → IsDoc f.names f.trees (with_observers tables seen)
+      observed_held (Ok u) was is = held_then of (observing nat_eq k x w (tables.observers o)) seen is
+          (speaks_observing (IsKey f.names) nat_eq k x w (tables.observers o) (held.speaks o) at_x)
+      observed_held (Err e) was is = same_held seen was
+
+      pub observed_world : TellApart f.names → {T : Type 0} (r : Result T Fault) →
+          OnOk r ((q : Owner) → seen q ≡ (if owner_eq o q then observing nat_eq k x w (tables.observers o) else tables.observers q))
+          → OnOk r (Makes o (Command.observe k (own (name_at d.names x).number) w) nothing d.world (world_from f.names f.trees (with_observers tables seen)))
+      observed_world apart (Ok u) is =
+          writes of (observing nat_eq k x w (tables.observers o)) seen is (λ ns. Command.observe k (own (name_at ns x).number) w) (λ ns. []) nothing
+          (ap (λ p. Effect.tables (with_seen f.names f.trees tables held o
+          (observing name_eq k (node_of p (name_at f.names x).number) w (named_tables (name_at f.names) (tables.observers o)))) [] nothing)
+          (sym own_x)
+          ∙ ap (λ t. Effect.tables (with_seen f.names f.trees tables held o t) [] nothing)
+          (sym (observing_law f.names apart (tables.observers o) k x w (held.speaks o).registrations at_x)))
+      observed_world apart (Err e) is = tt
+
+    -- registrations that go
+    module _ (b : Bool) (tells : b ≡ nat_lt k (length (tables.observers o).record_queues))
+        (is : (q : Owner) → seen q ≡ (if owner_eq o q then (if b then disconnected k (tables.observers o) else tables.observers o) else
+        tables.observers q)) where
+      gone : (q : Owner) → seen q ≡ (if owner_eq o q then disconnected k (tables.observers o) else tables.observers q)
+      gone q = is q ∙ ap (λ c. if owner_eq o q then (if c then disconnected k (tables.observers o) else tables.observers o) else tables.observers q)
+          (tells ∙ in_queues)
+
+      pub disconnected_held : IsDoc f.names f.trees (with_observers tables seen)
+      disconnected_held = held_then of (disconnected k (tables.observers o)) seen gone
+          (speaks_disconnected (IsKey f.names) k (tables.observers o) (held.speaks o))
+
+      pub disconnected_world : Makes o (Command.disconnect k) nothing d.world (world_from f.names f.trees (with_observers tables seen))
+      disconnected_world =
+          writes of (disconnected k (tables.observers o)) seen gone (λ ns. Command.disconnect k) (λ ns. []) nothing
+          (ap (λ t. Effect.tables (with_seen f.names f.trees tables held o t) [] nothing) (sym (disconnected_law f.names k (tables.observers o))))
+
+    -- records that are taken
+    module _ (rs : List Record) (got : Some (map change_of rs) ≡ slice_get (tables.observers o).record_queues k)
+        (is : (q : Owner) → seen q ≡ (if owner_eq o q then emptied k (tables.observers o) else tables.observers q)) where
+      pub taken_held : IsDoc f.names f.trees (with_observers tables seen)
+      taken_held = held_then of (emptied k (tables.observers o)) seen is (speaks_emptied (IsKey f.names) k (tables.observers o) (held.speaks o))
+
+      records_named : queue_of (named_tables (name_at f.names) (tables.observers o)).record_queues k ≡ map
+          (λ r. named_change (name_at f.names) (change_of r)) rs
+      records_named =
+          ap (λ m. unwrap_or m []) (slice_get-map (map (named_change (name_at f.names))) (tables.observers o).record_queues k ∙
+          ap (option_map (map (named_change (name_at f.names)))) (sym got))
+          ∙ map_twice change_of (named_change (name_at f.names)) rs
+
+      pub taken_world : MakesSaying o (Command.take k) (map (λ r. recorded k (named_change (name_at d.names) (change_of r))) rs)
+          (a_count (length rs)) d.world (world_from f.names f.trees (with_observers tables seen))
+      taken_world =
+          writes of (emptied k (tables.observers o)) seen is (λ ns. Command.take k)
+          (λ ns. map (λ r. recorded k (named_change (name_at ns) (change_of r))) rs) (a_count (length rs))
+          (ap (λ cs. Effect.tables (with_seen f.names f.trees tables held o (emptied k (named_tables (name_at f.names) (tables.observers o))))
+          (map (recorded k) cs) (a_count (length cs))) records_named
+          ∙ ap (λ lines. Effect.tables (with_seen f.names f.trees tables held o (emptied k (named_tables (name_at f.names) (tables.observers o))))
+          lines (a_count (length (map (λ r. named_change (name_at f.names) (change_of r)) rs))))
+          (map_twice (λ r. named_change (name_at f.names) (change_of r)) (recorded k) rs)
+          ∙ ap (λ n. Effect.tables (with_seen f.names f.trees tables held o (emptied k (named_tables (name_at f.names) (tables.observers o))))
+          (map (λ r. recorded k (named_change (name_at f.names) (change_of r))) rs) (a_count n))
+          (length-map rs (λ r. named_change (name_at f.names) (change_of r)))
+          ∙ ap (λ t. Effect.tables (with_seen f.names f.trees tables held o t)
+          (map (λ r. recorded k (named_change (name_at f.names) (change_of r))) rs) (a_count (length rs)))
+          (sym (emptied_law f.names k (tables.observers o))))
+
+      pub taken_nodes : AllByRecursion (NamesNodes d) rs
+      taken_nodes =
+          subst (λ (e : DocState). AllByRecursion (NamesNodes e) rs) is_d
+          (all_mapped change_of (IsChangeAt (IsKey f.names)) rs
+          (all_got (AreAll (IsChangeAt (IsKey f.names))) (tables.observers o).record_queues k (map change_of rs) (held.speaks o).records
+          (sym got)))

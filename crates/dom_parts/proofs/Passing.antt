@@ -25,6 +25,7 @@ use Rattle.dom_laws.proofs.Shapes.{above-itself}
 use Rattle.dom_traversal.specs.OwnTables.{KeyedTables, EachItem}
 use Rattle.dom_traversal.specs.Cursors.{with_cursors}
 use Rattle.dom_parts.specs.AllTables.{IsOwnIterator, IsOwnWalker, AreTablesOf, AllTables}
+use Rattle.dom_parts.specs.Calls.{MovesTo}
 use Rattle.dom_parts.specs.Doc.{DocState, owner_in, world_from, state_from, IsDoc, Makes}
 use Rattle.dom_traversal.proofs.Items.{set_items, push_items}
 use Rattle.dom_tree.specs.Owners.{AreOwned}
@@ -170,12 +171,11 @@ walk_stays {f} owned {o} {w} h m (Some j) value kept =
       own_current = moved_own f.trees owned o (walker_view f.names w) h.own h.own_current m (name_at f.names j) (sym value);
     }
 
--- what a command that moves an owner's cursor leaves: what is held, the node that it answers, and the world
+-- what a command that moves an owner's cursor leaves: what is held, and what the call says
 pub record Moves (f : NamedTrees) (tables : AllTables) (d : DocState) (o : Owner) (each : Owner → KeyedTables) (c : Command) (r : Option ℕ) :
     Type 0 where
   pub held : IsDoc f.names f.trees (record tables { each = each })
-  pub node : (j : ℕ) → r ≡ Some j → j < length d.names
-  pub world : Makes o c (node_or_null (option_map (name_at d.names) r)) d.world (world_from f.names f.trees (record tables { each = each }))
+  pub says : MovesTo o c r d (state_from f.names f.trees (record tables { each = each }))
 
 module _ (f : NamedTrees) {tables : AllTables} (held : IsDoc f.names f.trees tables) {d : DocState}
     (is_d : state_from f.names f.trees tables ≡ d) (o : Owner) (k : ℕ) (each : Owner → KeyedTables) {r : Option ℕ} where
@@ -194,8 +194,11 @@ module _ (f : NamedTrees) {tables : AllTables} (held : IsDoc f.names f.trees tab
       let w = with_iterator f.names f.trees tables held o there k (iterator_at item.0 before r) in
       record {
         held = held_written f held is_d o there each w state (iter_moved f held is_d o k item.0 before r item.1 kept);
-        node = λ j e. name_known f held is_d o j (subst (λ q. IsIteratorOf f (iterator_at item.0 before q)) e kept).reference.node;
-        world = writes f held is_d o there each w state (λ ns. c) (λ ns. node_or_null (option_map (name_at ns) r)) does;
+        says = record {
+          names = ap (λ (e : DocState). e.names) is_d;
+          node = λ j e. name_known f held is_d o j (subst (λ q. IsIteratorOf f (iterator_at item.0 before q)) e kept).reference.node;
+          world = writes f held is_d o there each w state (λ ns. c) (λ ns. node_or_null (option_map (name_at ns) r)) does;
+        };
       }
 
   pub walk_moves : (h : is_some (slice_get (part_of d.world o).walkers k) ≡ true) (m : Move)
@@ -212,9 +215,12 @@ module _ (f : NamedTrees) {tables : AllTables} (held : IsDoc f.names f.trees tab
         held = held_written f held is_d o there each w state
             (walk_moved f held is_d o k item.0 (walker_at item.0 r) item.1
             (walk_stays held.owned ((held.own o).walkers k item.0 item.1) m r value kept));
-        node = λ j e. name_known f held is_d o j (subst (λ q. IsWalkerOf f (walker_at item.0 q)) e kept).current;
-        world = writes f held is_d o there each w state (λ ns. Command.walk k m) (λ ns. node_or_null (option_map (name_at ns) r))
-            (walk_effect f.names f.trees tables held o there k item.0 m r item.1 value);
+        says = record {
+          names = ap (λ (e : DocState). e.names) is_d;
+          node = λ j e. name_known f held is_d o j (subst (λ q. IsWalkerOf f (walker_at item.0 q)) e kept).current;
+          world = writes f held is_d o there each w state (λ ns. Command.walk k m) (λ ns. node_or_null (option_map (name_at ns) r))
+              (walk_effect f.names f.trees tables held o there k item.0 m r item.1 value);
+        };
       }
 
 -- ---- cursors that are made

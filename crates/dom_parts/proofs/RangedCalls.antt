@@ -15,6 +15,8 @@ use Rattle.dom_model.specs.Extract.{both_at}
 use Rattle.dom_model.specs.Names.{owner_eq, node_of}
 use Rattle.dom_model.specs.Output.{Value, nothing, a_range, boundaries}
 use Rattle.dom_model.specs.Part.{range_at}
+use Rattle.dom_model.specs.Place.{Boundary}
+use Rattle.dom_model.specs.Tree.{Trees}
 use Rattle.dom_model.specs.Ranges.{Range, at, from_to, with_start, with_end}
 use Rattle.dom_model.specs.World.{part_of, with_part, is_there}
 use Rattle.dom_model.proofs.OwnerLaws.{owner_eq-same, owner_eq-true, owner_eq-false, ne-owner_eq}
@@ -109,11 +111,14 @@ module _ (c : Contents) (t : RangeLists) (ranges : AreRangesOf c t) (o : Owner) 
       ap (λ rs. with_those rs nothing) (sym (removed-named c.names (ranges_of t o) k))
 
   -- one gets other ends
+  abbrev pub ranges_set : ℕ → (Range ℕ → Range ℕ) → Effect
+  ranges_set k f =
+      let rs = slice_set (ranges_of t o) k (option_map f (range_in (ranges_of t o) k)) in
+      Effect.tables (record (part_in c o) { ranges = named_ranges c.names rs }) [] nothing
+
   pub rewritten_effect : (k : ℕ) (f : Range ℕ → Range ℕ) (g : Range NodeName → Range NodeName) →
       ((r : Range ℕ) → named_range c.names (f r) ≡ g (named_range c.names r))
-      → changes_range (part_in c o) k g ≡ Effect.tables
-      (record (part_in c o) { ranges = named_ranges c.names (slice_set (ranges_of t o) k (option_map f (range_in (ranges_of t o) k))) }) []
-      nothing
+      → changes_range (part_in c o) k g ≡ ranges_set k f
   unfolding with_those
   rewritten_effect k f g law =
       ap (λ rs. with_those (slice_set rs k (option_map g (option_flatten (slice_get rs k)))) nothing) (ranges.shown o)
@@ -121,11 +126,7 @@ module _ (c : Contents) (t : RangeLists) (ranges : AreRangesOf c t) (o : Owner) 
 
   -- one collapses
   pub collapse_effect : (k : ℕ) (to_start : Bool)
-      → effect (part_in c o) (Command.range_collapse k to_start) ≡ Effect.tables
-      (record (part_in c o) {
-        ranges = named_ranges c.names
-            (slice_set (ranges_of t o) k (option_map (collapsed_range to_start) (range_in (ranges_of t o) k)));
-      }) [] nothing
+      → effect (part_in c o) (Command.range_collapse k to_start) ≡ ranges_set k (collapsed_range to_start)
   collapse_effect k to_start = rewritten_effect k (collapsed_range to_start) (collapsed_to to_start) (λ r. law to_start r)
     where
       law : (b : Bool) (r : Range ℕ) → named_range c.names (collapsed_range b r) ≡ collapsed_to b (named_range c.names r)
@@ -177,41 +178,30 @@ module _ (c : Contents) (t : RangeLists) (ranges : AreRangesOf c t) (owned : Are
       by None e = refl
       by (Some r) e = ap Some (same r (stand-at (IsOwnPoint c.names o) (ranges_of t o) k r (ranges.own o) e))
 
-  -- a range gets another start
-  pub start_effect : (k offset : ℕ)
-      → effect (part_in c o) (Command.range_start k (NodeWord.own (name_at c.names node).number) offset)
-      ≡ Effect.tables (record (part_in c o) {
-        ranges = named_ranges c.names
-            (slice_set (ranges_of t o) k (option_map (start_set (named_trees c.names c.trees) (at node offset)) (range_in (ranges_of t o) k)));
-      }) []
-      nothing
-  start_effect k offset =
+  -- a range gets another end, by a rule on keys that in names is one in the owner's trees
+  set_effect : (offset : ℕ) (set : Range ℕ → Range ℕ) (write : Trees → Boundary NodeName → Range NodeName → Range NodeName) →
+      ((r : Range ℕ) → BothEnds (IsOwnPoint c.names o) r → write (trees_of_owner o c.trees) (at (name_at c.names node) offset) (named_range c.names r) ≡
+      write c.trees (at (name_at c.names node) offset) (named_range c.names r)) →
+      ((r : Range ℕ) → named_range c.names (set r) ≡ write c.trees (at (name_at c.names node) offset) (named_range c.names r)) → (k : ℕ)
+      → changes_range (part_in c o) k (write (trees_of_owner o c.trees) (at (node_of o (name_at c.names node).number) offset)) ≡ ranges_set c t ranges o k set
+  set_effect offset set write same law k =
       let us = trees_of_owner o c.trees in
       let b = at (name_at c.names node) offset in
-      ap (λ p. changes_range (part_in c o) k (with_start us (at (node_of p (name_at c.names node).number) offset))) (sym own_node)
-      ∙ (agreed_effect k (with_start us b) (with_start c.trees b)
-      (λ r h. sym (with_start-own c.trees owned single o b (named_range c.names r) (own_in node at_node own_node)
-      (own_in r.end.node h.1.node h.1.owner)))
-      ∙ rewritten_effect c t ranges o k (start_set (named_trees c.names c.trees) (at node offset)) (with_start c.trees b)
-      (start-named (named_trees c.names c.trees) (at node offset)))
+      ap (λ p. changes_range (part_in c o) k (write us (at (node_of p (name_at c.names node).number) offset))) (sym own_node)
+      ∙ (agreed_effect k (write us b) (write c.trees b) same ∙ rewritten_effect c t ranges o k set (write c.trees b) law)
 
-  -- or another end
-  pub end_effect : (k offset : ℕ)
-      → effect (part_in c o) (Command.range_end k (NodeWord.own (name_at c.names node).number) offset)
-      ≡ Effect.tables (record (part_in c o) {
-        ranges = named_ranges c.names
-            (slice_set (ranges_of t o) k (option_map (end_set (named_trees c.names c.trees) (at node offset)) (range_in (ranges_of t o) k)));
-      }) []
-      nothing
-  end_effect k offset =
-      let us = trees_of_owner o c.trees in
-      let b = at (name_at c.names node) offset in
-      ap (λ p. changes_range (part_in c o) k (with_end us (at (node_of p (name_at c.names node).number) offset))) (sym own_node)
-      ∙ (agreed_effect k (with_end us b) (with_end c.trees b)
-      (λ r h. sym (with_end-own c.trees owned single o b (named_range c.names r) (own_in node at_node own_node)
-      (own_in r.start.node h.0.node h.0.owner)))
-      ∙ rewritten_effect c t ranges o k (end_set (named_trees c.names c.trees) (at node offset)) (with_end c.trees b)
-      (end-named (named_trees c.names c.trees) (at node offset)))
+  -- another start, or another end
+  pub start_effect : (k offset : ℕ) → effect (part_in c o) (Command.range_start k (NodeWord.own (name_at c.names node).number) offset) ≡
+      ranges_set c t ranges o k (start_set (named_trees c.names c.trees) (at node offset))
+  start_effect k offset = set_effect offset (start_set f (at node offset)) with_start (λ r h. sym (with_start-own c.trees owned single o
+      (at (name_at c.names node) offset) (named_range c.names r) (own_in node at_node own_node) (own_in r.end.node h.1.node h.1.owner)))
+      (start-named f (at node offset)) k
+
+  pub end_effect : (k offset : ℕ) → effect (part_in c o) (Command.range_end k (NodeWord.own (name_at c.names node).number) offset) ≡
+      ranges_set c t ranges o k (end_set (named_trees c.names c.trees) (at node offset))
+  end_effect k offset = set_effect offset (end_set f (at node offset)) with_end (λ r h. sym (with_end-own c.trees owned single o
+      (at (name_at c.names node) offset) (named_range c.names r) (own_in node at_node own_node) (own_in r.start.node h.0.node h.0.owner)))
+      (end-named f (at node offset)) k
 
 -- ---- what holds of the lists that the calls leave
 

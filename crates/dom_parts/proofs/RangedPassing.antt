@@ -22,19 +22,20 @@ use Rattle.dom_model.specs.Ranges.{Range, at, from_to}
 use Rattle.dom_model.specs.Tree.{length_of}
 use Rattle.dom_model.specs.World.{part_of, is_there}
 use Rattle.dom_ranges.specs.Settings.{named_boundary, named_range, named_ranges, start_set, end_set, have_one_root, is_key_before}
-use Rattle.dom_ranges.specs.Tables.{RangeList, RangeLists, EachRange, BothEnds, ranges_of, range_in, with_ranges, collapsed_range}
+use Rattle.dom_ranges.specs.Tables.{RangeList, RangeLists, EachRange, BothEnds, ranges_of, range_in, range_from, with_ranges, collapsed_range}
+use Rattle.dom_ranges.specs.declared.table.Points.{Points}
 use Rattle.dom_ranges.proofs.EndsAfterCalls.{stand-at}
 use Rattle.dom_tree.proofs.Standing.{StandOnce, StandAlone}
 use Rattle.dom_tree.specs.Forest.{NamedTrees, name_at}
 use Rattle.dom_parts.specs.Contents.{Contents, part_in, world_of}
+use Rattle.dom_parts.specs.Calls.{AreEndsOf, SetsEnd}
 use Rattle.dom_parts.specs.Doc.{DocState, contents, world_from, state_from, IsDoc, Makes, name_in, owner_in}
 use Rattle.dom_parts.specs.AllTables.{AllTables, with_live}
 use Rattle.dom_parts.specs.Ranging.{IsOwnPoint, AreRangesOf, ranged}
-use Rattle.dom_parts.proofs.DocInvariant.{single_owners}
+use Rattle.dom_parts.proofs.DocInvariant.{single_owners, held_live}
 use Rattle.dom_parts.proofs.RangedCalls.{set_makes, set_ranges, make_effect, drop_effect, collapse_effect, points_effect, start_effect, end_effect}
 use Rattle.dom_parts.proofs.RangedCalls.{range_read, made_own, made_few, dropped_own, rewritten_own, written_few}
 use Rattle.dom_parts.proofs.RangedRefusals.{limit_read, end_read}
-use Rattle.dom_parts.proofs.RangedStates.{held_live}
 use Rattle.dom_parts.proofs.Worlds.{part_at, part_off, there_same}
 
 -- the same ranges in another list of lists
@@ -47,13 +48,10 @@ ranges_equal c t u same h = record {
 }
 
 -- what a call leaves that sets one end of a range by a command, or is refused
-pub record SetsEnd (f : NamedTrees) (tables : AllTables) (d : DocState) (o : Owner) (node offset : ℕ) (u : RangeLists) (command : Command)
+pub record EndIsSet (f : NamedTrees) (tables : AllTables) (d : DocState) (o : Owner) (node offset : ℕ) (u : RangeLists) (command : Command)
     (r : Result ⊤ Refusal) : Type 0 where
   pub held : IsDoc f.names f.trees (with_live tables u)
-  pub makes : OnOk r (Makes o command nothing d.world (world_from f.names f.trees (with_live tables u)))
-  pub refused : (r ≡ Err IndexSize) ↔ (past_end (part_of d.world o) (name_in d node) offset ≡ true)
-  pub other : IfErr r (λ e. e ≡ IndexSize)
-  pub same : OnErr r (state_from f.names f.trees (with_live tables u) ≡ d)
+  pub says : SetsEnd o command node offset r d (state_from f.names f.trees (with_live tables u))
 
 pub some_of : {X Y : Type 0} (g : X → Y) (m : Option X) → is_some (option_map g m) ≡ is_some m
 some_of g None = refl
@@ -187,7 +185,7 @@ module _ (f : NamedTrees) {tables : AllTables} (held : IsDoc f.names f.trees tab
           (collapse_effect c tables.ranges held.ranges o k to_start)
 
     -- what is read
-    pub points_makes : (r : Range ℕ) → range_in own k ≡ Some r →
+    points_makes : (r : Range ℕ) → range_in own k ≡ Some r →
         Makes o (Command.range_get k) (boundaries (named_boundary d.names r.start) (named_boundary d.names r.end)) d.world d.world
     points_makes r is =
         subst (λ (e : DocState). Makes o (Command.range_get k) (boundaries (named_boundary e.names r.start) (named_boundary e.names r.end))
@@ -203,16 +201,16 @@ module _ (f : NamedTrees) {tables : AllTables} (held : IsDoc f.names f.trees tab
         ]
 
     -- its ends are the owner's
-    pub points_own : (r : Range ℕ) → range_in own k ≡ Some r → (r.start.node < length d.names) × (r.end.node < length d.names)
-    points_own r is =
-        let h = stand-at (IsOwnPoint f.names o) own k r (held.ranges.own o) is in
-        subst (λ (e : DocState). (r.start.node < length e.names) × (r.end.node < length e.names)) is_d (h.0.node, h.1.node)
-
-    -- they are the owner's
-    pub points_owner : (r : Range ℕ) → range_in own k ≡ Some r → (owner_in d r.start.node ≡ o) × (owner_in d r.end.node ≡ o)
-    points_owner r is =
-        let h = stand-at (IsOwnPoint f.names o) own k r (held.ranges.own o) is in
-        subst (λ (e : DocState). (owner_in e r.start.node ≡ o) × (owner_in e r.end.node ≡ o)) is_d (h.0.owner, h.1.owner)
+    pub points_are : (p : Points) → range_in own k ≡ Some (range_from p) → AreEndsOf d o k p.start p.end
+    points_are p is =
+        let h = stand-at (IsOwnPoint f.names o) own k (range_from p) (held.ranges.own o) is in
+        record {
+          start_is_node = subst (λ (e : DocState). p.start.0 < length e.names) is_d h.0.node;
+          end_is_node = subst (λ (e : DocState). p.end.0 < length e.names) is_d h.1.node;
+          own_start = subst (λ (e : DocState). owner_in e p.start.0 ≡ o) is_d h.0.owner;
+          own_end = subst (λ (e : DocState). owner_in e p.end.0 ≡ o) is_d h.1.owner;
+          value = points_makes (range_from p) is;
+        }
 
     -- ---- an end is set
 
@@ -262,20 +260,23 @@ module _ (f : NamedTrees) {tables : AllTables} (held : IsDoc f.names f.trees tab
         end_sets : (command : List NodeName → Command) → ((q : Range ℕ) → BothEnds (IsOwnPoint f.names o) q → BothEnds (IsOwnPoint f.names o) (g q))
             → effect (part_in c o) (command f.names)
             ≡ Effect.tables (record (part_in c o) { ranges = named_ranges f.names (slice_set own k (option_map g (range_in own k))) }) [] nothing
-            → SetsEnd f tables d o node offset u (command d.names) r
+            → EndIsSet f tables d o node offset u (command d.names) r
         end_sets command keeps does = record {
           held = end_held keeps;
-          makes = on_ok_weaker r (λ is. live_makes there_now u (slice_set own k (option_map g (range_in own k))) is command nothing does) says.set;
-          refused = subst (λ (e : DocState). (r ≡ Err IndexSize) ↔ (past_end (part_of e.world o) (name_in e node) offset ≡ true)) is_d
-              (subst (λ p. (r ≡ Err IndexSize) ↔ (past_end p (name_at f.names node) offset ≡ true)) (sym (part_at c o there_now))
-              (let both = end_read c tables.ranges held.ranges o held.owned node offset node_own in
-              (λ p. both.0 (says.refused.0 p).1, λ e. says.refused.1 (range_is k ∙ known, both.1 e))));
-          other = faults r says.unknown says.other;
-          same = same_if u r says.same;
+          says = record {
+            names = ap (λ (e : DocState). e.names) is_d;
+            world = on_ok_weaker r (λ is. live_makes there_now u (slice_set own k (option_map g (range_in own k))) is command nothing does) says.set;
+            refused = subst (λ (e : DocState). (r ≡ Err IndexSize) ↔ (past_end (part_of e.world o) (name_in e node) offset ≡ true)) is_d
+                (subst (λ p. (r ≡ Err IndexSize) ↔ (past_end p (name_at f.names node) offset ≡ true)) (sym (part_at c o there_now))
+                (let both = end_read c tables.ranges held.ranges o held.owned node offset node_own in
+                (λ p. both.0 (says.refused.0 p).1, λ e. says.refused.1 (range_is k ∙ known, both.1 e))));
+            other = faults r says.unknown says.other;
+            err = same_if u r says.same;
+          };
         }
 
       pub start_sets : (r : Result ⊤ Refusal) → Says (start_set f (at node offset)) r
-          → SetsEnd f tables d o node offset u (Command.range_start k (NodeWord.own (name_in d node).number) offset) r
+          → EndIsSet f tables d o node offset u (Command.range_start k (NodeWord.own (name_in d node).number) offset) r
       start_sets r says =
           end_sets (start_set f (at node offset)) r says (λ ns. Command.range_start k (NodeWord.own (name_at ns node).number) offset)
           (λ q h. either (have_one_root f (at node offset) q.end && not (is_key_before f q.end (at node offset)))
@@ -283,7 +284,7 @@ module _ (f : NamedTrees) {tables : AllTables} (held : IsDoc f.names f.trees tab
           (start_effect c tables.ranges held.ranges held.owned once only o node node_is node_own k offset)
 
       pub end_is_set : (r : Result ⊤ Refusal) → Says (end_set f (at node offset)) r
-          → SetsEnd f tables d o node offset u (Command.range_end k (NodeWord.own (name_in d node).number) offset) r
+          → EndIsSet f tables d o node offset u (Command.range_end k (NodeWord.own (name_in d node).number) offset) r
       end_is_set r says =
           end_sets (end_set f (at node offset)) r says (λ ns. Command.range_end k (NodeWord.own (name_at ns node).number) offset)
           (λ q h. either (have_one_root f (at node offset) q.start && not (is_key_before f (at node offset) q.start))

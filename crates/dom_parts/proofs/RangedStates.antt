@@ -6,10 +6,11 @@ use Rattle.std.proofs.lemmas.Bool.{cases_Bool, cond-true}
 use Rattle.std.proofs.Math.Nat.{eq-or-lt_of_le}
 use Rattle.dom_base.specs.declared.NodeName.{NodeName}
 use Rattle.dom_base.specs.declared.Owner.{Owner}
-use Rattle.dom_model.specs.Names.{DomString}
+use Rattle.dom_model.specs.Names.{DomString, name_eq}
 use Rattle.dom_model.specs.Part.{Part}
 use Rattle.dom_model.specs.Ranges.{after_insert, after_replace_data, after_join}
-use Rattle.dom_model.specs.Steps.{Step, replace_data}
+use Rattle.dom_model.specs.Place.{Boundary}
+use Rattle.dom_model.specs.Steps.{Step, replace_data, join_at, part_step}
 use Rattle.dom_model.specs.Tree.{Trees, node_in, kind_of, has_data, children_of, parent_of, index_of, length_of}
 use Rattle.dom_model.specs.TreeChanges.{change_node, with_data_replaced, replaced}
 use Rattle.dom_model.specs.World.{part_of, is_there}
@@ -21,6 +22,8 @@ use Rattle.dom_worlds.specs.Worlds.{IsPart}
 use Rattle.dom_worlds.proofs.RangeLemmas.{length-replaced}
 use Rattle.dom_worlds.proofs.TreeLemmas.{index-below, length-children}
 use Rattle.dom_ranges.specs.Tables.{RangeLists, ends_by, ranges_of, range_in}
+use Rattle.dom_ranges.specs.Naming.{IsNamedRule, KeepsNodes, named_ends_by}
+use Rattle.dom_ranges.proofs.Naming.{replace_data-named, join-named}
 use Rattle.dom_ranges.proofs.Vacant.{ends-none}
 use Rattle.dom_tree.proofs.Standing.{StandOnce, StandAlone}
 use Rattle.dom_tree.specs.Forest.{NamedTrees, name_at, count_of}
@@ -28,59 +31,53 @@ use Rattle.dom_tree.specs.Owners.{IsOwnChange}
 use Rattle.dom_tree.proofs.OwnPlacings.{changed_node}
 use Rattle.dom_tree.specs.Apart.{TellApart}
 use Rattle.dom_slots.specs.Kept.{AreSlotsOf}
-use Rattle.dom_parts.specs.Contents.{part_in, part_with}
+use Rattle.dom_parts.specs.Contents.{Contents, part_in, part_with, world_of}
 use Rattle.dom_parts.specs.Doc.{DocState, named_trees, contents, state_from, world_from, IsDoc, name_in, owner_in, trees_in, stepped, planned}
 use Rattle.dom_parts.specs.Doc.{IsChild, IsOwnNode, MayCome}
 use Rattle.dom_parts.specs.AllTables.{AllTables, with_live}
-use Rattle.dom_parts.specs.Ranging.{AreRangesOf}
+use Rattle.dom_parts.specs.Ranging.{AreRangesOf, IsRuleOf, ranged}
 use Rattle.dom_parts.proofs.BoundedPlans.{length_few}
-use Rattle.dom_parts.proofs.DocInvariant.{are_hosts, held_changed, due_kept}
+use Rattle.dom_parts.proofs.DocInvariant.{are_hosts, held_changed, held_live}
 use Rattle.dom_parts.proofs.OwnParts.{own_part}
 use Rattle.dom_parts.proofs.RangedFits.{EachFits, room_fits, data_fits, data_fits_shorter, join_fits}
-use Rattle.dom_parts.proofs.RangedSteps.{data_ranged}
-use Rattle.dom_parts.proofs.RangedWorlds.{data_told, join_told}
+use Rattle.dom_parts.proofs.HostedSteps.{IsPlain, plain_step}
+use Rattle.dom_parts.proofs.RangeRules.{replace_data_rule, join_rule}
+use Rattle.dom_parts.proofs.RangedSteps.{Holds, ruled, same_part}
 use Rattle.dom_laws.proofs.KeptAncestors.{keeps_changed}
 use Rattle.dom_parts.proofs.Shown.{state_with, known, owner_there}
-use Rattle.dom_parts.proofs.Worlds.{part_at, part_off, there_same}
+use Rattle.dom_parts.proofs.Worlds.{IsChangeOf, part_at, part_off}
 
--- ---- what holds with other live ranges
-
-pub held_live : (names : List NodeName) (ts : Trees) (tables : AllTables) → IsDoc names ts tables → (live : RangeLists) →
-    AreRangesOf (contents names ts (with_live tables live)) live → IsDoc names ts (with_live tables live)
-held_live names ts tables held live stand = record {
-  owned = held.owned;
-  present = λ k k<. who (name_at names k).owner ∙ held.present k k<;
-  absent = λ o off. held.absent o (sym (who o) ∙ off);
-  limited = held.limited;
-  own = held.own;
-  idle = λ o off. held.idle o (sym (who o) ∙ off);
-  made = held.made;
-  signals = record { slots = held.signals.slots; nodes = held.signals.nodes };
-  speaks = held.speaks;
-  unobserved = λ o off. held.unobserved o (sym (who o) ∙ off);
-  due = due_kept (world_from names ts tables) (world_from names ts (with_live tables live)) (λ o on. who o ∙ on) tables.tasks held.due;
-  ranges = stand;
-  numbered = held.numbered;
-}
-  where
-    who : (o : Owner) → is_there (world_from names ts (with_live tables live)) o ≡ is_there (world_from names ts tables) o
-    who o = there_same (contents names ts (with_live tables live)) (contents names ts tables) refl o
-
--- a node of the owner of another one, whose data may come behind those of that one: what joining them asks
-pub record MayJoin (d : DocState) (first size next : ℕ) : Type 0 where
-  pub first_is_node : first < length d.names
-  pub next_owner : owner_in d next ≡ owner_in d first
-  pub bounds : HasBounds (part_of d.world (owner_in d first))
-  pub fits : size + length_of (trees_in d first) (name_in d next) ≤ length_of (trees_in d first) (name_in d first)
-  pub few : length_of (trees_in d first) (name_in d first) < 2 ^ 64
+-- what a step of a node's owner leaves that moves ends of live ranges alone
+pub record MovesEnds (f : NamedTrees) (tables : AllTables) (d : DocState) (live : RangeLists) (k : ℕ) (s : List NodeName → Step) : Type 0 where
+  pub held : IsDoc f.names f.trees (with_live tables live)
+  pub state : state_from f.names f.trees (with_live tables live) ≡ stepped (owner_in d k) (s d.names) d
 
 module _ (f : NamedTrees) {tables : AllTables} (held : IsDoc f.names f.trees tables) {d : DocState} (is_d : state_from f.names f.trees tables ≡ d) where
-  -- a step of a node's owner that changes live ranges alone
-  pub live_done : (k : ℕ) (live : RangeLists) (s : List NodeName → Step)
-      → world_from f.names f.trees (with_live tables live) ≡ world_step (name_at f.names k).owner (world_from f.names f.trees tables)
-      (s f.names) → state_from f.names f.trees (with_live tables live) ≡ stepped (owner_in d k) (s d.names) d
-  live_done k live s e = subst (λ (e : DocState). state_from f.names f.trees (with_live tables live) ≡ stepped (owner_in e k) (s e.names) e) is_d
-      (ap (λ w. state_with f.names w) e)
+  -- a step of a node's owner by which ends of live ranges move as a rule says
+  module _ (apart : TellApart f.names) (k : ℕ) (k< : k < length d.names) (by : Boundary ℕ → Boundary ℕ)
+      (rule : Boundary NodeName → Boundary NodeName) (s : List NodeName → Step) where
+    abbrev c : Contents
+    c = contents f.names f.trees tables
+
+    abbrev mover : Owner
+    mover = (name_at f.names k).owner
+
+    -- the world then
+    moved_world : {b : Contents} → IsPlain (s f.names) → IsChangeOf c b mover (part_step (part_in c mover) (s f.names)) →
+        world_of b ≡ world_step mover (world_of c) (s f.names)
+    moved_world {b} = plain_step c tables.slots.hosts (are_hosts f.names f.trees tables held) mover (owner_there f held is_d k k<) b (s f.names)
+
+    pub ends_moved : {live : RangeLists} → IsPlain (s f.names) → part_step (part_in c mover) (s f.names) ≡ record (part_in c mover)
+        { ranges = named_ends_by rule (part_in c mover).ranges }
+        → IsNamedRule f.names by rule × KeepsNodes f.names by → IsRuleOf mover rule → ((q : Owner) → ranges_of live q ≡ ends_by by (ranges_of tables.ranges q))
+        → EachFits tables.ranges by → MovesEnds f tables d live k s
+    ends_moved {live} plain does law of moved fits =
+        let both = ruled c tables.ranges live held.ranges mover by rule law of moved {b = c} refl (same_part c mover) in
+        record {
+          held = held_live f.names f.trees tables held live (both.1 fits);
+          state = subst (λ (e : DocState). state_from f.names f.trees (with_live tables live) ≡ stepped (owner_in e k) (s e.names) e) is_d
+              (ap (λ w. state_with f.names w) (moved_world plain (subst (IsChangeOf c (ranged live c) mover) (sym does) both.0)));
+        }
 
   -- what is known of a node's owner's part
   pub part_known : (P : Part → List NodeName → Type 0) (k : ℕ) → k < length d.names → P (part_of d.world (owner_in d k)) d.names →
@@ -91,18 +88,18 @@ module _ (f : NamedTrees) {tables : AllTables} (held : IsDoc f.names f.trees tab
 
   -- ---- Texts that are joined
 
-  pub join_asks : (first size next : ℕ) → MayJoin d first size next → (parent index : ℕ) →
-      EachFits tables.ranges (after_join nat_eq first size next parent index)
-  join_asks first size next may parent index =
-      let first< = may.first_is_node in
-      let fits = may.fits in
-      let less = may.few in
-      let o = (name_at f.names first).owner in
-      let small : size + length_of (trees_in d first) (name_in d next) < 2 ^ 64 = omega (arith, fits, less) in
-      let here : size + length_of (part_in (contents f.names f.trees tables) o).trees (name_at f.names next) < 2 ^ 64 =
-      part_known (λ p ns. size + length_of p.trees (name_at ns next) < 2 ^ 64) first first< small in
-      join_fits (contents f.names f.trees tables) tables.ranges held.ranges o (part_known (λ p ns. HasBounds p) first first< may.bounds) next
-      (known f held is_d (λ e. owner_in e next ≡ owner_in e first) may.next_owner) first size parent index (omega (arith, here))
+  module _ (first size next : ℕ) (first< : first < length d.names) (next_owner : owner_in d next ≡ owner_in d first)
+      (bounds : HasBounds (part_of d.world (owner_in d first)))
+      (fits : size + length_of (trees_in d first) (name_in d next) ≤ length_of (trees_in d first) (name_in d first))
+      (few : length_of (trees_in d first) (name_in d first) < 2 ^ 64) where
+    pub join_asks : (parent index : ℕ) → EachFits tables.ranges (after_join nat_eq first size next parent index)
+    join_asks parent index =
+        let o = (name_at f.names first).owner in
+        let small : size + length_of (trees_in d first) (name_in d next) < 2 ^ 64 = omega (arith, fits, few) in
+        let here : size + length_of (part_in (contents f.names f.trees tables) o).trees (name_at f.names next) < 2 ^ 64 =
+        part_known (λ p ns. size + length_of p.trees (name_at ns next) < 2 ^ 64) first first< small in
+        join_fits (contents f.names f.trees tables) tables.ranges held.ranges o (part_known (λ p ns. HasBounds p) first first< bounds) next
+        (known f held is_d (λ e. owner_in e next ≡ owner_in e first) next_owner) first size parent index (omega (arith, here))
 
   -- without live ranges nothing is carried
   module _ (apart : TellApart f.names) (none : (o : Owner) (k : ℕ) → range_in (ranges_of tables.ranges o) k ≡ None) (first parent : ℕ)
@@ -114,14 +111,21 @@ module _ (f : NamedTrees) {tables : AllTables} (held : IsDoc f.names f.trees tab
     joined ts size [] nodes = refl
     joined ts size (k ∷ ks) nodes =
         let y = name_at f.names k in
-        let o = (name_at f.names first).owner in
+        let x = name_at f.names first in
+        let p = name_at f.names parent in
+        let o = x.owner in
+        let c = contents f.names f.trees tables in
+        let at_first = known f held is_d (λ e. first < length e.names) first< in
+        let at_parent = known f held is_d (λ e. parent < length e.names) parent< in
         joined ts (size + length_of ts y) ks nodes.1
         ∙ ap (λ w. world_after o w (joins ts (name_at f.names first) (name_at f.names parent) (size + length_of ts y) (map (name_at f.names) ks)))
-        (join_told (contents f.names f.trees tables) tables.slots.hosts (are_hosts f.names f.trees tables held) tables.ranges tables.ranges
-        held.ranges apart o (owner_there f held is_d first first<) first (known f held is_d (λ e. first < length e.names) first<) refl
-        parent (known f held is_d (λ e. parent < length e.names) parent<) (known f held is_d (λ e. owner_in e parent ≡ owner_in e first) own_parent)
-        (index_of ts y) size k nodes.0.0 nodes.0.1
-        (λ q. sym (ends-none (after_join nat_eq first size k parent (index_of ts y)) (ranges_of tables.ranges q) (none q))))
+        (plain_step c tables.slots.hosts (are_hosts f.names f.trees tables held) o (owner_there f held is_d first first<) c
+        (join_at x size y p (index_of ts y)) tt (ruled c tables.ranges tables.ranges held.ranges o
+        (after_join nat_eq first size k parent (index_of ts y)) (after_join name_eq x size y p (index_of ts y))
+        (join-named f.names apart first size k parent (index_of ts y) at_first nodes.0.0 at_parent)
+        (join_rule o p (known f held is_d (λ e. owner_in e parent ≡ owner_in e first) own_parent) (index_of ts y) x size y refl nodes.0.1)
+        (λ q. sym (ends-none (after_join nat_eq first size k parent (index_of ts y)) (ranges_of tables.ranges q) (none q)))
+        {b = c} refl (same_part c o)).0)
 
     pub joins_vacant : (size : ℕ) (ks : List ℕ) → AllByRecursion (IsOwnNode d first) ks
         → d ≡ planned (owner_in d first) (steps_of (joins (trees_in d first) (name_in d first) (name_in d parent) size (map (name_in d) ks))) d
@@ -212,6 +216,9 @@ module _ (f : NamedTrees) {tables : AllTables} (held : IsDoc f.names f.trees tab
             (moved : (q : Owner) → ranges_of live q ≡ ends_by (after_replace_data nat_eq node offset count size) (ranges_of tables.ranges q))
             (g : NamedTrees) (names : g.names ≡ f.names)
             (trees : g.trees ≡ change_node (with_data_replaced offset count new) (name_at f.names node) f.trees) where
+          abbrev was : Contents
+          was = contents f.names f.trees tables
+
           abbrev h : Trees → Trees
           h = change_node (with_data_replaced offset count new) (name_at f.names node)
 
@@ -224,17 +231,23 @@ module _ (f : NamedTrees) {tables : AllTables} (held : IsDoc f.names f.trees tab
           moved_new : (q : Owner) → ranges_of live q ≡ ends_by (after_replace_data nat_eq node offset count (length new)) (ranges_of tables.ranges q)
           moved_new q = moved q ∙ ap (λ n. ends_by (after_replace_data nat_eq node offset count n) (ranges_of tables.ranges q)) is_size
 
-          stand : AreRangesOf (contents f.names (h f.trees) (with_live tables live)) live
-          stand =
-              let was = contents f.names f.trees tables in
-              (data_ranged was tables.ranges live held.ranges apart own node node_is refl {b = contents f.names (h f.trees) tables} refl
-              offset count new moved_new record {
+          told : IsChangeOf was (ranged live (contents f.names (h f.trees) tables)) own
+              (part_step (part_in was own) (replace_data (name_at f.names node) offset count new))
+              × Holds was tables.ranges live held.ranges own (after_replace_data nat_eq node offset count (length new)) (contents f.names (h f.trees) tables)
+          told =
+              ruled was tables.ranges live held.ranges own (after_replace_data nat_eq node offset count (length new))
+              (after_replace_data name_eq (name_at f.names node) offset count (length new))
+              (replace_data-named f.names apart node offset count (length new) node_is)
+              (replace_data_rule own (name_at f.names node) offset count (length new) refl) moved_new {b = contents f.names (h f.trees) tables} refl record {
                 owners = refl;
                 signalled = refl;
                 tasks = refl;
                 own = ap (λ us. part_with own us (count_of own f.names) (was.tables own)) change.own;
                 others = λ q other. ap (λ us. part_with q us (count_of q f.names) (was.tables q)) (change.others q other);
-              }).1 (subst (λ n. EachFits tables.ranges (after_replace_data nat_eq node offset count n)) is_size data_asks)
+              }
+
+          stand : AreRangesOf (contents f.names (h f.trees) (with_live tables live)) live
+          stand = told.1 (subst (λ n. EachFits tables.ranges (after_replace_data nat_eq node offset count n)) is_size data_asks)
 
           -- what is held then, and the state
           pub data_done : AreSlotsOf (named_trees f.names (change_node (with_data_replaced offset count new) (name_at f.names node) f.trees)) tables.slots
@@ -251,8 +264,8 @@ module _ (f : NamedTrees) {tables : AllTables} (held : IsDoc f.names f.trees tab
                 (ap (λ ns. state_from ns g.trees (with_live tables live)) names
                 ∙ (ap (λ us. state_from f.names us (with_live tables live)) trees
                 ∙ ap (λ w. state_with f.names w)
-                (data_told (contents f.names f.trees tables) tables.slots.hosts (are_hosts f.names f.trees tables held) tables.ranges live
-                held.ranges apart own (owner_there f held is_d node node<) node node_is refl offset count new moved_new change))),
+                (plain_step was tables.slots.hosts (are_hosts f.names f.trees tables held) own (owner_there f held is_d node node<)
+                (ranged live (contents f.names (h f.trees) tables)) (replace_data (name_at f.names node) offset count new) tt told.0))),
           )
 
 -- each owner's part in the world, whoever is there

@@ -5,20 +5,20 @@ use Rattle.std.specs.Prelude.{nat_eq, nat_lt, ◌&&◌, ◌-◌}
 use Rattle.std.specs.Option.{option_map_or}
 use Rattle.dom_base.specs.declared.NodeName.{NodeName}
 use Rattle.dom_base.specs.declared.Owner.{Owner}
-use Rattle.dom_model.specs.Names.{DomString, name_eq, is_in}
+use Rattle.dom_model.specs.Names.{name_eq, is_in}
 use Rattle.dom_model.specs.Observers.{transients_for}
 use Rattle.dom_model.specs.Part.{Part}
 use Rattle.dom_model.specs.Place.{Boundary}
-use Rattle.dom_model.specs.Ranges.{at, after_insert, after_removal, after_replace_data, after_split, after_join}
-use Rattle.dom_model.specs.Steps.{make_room, take_out, replace_data, split_at, join_at, part_step, leave}
+use Rattle.dom_model.specs.Ranges.{at, after_removal}
+use Rattle.dom_model.specs.Steps.{take_out, part_step, leave}
 use Rattle.dom_model.specs.Traversal.{adjusted_iterator}
 use Rattle.dom_model.specs.Tree.{parent_of, index_of, inclusive_ancestors, is_inclusive_ancestor}
-use Rattle.dom_model.specs.TreeChanges.{taken_out, change_node, with_data_replaced}
+use Rattle.dom_model.specs.TreeChanges.{taken_out}
 use Rattle.dom_ranges.specs.Naming.{IsNamedRule, KeepsNodes, named_ends_by}
 use Rattle.dom_ranges.specs.Rules.{Fits, is_inside}
 use Rattle.dom_ranges.specs.Settings.{named_ranges}
 use Rattle.dom_ranges.specs.Tables.{RangeLists, EachRange, BothEnds, ends_by, ranges_of}
-use Rattle.dom_ranges.proofs.Naming.{insert-named, removal-named, replace_data-named, split-named, join-named}
+use Rattle.dom_ranges.proofs.Naming.{removal-named}
 use Rattle.dom_tree.specs.Forest.{name_at}
 use Rattle.dom_tree.specs.Owners.{AreOwned}
 use Rattle.dom_tree.proofs.Owned.{read_own, stays_own}
@@ -26,7 +26,7 @@ use Rattle.dom_tree.specs.Apart.{TellApart}
 use Rattle.dom_parts.specs.Contents.{Contents, part_in}
 use Rattle.dom_parts.specs.Doc.{named_trees}
 use Rattle.dom_parts.specs.Ranging.{AreOwnRanges, AreRangesOf, ranged, IsRuleOf}
-use Rattle.dom_parts.proofs.RangeRules.{insert_rule, removal_rule, replace_data_rule, split_rule, join_rule}
+use Rattle.dom_parts.proofs.RangeRules.{removal_rule}
 use Rattle.dom_parts.proofs.RangedLists.{agreed, named_own, named_others, own_moved, as_many}
 use Rattle.dom_parts.proofs.Worlds.{IsChangeOf, there_same}
 
@@ -67,76 +67,25 @@ module _ (c : Contents) (t u : RangeLists) (ranges : AreRangesOf c t) (o : Owner
     }
 
 -- nothing but the ranges
-same_part : (c : Contents) (o : Owner) → IsChangeOf c c o (part_in c o)
+pub same_part : (c : Contents) (o : Owner) → IsChangeOf c c o (part_in c o)
 same_part c o = record { owners = refl; signalled = refl; tasks = refl; own = refl; others = λ q other. refl }
 
 -- ---- the steps
 
-module _ (c : Contents) (t u : RangeLists) (ranges : AreRangesOf c t) (apart : TellApart c.names) (o : Owner) where
+module _ (c : Contents) (t u : RangeLists) (ranges : AreRangesOf c t) (o : Owner) where
   -- what holds after a step whose rule over keys is f
   abbrev pub Holds : (Boundary ℕ → Boundary ℕ) → Contents → Type 0
   Holds f b = ((q : Owner) → EachRange (BothEnds (λ p. Fits (f p))) (ranges_of t q)) → AreRangesOf (ranged u b) u
 
-  -- what is done at a node of the owner
-  module _ (x : ℕ) (node : x < length c.names) (own : (name_at c.names x).owner ≡ o) where
-    -- room is made for children of the node
-    pub room_ranged : (index count : ℕ) → ((q : Owner) → ranges_of u q ≡ ends_by (after_insert nat_eq x index count) (ranges_of t q))
-        → IsChangeOf c (ranged u c) o (part_step (part_in c o) (make_room (name_at c.names x) index count)) ×
-        Holds (after_insert nat_eq x index count) c
-    room_ranged index count moved =
-        let law = insert-named c.names apart x index count node in
-        let of = insert_rule o (name_at c.names x) own index count in
-        let f = after_insert nat_eq x index count in let g = after_insert name_eq (name_at c.names x) index count in (
-          lifted c t u ranges o f g law.0 law.1 of moved c refl (part_in c o) (same_part c o),
-          λ fits. lifted_ranges c t u ranges o f g law.0 law.1 of moved c refl refl fits,
-        )
-
-    -- its data give way to others
-    pub data_ranged : {b : Contents} → b.names ≡ c.names → (offset count : ℕ) (new : DomString) →
-        ((q : Owner) → ranges_of u q ≡ ends_by (after_replace_data nat_eq x offset count (length new)) (ranges_of t q))
-        → IsChangeOf c b o (record (part_in c o) { trees = change_node (with_data_replaced offset count new) (name_at c.names x) (part_in c o).trees })
-        → IsChangeOf c (ranged u b) o (part_step (part_in c o) (replace_data (name_at c.names x) offset count new)) ×
-        Holds (after_replace_data nat_eq x offset count (length new)) b
-    data_ranged {b} names offset count new moved change =
-        let law = replace_data-named c.names apart x offset count (length new) node in
-        let of = replace_data_rule o (name_at c.names x) offset count (length new) own in
-        let f = after_replace_data nat_eq x offset count (length new) in let g = after_replace_data name_eq (name_at c.names x) offset count (length new) in (
-          lifted c t u ranges o f g law.0 law.1 of moved b names
-              (record (part_in c o) { trees = change_node (with_data_replaced offset count new) (name_at c.names x) (part_in c o).trees }) change,
-          λ fits. lifted_ranges c t u ranges o f g law.0 law.1 of moved b names change.owners fits,
-        )
-
-    -- and at one below a parent
-    module _ (parent : ℕ) (above : parent < length c.names) (own_parent : (name_at c.names parent).owner ≡ o) (index : ℕ) where
-      -- a Text was split below its parent
-      pub split_ranged : (offset new : ℕ) → new < length c.names → (name_at c.names new).owner ≡ o →
-          ((q : Owner) → ranges_of u q ≡ ends_by (after_split nat_eq x offset new parent index) (ranges_of t q))
-          → IsChangeOf c (ranged u c) o (part_step (part_in c o)
-          (split_at (name_at c.names x) offset (name_at c.names new) (name_at c.names parent) index)) ×
-          Holds (after_split nat_eq x offset new parent index) c
-      split_ranged offset new fresh own_new moved =
-          let law = split-named c.names apart x offset new parent index node fresh above in
-          let of = split_rule o (name_at c.names parent) own_parent index (name_at c.names x) offset (name_at c.names new) own own_new in
-          let f = after_split nat_eq x offset new parent index in let g =
-          after_split name_eq (name_at c.names x) offset (name_at c.names new) (name_at c.names parent) index in (
-            lifted c t u ranges o f g law.0 law.1 of moved c refl (part_in c o) (same_part c o),
-            λ fits. lifted_ranges c t u ranges o f g law.0 law.1 of moved c refl refl fits,
-          )
-
-      -- it has the data of the next one
-      pub join_ranged : (size next : ℕ) → next < length c.names → (name_at c.names next).owner ≡ o →
-          ((q : Owner) → ranges_of u q ≡ ends_by (after_join nat_eq x size next parent index) (ranges_of t q))
-          → IsChangeOf c (ranged u c) o (part_step (part_in c o)
-          (join_at (name_at c.names x) size (name_at c.names next) (name_at c.names parent) index)) ×
-          Holds (after_join nat_eq x size next parent index) c
-      join_ranged size next after own_next moved =
-          let law = join-named c.names apart x size next parent index node after above in
-          let of = join_rule o (name_at c.names parent) own_parent index (name_at c.names x) size (name_at c.names next) own own_next in
-          let f = after_join nat_eq x size next parent index in let g =
-          after_join name_eq (name_at c.names x) size (name_at c.names next) (name_at c.names parent) index in (
-            lifted c t u ranges o f g law.0 law.1 of moved c refl (part_in c o) (same_part c o),
-            λ fits. lifted_ranges c t u ranges o f g law.0 law.1 of moved c refl refl fits,
-          )
+  -- a step by whose rule ends move, with a change of the owner's part
+  module _ (f : Boundary ℕ → Boundary ℕ) (g : Boundary NodeName → Boundary NodeName) where
+    pub ruled : IsNamedRule c.names f g × KeepsNodes c.names f → IsRuleOf o g → ((q : Owner) → ranges_of u q ≡ ends_by f (ranges_of t q)) →
+        {b : Contents} → b.names ≡ c.names → {p : Part} → IsChangeOf c b o p →
+        IsChangeOf c (ranged u b) o (record p { ranges = named_ends_by g (c.tables o).ranges }) × Holds f b
+    ruled law of moved {b} names {p} change = (
+      lifted c t u ranges o f g law.0 law.1 of moved b names p change,
+      λ fits. lifted_ranges c t u ranges o f g law.0 law.1 of moved b names change.owners fits,
+    )
 
   -- ---- a node leaves its parent
 
@@ -148,7 +97,7 @@ module _ (c : Contents) (t u : RangeLists) (ranges : AreRangesOf c t) (apart : T
     registrations = (part_in c o).registrations ++ transients_for name_eq x (inclusive_ancestors (part_in c o).trees parent) (part_in c o).registrations;
   }
 
-  module _ (owned : AreOwned c.trees) (b : Contents) (names : b.names ≡ c.names) (x parent : ℕ) (node : x < length c.names)
+  module _ (apart : TellApart c.names) (owned : AreOwned c.trees) (b : Contents) (names : b.names ≡ c.names) (x parent : ℕ) (node : x < length c.names)
       (above : parent < length c.names) (own : (name_at c.names x).owner ≡ o)
       (up : parent_of c.trees (name_at c.names x) ≡ Some (name_at c.names parent)) where
     -- the rule over keys
@@ -182,7 +131,8 @@ module _ (c : Contents) (t u : RangeLists) (ranges : AreRangesOf c t) (apart : T
         (index_of c.trees (name_at c.names x)) in
         let h = after_removal name_eq (is_inclusive_ancestor (part_in c o).trees (name_at c.names x)) (name_at c.names parent)
         (index_of (part_in c o).trees (name_at c.names x)) in
-        let left = lifted c t u ranges o f g law.0 law.1 of moved b names (left_part (name_at c.names x) (name_at c.names parent)) change in
+        let both = ruled f g law of moved names change in
+        let left = both.0 in
         let ends : named_ends_by g (c.tables o).ranges ≡ named_ends_by h (c.tables o).ranges =
         ap (named_ends_by g) (ranges.shown o) ∙
         (agreed c.names same_rule (ranges_of t o) (ranges.own o) ∙ ap (named_ends_by h) (sym (ranges.shown o))) in (
@@ -196,5 +146,5 @@ module _ (c : Contents) (t u : RangeLists) (ranges : AreRangesOf c t) (apart : T
                 (sym (sym (read_own c.trees owned o (name_at c.names x) own).parent ∙ up)));
             others = left.others;
           },
-          λ fits. lifted_ranges c t u ranges o f g law.0 law.1 of moved b names change.owners fits,
+          both.1,
         )

@@ -14,6 +14,7 @@ use Rattle.dom_tree.specs.Forest.{NamedTrees, name_at}
 use Rattle.dom_tree.specs.Owners.{trees_of_owner, IsReadOwn}
 use Rattle.dom_tree.proofs.Owned.{read_own}
 use Rattle.dom_parts.specs.AllTables.{AllTables}
+use Rattle.dom_parts.specs.Calls.{IsReadFrom}
 use Rattle.dom_parts.specs.Doc.{DocState, contents, state_from, world_from, IsDoc, name_in, owner_in, trees_in, stepped}
 use Rattle.dom_parts.proofs.Worlds.{part_at, part_off}
 use Rattle.dom_parts.proofs.Steps.{record_world}
@@ -46,6 +47,20 @@ module _ (f : NamedTrees) {tables : AllTables} (held : IsDoc f.names f.trees tab
       let x = name_at f.names k in
       subst (λ (e : DocState). value e.names ≡ read (trees_in e k) (name_in e k)) is_d
       (e ∙ own (read_own f.trees held.owned x.owner x refl) ∙ ap (λ ts. read ts x) (own_in_part f.names f.trees held x.owner))
+
+  -- a read that finds a node near another one, of the same owner
+  pub read_from : (read : Trees → NodeName → Option NodeName) {k : ℕ} {r : Option ℕ}
+      → ((o : Owner) (x y : NodeName) → x.owner ≡ o → read f.trees x ≡ Some y → y.owner ≡ o)
+      → option_map (name_at f.names) r ≡ read f.trees (name_at f.names k)
+      → (IsReadOwn (name_at f.names k).owner f.trees (name_at f.names k) →
+      read f.trees (name_at f.names k) ≡ read (trees_of_owner (name_at f.names k).owner f.trees) (name_at f.names k))
+      → ForSome r (λ j. j < length f.names) → IsReadFrom d k read r
+  read_from read {k} {r} near value own node = record {
+    value = shown read (λ ns. option_map (name_at ns) r) k value own;
+    node = subst (λ (e : DocState). ForSome r (λ j. j < length e.names)) is_d node;
+    owner = λ j e. subst (λ (e : DocState). owner_in e j ≡ owner_in e k) is_d
+        (near (name_at f.names k).owner (name_at f.names k) (name_at f.names j) refl (sym value ∙ ap (option_map (name_at f.names)) e));
+  }
 
   -- the other way round: a read of the forest is that of the part
   pub read_there : {R : Type 0} (read : Trees → NodeName → R) (k : ℕ)

@@ -1,13 +1,13 @@
 -- Steps that signal slots: what holds after them, and the state then; and what holds where they were refused memory.
-use Rattle.std.proofs.Common.{◌≡◌, ℕ, ◌^◌, arith, ◌<◌, true, false, List, [], ◌∷◌, fold, length, Result, Ok, Err, Option, Some, refl, sym, ap, subst, ◌∙◌}
+use Rattle.std.proofs.Common.{◌≡◌, ℕ, ◌^◌, arith, ◌<◌, true, false, List, ◌∷◌, fold, length, Result, Ok, Err, Option, Some, refl, sym, ap, subst, ◌∙◌}
 use Rattle.std.proofs.lemmas.Result.{on_ok_weaker}
-use Rattle.std.specs.Prelude.{OnOk, OnErr, nat_eq, if◌then◌else◌}
+use Rattle.std.specs.Prelude.{OnOk, nat_eq, if◌then◌else◌}
 use Rattle.std.specs.List.{AllByRecursion}
 use Rattle.dom_base.specs.declared.NodeName.{NodeName}
 use Rattle.dom_base.specs.declared.Owner.{Owner}
 use Rattle.dom_base.specs.declared.Owner.TheVariants.{Page}
 use Rattle.dom_model.specs.Names.{name_eq, owner_eq, append_once}
-use Rattle.dom_model.specs.Tree.{Trees, none, parent_of, index_of}
+use Rattle.dom_model.specs.Tree.{Trees, parent_of, index_of}
 use Rattle.dom_model.specs.TreeChanges.{taken_out}
 use Rattle.dom_model.specs.Steps.{Step as ModelStep, take_out}
 use Rattle.dom_model.specs.World.{Task, is_there}
@@ -34,11 +34,11 @@ use Rattle.dom_node_trees.specs.declared.steps.NodeTrees.{NodeTrees}
 use Rattle.dom_node_trees.specs.Signalled.{AreNames, HasStepped, signals_of}
 use Rattle.dom_traversal.specs.OwnTables.{KeyedTables, AreLeft, no_keyed_tables}
 use Rattle.dom_traversal.specs.Cursors.{with_cursors}
-use Rattle.dom_parts.specs.AllTables.{AllTables, AreTablesOf, AreFirst, trees_with, with_live, with_signals, with_observers}
+use Rattle.dom_parts.specs.AllTables.{AllTables, AreTablesOf, IsSettled, trees_with, with_live, with_signals, with_observers}
 use Rattle.dom_parts.specs.Ranging.{AreRangesOf, ranged}
 use Rattle.dom_parts.specs.Doc.{DocState, named_trees, shown_tables, contents, world_from, state_from, IsDoc, IsDue, name_in, owner_in, stepped}
 use Rattle.dom_parts.proofs.BoundedPlans.{index_few}
-use Rattle.dom_parts.proofs.DocInvariant.{are_hosts, held_with}
+use Rattle.dom_parts.proofs.DocInvariant.{are_hosts, held_with, still_named}
 use Rattle.dom_parts.proofs.HeldNodes.{given_up}
 use Rattle.dom_parts.proofs.HostedSteps.{signalled_fields, removal_hosted}
 use Rattle.dom_parts.proofs.Keeping.{Stays, tables_kept}
@@ -94,11 +94,9 @@ module _ (f : NamedTrees) {tables : AllTables} (held : IsDoc f.names f.trees tab
         (with_signals next after) here.hosts record {
           owned = change.owned;
           apart = change.others;
-          present = held.present;
-          limited = held.limited;
+          named = still_named held;
           own = own;
           idle = idle;
-          made = held.made;
           signals = record {
             slots = subst (λ (g : NamedTrees). AreSlotsOf g after.slots)
                 (λ j. record { names = here.names j; trees = here.trees j }) here.held.slots;
@@ -109,7 +107,6 @@ module _ (f : NamedTrees) {tables : AllTables} (held : IsDoc f.names f.trees tab
           due = due_then;
           ranges = ranges_stay (contents f.names (h f.trees) (with_signals next after)) stand refl
               (ap (λ (hs : List ShadowHost). Page ∷ host_owners hs) here.hosts) (λ p. refl);
-          numbered = held.numbered;
         }))
 
     build : List ShadowHost → List NodeName → List Task → Contents
@@ -141,20 +138,12 @@ module _ (f : NamedTrees) {tables : AllTables} (held : IsDoc f.names f.trees tab
 
 -- ---- where memory was refused
 
--- what a call that settles a step says
-pub record Settled {T E : Type 0} (m g : NamedTrees) (mid last : AllTables) (r q : Result T E) : Type 0 where
-  pub result : q ≡ r
-  pub forest : OnOk r (g ≡ m)
-  pub tables : OnOk r (last ≡ mid)
-  pub empty : OnErr r (g ≡ record { names = []; trees = none })
-  pub first : OnErr r (AreFirst last)
-
 -- what is held then, and the state, if the step was done
 pub record IsAfter (g : NamedTrees) (last : AllTables) {T E : Type 0} (q : Result T E) (d : DocState) : Type 0 where
   pub held : IsDoc g.names g.trees last
   pub state : OnOk q (state_from g.names g.trees last ≡ d)
 
-pub settled : {T E : Type 0} {m g : NamedTrees} {mid last : AllTables} (r : Result T E) {q : Result T E} {d : DocState} → Settled m g mid last r q →
+pub settled : {T E : Type 0} {m g : NamedTrees} {mid last : AllTables} (r : Result T E) {q : Result T E} {d : DocState} → IsSettled r q m g mid last →
     OnOk r (IsDoc m.names m.trees mid × (state_from m.names m.trees mid ≡ d)) → IsAfter g last q d
 settled {T} {E} {m} {g} {mid} {last} (Ok x) {q} {d} s done = record {
   held = subst (λ (p : NamedTrees). IsDoc p.names p.trees last) (sym s.forest) (subst (IsDoc m.names m.trees) (sym s.tables) done.0);
@@ -173,7 +162,7 @@ module _ (f : NamedTrees) {tables : AllTables} (held : IsDoc f.names f.trees tab
     (h : Trees → Trees) (change : IsOwnChange (name_at f.names k).owner h f.trees) (keeps : KeepsAbove f.trees (h f.trees)) (s : Step)
     {E : Type 0} {r q : Result (Unit {0}) E} (after : NodeTrees) {g : NamedTrees} {last : AllTables}
     (did : OnOk r (HasStepped s (h f.trees) (trees_with f.names f.trees tables) after))
-    (settles : Settled after.forest g (with_signals tables after) last r q) where
+    (settles : IsSettled r q after.forest g (with_signals tables after) last) where
   pub own_kept : (p : Owner) → AreTablesOf (named_trees f.names (h f.trees)) p (tables.each p)
   own_kept p = tables_kept f.names f.trees (h f.trees) keeps (held.own p)
 
@@ -208,7 +197,7 @@ module _ (f : NamedTrees) {tables : AllTables} (held : IsDoc f.names f.trees tab
     ranges_of live q ≡ ends_by (after_removal nat_eq (is_inside f k) parent (index_of f.trees (name_at f.names k))) (ranges_of tables.ranges q))
     {E : Type 0} {r q : Result (Unit {0}) E} (after : NodeTrees) {g : NamedTrees} {last : AllTables}
     (did : OnOk r (HasStepped (Removal k) (taken_out (name_at f.names k) f.trees) (trees_with f.names f.trees tables) after))
-    (settles : Settled after.forest g (with_signals (with_live (with_observers (record tables { each = each }) seen) live) after) last r q) where
+    (settles : IsSettled r q after.forest g (with_signals (with_live (with_observers (record tables { each = each }) seen) live) after) last) where
   o : Owner
   o = (name_at f.names k).owner
 
@@ -277,7 +266,7 @@ module _ (f : NamedTrees) {tables : AllTables} (held : IsDoc f.names f.trees tab
       ranges_stay
       (contents f.names (taken_out (name_at f.names k) f.trees)
       (record tables { each = each; observers = seen; ranges = live }))
-      ((removal_ranged was tables.ranges live held.ranges apart (name_at f.names k).owner held.owned gone_contents refl k parent node at_parent
+      ((removal_ranged was tables.ranges live held.ranges (name_at f.names k).owner apart held.owned gone_contents refl k parent node at_parent
       refl (sym is_parent) is_live changed).1
       (removal_fits was tables.ranges held.ranges (name_at f.names k).owner (is_inside f k) parent (index_of f.trees (name_at f.names k)) small))
       refl refl (λ p. refl)
@@ -290,6 +279,6 @@ module _ (f : NamedTrees) {tables : AllTables} (held : IsDoc f.names f.trees tab
         (removal_hosted (contents f.names f.trees tables) tables.slots.hosts (are_hosts f.names f.trees tables held) (name_at f.names k).owner
         (owner_there f held is_d k k<) (taken_out (name_at f.names k) f.trees)
         (ranged live gone_contents).tables gone.owned k here.left refl here.is_left
-        (removal_ranged (contents f.names f.trees tables) tables.ranges live held.ranges apart (name_at f.names k).owner held.owned gone_contents
+        (removal_ranged (contents f.names f.trees tables) tables.ranges live held.ranges (name_at f.names k).owner apart held.owned gone_contents
         refl k parent node at_parent refl (sym is_parent) is_live changed).0),
   )) did)

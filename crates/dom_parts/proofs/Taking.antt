@@ -8,8 +8,8 @@ use Rattle.dom_model.specs.Turns.{is_owned_by, without_signals}
 use Rattle.dom_tree.specs.Forest.{NamedTrees, name_at}
 use Rattle.dom_parts.specs.AllTables.{AllTables}
 use Rattle.dom_node_trees.specs.Signalled.{AreNames}
-use Rattle.dom_parts.specs.Doc.{DocState, IsDoc, contents, world_from, state_from, name_in}
-use Rattle.dom_parts.proofs.DocInvariant.{due_kept}
+use Rattle.dom_parts.specs.Doc.{DocState, IsDoc, contents, state_from, name_in}
+use Rattle.dom_parts.proofs.DocInvariant.{held_beside}
 use Rattle.dom_parts.proofs.RangedKeeping.{ranges_stay}
 
 module _ (f : NamedTrees) {tables : AllTables} (held : IsDoc f.names f.trees tables) {d : DocState}
@@ -23,26 +23,9 @@ module _ (f : NamedTrees) {tables : AllTables} (held : IsDoc f.names f.trees tab
 
   module _ (rest : List NodeName) (is : rest ≡ filter (λ s. not (is_owned_by o s)) tables.signalled) where
     pub rest_held : IsDoc f.names f.trees (record tables { signalled = rest })
-    rest_held = record {
-      owned = held.owned;
-      present = held.present;
-      absent = held.absent;
-      limited = held.limited;
-      own = held.own;
-      idle = held.idle;
-      made = held.made;
-      signals = record {
-        slots = held.signals.slots;
-        nodes = subst (AreNames f.names) (sym is)
-            (All-filter (λ s. not (is_owned_by o s)) (λ x. is_in name_eq x f.names ≡ true) tables.signalled held.signals.nodes);
-      };
-      speaks = held.speaks;
-      unobserved = held.unobserved;
-      due = due_kept (world_from f.names f.trees tables) (world_from f.names f.trees (record tables { signalled = rest })) (λ p on. on) tables.tasks held.due;
-      ranges = ranges_stay (contents f.names f.trees (record tables { signalled = rest }))
-          held.ranges refl refl (λ p. refl);
-      numbered = held.numbered;
-    }
+    rest_held = held_beside f.names f.trees tables held tables.observers tables.tasks rest tables.ranges held.speaks held.unobserved held.due
+        (subst (AreNames f.names) (sym is) (All-filter (λ s. not (is_owned_by o s)) (λ x. is_in name_eq x f.names ≡ true) tables.signalled held.signals.nodes))
+        (ranges_stay (contents f.names f.trees (record tables { signalled = rest })) held.ranges refl refl (λ p. refl))
 
     pub rest_state : state_from f.names f.trees (record tables { signalled = rest }) ≡ record d { world = without_signals d.world o }
     rest_state =

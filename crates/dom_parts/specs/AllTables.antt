@@ -1,8 +1,8 @@
 -- An owner's tables as a `Doc` holds them, with keys in place of names.
-use Rattle.std.specs.Prelude.{◌≡◌, ℕ, ◌≤◌, List, [], length, map}
+use Rattle.std.specs.Prelude.{◌≡◌, ℕ, ◌≤◌, List, [], length, map, Result, OnOk, OnErr}
 use Rattle.dom_base.specs.declared.Owner.{Owner}
 use Rattle.dom_base.specs.declared.NodeName.{NodeName}
-use Rattle.dom_model.specs.Tree.{Trees}
+use Rattle.dom_model.specs.Tree.{Trees, none}
 use Rattle.dom_model.specs.Traversal.{Iterator, Walker}
 use Rattle.dom_model.specs.World.{Task}
 use Rattle.dom_slots.specs.Kept.{SlotsNow}
@@ -82,6 +82,14 @@ first_tables = record { each = λ o. no_keyed_tables; observers = λ o. no_obser
 pub record AreFirst (t : AllTables) : Type 0 where
   pub all : t ≡ with_live first_tables t.ranges
   pub no_ranges : (o : Owner) → ranges_of t.ranges o ≡ []
+
+-- what a call leaves that settles a step: what the step left, or where memory was refused no nodes and the page alone
+pub record IsSettled {T E : Type 0} (r q : Result T E) (m g : NamedTrees) (mid last : AllTables) : Type 0 where
+  pub result : q ≡ r
+  pub forest : OnOk r (g ≡ m)
+  pub tables : OnOk r (last ≡ mid)
+  pub empty : OnErr r (g ≡ record { names = []; trees = none })
+  pub first : OnErr r (AreFirst last)
 
 -- ---- what holds of an owner's tables
 

@@ -2,6 +2,7 @@
 pub mod Contents
 pub mod AllTables
 pub mod Doc
+pub mod Calls
 pub mod Hosting
 pub mod Ranging
 pub mod Numbering

@@ -3,4 +3,4 @@
 
 mod parts;
 
-pub use parts::Parts;
+pub use parts::{DataChange, Parts};

@@ -41,6 +41,7 @@ use indexmap::IndexMap;
 use node_arena::Key;
 use std::alloc::{AllocError, Global};
 use std::marker::Model;
+pub use steps::DataChange;
 
 /// The nodes of all owners, how they stand, the iterators and walkers, the observers, the live ranges, the hosts with the slots
 /// of their shadow trees, the signalled slots of all owners in order, and the microtasks.

@@ -12,6 +12,7 @@ use crate::Doc;
 use crate::character_data::replacing_data;
 use crate::settling::given_up;
 use dom_base::{DomStr, Fault, Refusal};
+use dom_parts::DataChange;
 use node_arena::Key;
 use std::alloc::AllocError;
 
@@ -39,7 +40,12 @@ impl Doc {
         if offset > self.length(node) {
             return Err(Fault::Refused(Refusal::IndexSize));
         }
-        self.replace_units(node, offset, count, data)?;
+        let change = DataChange {
+            offset,
+            count,
+            units: data,
+        };
+        self.replace_units(node, change)?;
         Ok(())
     }
 
@@ -52,7 +58,12 @@ impl Doc {
         ensures world { OnOk result (self.new.world ≡ made (owner_in self.old node) (replacing_all_data (name_in self.old node) «data».items) self.old.world) }
     {
         let count = self.length(node);
-        self.replace_units(node, 0, count, data)
+        let change = DataChange {
+            offset: 0,
+            count,
+            units: data,
+        };
+        self.replace_units(node, change)
     }
 
     /// From an offset on, so many code units of a node, or as many as there are, go (DOM Standard, replace data with the empty
@@ -62,23 +73,23 @@ impl Doc {
         ensures state { OnOk result (self.new ≡ planned (owner_in self.old node) (replacing_data (name_in self.old node) offset count []) self.old) }
     {
         let none = Vec::new(self.parts.alloc());
-        self.replace_units(node, offset, count, none)
+        let change = DataChange {
+            offset,
+            count,
+            units: none,
+        };
+        self.replace_units(node, change)
     }
 
     /// From an offset on, so many code units of a node give way to others, if it is a Text or a Comment or there are no others.
-    fn replace_units(
-        &mut self,
-        node: Key,
-        offset: usize,
-        count: usize,
-        data: DomStr,
-    ) -> Result<(), AllocError>
+    fn replace_units(&mut self, node: Key, change: DataChange) -> Result<(), AllocError>
         requires node_is_node { HoldsNode self.old node }
-        requires may_come { 0 < length «data».items → has_data (kind_of (trees_in self.old node) (name_in self.old node)) ≡ true }
-        ensures { OnOk result (self.new ≡ planned (owner_in self.old node) (replacing_data (name_in self.old node) offset count «data».items) self.old) }
+        requires may_come { 0 < length change.units.items → has_data (kind_of (trees_in self.old node) (name_in self.old node)) ≡ true }
+        ensures { OnOk result (self.new ≡ planned (owner_in self.old node)
+            (replacing_data (name_in self.old node) change.offset change.count change.units.items) self.old) }
     {
         self.parts.laws();
-        match replacing_data(&mut self.parts, node, offset, count, data) {
+        match replacing_data(&mut self.parts, node, change) {
             Ok(()) => Ok(()),
             Err(error) => Err(given_up(&mut self.parts, error)),
         }

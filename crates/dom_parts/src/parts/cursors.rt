@@ -1,13 +1,12 @@
 //! Iterators and walkers of each owner, by their numbers (DOM Standard, 6 Traversal).
 ghost use Rattle.std.specs.Prelude.{◌≡◌, ◌↔◌, ◌⊎◌, length, true, is_some, slice_get, Some, IfOk, IfErr, OnErr};
-ghost use Rattle.std.specs.Option.{option_map, ForSome};
 ghost use Rattle.dom_base.specs.declared.Refusal.TheVariants.{Limit};
 ghost use Rattle.dom_model.specs.Command.{Command, own};
 ghost use Rattle.dom_model.specs.Output.{nothing, a_node, an_iterator, a_walker, reference};
-ghost use Rattle.dom_model.specs.Effects.{node_or_null};
 ghost use Rattle.dom_model.specs.World.{part_of};
 ghost use Rattle.dom_model.specs.CommandRefusals.{past_limit};
 ghost use Rattle.dom_traversal.specs.Filters.{filter_of};
+ghost use Rattle.dom_parts.specs.Calls.{MovesTo};
 ghost use Rattle.dom_parts.specs.Doc.{name_in, owner_in, Makes, HoldsNode};
 
 use crate::Parts;
@@ -65,9 +64,7 @@ impl Parts {
     /// stays (DOM Standard, nextNode).
     pub fn iter_next(&mut self, owner: Owner, number: u32) -> Option<Key>
         requires { is_some (slice_get (part_of self.old.world owner).iterators number) ≡ true }
-        ensures names { self.new.names ≡ self.old.names }
-        ensures node { ForSome result (HoldsNode self.old) }
-        ensures world { Makes owner (Command.iterator_next number) (node_or_null (option_map (name_in self.old) result)) self.old.world self.new.world }
+        ensures { MovesTo owner (Command.iterator_next number) result self.old self.new }
     {
         self.cursors.iter_next(owner, &self.trees.forest, number)
     }
@@ -76,9 +73,7 @@ impl Parts {
     /// stays (DOM Standard, previousNode).
     pub fn iter_previous(&mut self, owner: Owner, number: u32) -> Option<Key>
         requires { is_some (slice_get (part_of self.old.world owner).iterators number) ≡ true }
-        ensures names { self.new.names ≡ self.old.names }
-        ensures node { ForSome result (HoldsNode self.old) }
-        ensures world { Makes owner (Command.iterator_previous number) (node_or_null (option_map (name_in self.old) result)) self.old.world self.new.world }
+        ensures { MovesTo owner (Command.iterator_previous number) result self.old self.new }
     {
         self.cursors
             .iter_previous(owner, &self.trees.forest, number)
@@ -98,9 +93,7 @@ impl Parts {
     /// interface TreeWalker).
     pub fn walk(&mut self, owner: Owner, number: u32, step: Move) -> Option<Key>
         requires { is_some (slice_get (part_of self.old.world owner).walkers number) ≡ true }
-        ensures names { self.new.names ≡ self.old.names }
-        ensures node { ForSome result (HoldsNode self.old) }
-        ensures world { Makes owner (Command.walk number step) (node_or_null (option_map (name_in self.old) result)) self.old.world self.new.world }
+        ensures { MovesTo owner (Command.walk number step) result self.old self.new }
     {
         self.cursors.walk(owner, &self.trees.forest, number, step)
     }

@@ -1,15 +1,15 @@
 //! Live ranges of each owner, by their numbers (DOM Standard, 5 Ranges).
-ghost use Rattle.std.specs.Prelude.{◌≡◌, ◌↔◌, ◌⊎◌, length, true, is_some, IfOk, IfErr, OnOk, OnErr};
-ghost use Rattle.dom_base.specs.declared.Refusal.{Refusal as RefusalOf};
+ghost use Rattle.std.specs.Prelude.{◌≡◌, ◌↔◌, ◌⊎◌, length, true, is_some, IfOk, IfErr, OnErr};
 ghost use Rattle.dom_base.specs.declared.Refusal.TheVariants.{Limit};
 ghost use Rattle.dom_model.specs.Command.{Command, own};
-ghost use Rattle.dom_model.specs.CommandRefusals.{past_limit, past_end};
+ghost use Rattle.dom_model.specs.CommandRefusals.{past_limit};
 ghost use Rattle.dom_model.specs.Names.{node_of};
-ghost use Rattle.dom_model.specs.Output.{nothing, a_range, boundaries};
+ghost use Rattle.dom_model.specs.Output.{nothing, a_range};
 ghost use Rattle.dom_model.specs.Part.{range_at};
 ghost use Rattle.dom_model.specs.Ranges.{at, from_to};
 ghost use Rattle.dom_model.specs.Steps.{set_range};
 ghost use Rattle.dom_model.specs.World.{part_of};
+ghost use Rattle.dom_parts.specs.Calls.{AreEndsOf, SetsEnd};
 ghost use Rattle.dom_parts.specs.Doc.{name_in, owner_in, stepped, Makes, HoldsNode};
 
 use crate::Parts;
@@ -53,12 +53,7 @@ impl Parts {
         requires there { is_some (range_at (part_of self.old.world owner) number) ≡ true }
         requires node_is_node { HoldsNode self.old node }
         requires own { owner_in self.old node ≡ owner }
-        ensures names { self.new.names ≡ self.old.names }
-        ensures world { OnOk result (Makes owner (Command.range_start number (own (name_in self.old node).number) offset) nothing self.old.world
-            self.new.world) }
-        ensures refused { (result ≡ Err RefusalOf.IndexSize) ↔ (past_end (part_of self.old.world owner) (name_in self.old node) offset ≡ true) }
-        ensures other { IfErr result (λ refusal. refusal ≡ RefusalOf.IndexSize) }
-        ensures err { OnErr result (self.new ≡ self.old) }
+        ensures { SetsEnd owner (Command.range_start number (own (name_in self.old node).number) offset) node offset result self.old self.new }
     {
         self.trees.forest.law_nodes_stand_once();
         self.ranges
@@ -78,11 +73,7 @@ impl Parts {
         requires there { is_some (range_at (part_of self.old.world owner) number) ≡ true }
         requires node_is_node { HoldsNode self.old node }
         requires own { owner_in self.old node ≡ owner }
-        ensures names { self.new.names ≡ self.old.names }
-        ensures world { OnOk result (Makes owner (Command.range_end number (own (name_in self.old node).number) offset) nothing self.old.world self.new.world) }
-        ensures refused { (result ≡ Err RefusalOf.IndexSize) ↔ (past_end (part_of self.old.world owner) (name_in self.old node) offset ≡ true) }
-        ensures other { IfErr result (λ refusal. refusal ≡ RefusalOf.IndexSize) }
-        ensures err { OnErr result (self.new ≡ self.old) }
+        ensures { SetsEnd owner (Command.range_end number (own (name_in self.old node).number) offset) node offset result self.old self.new }
     {
         self.trees.forest.law_nodes_stand_once();
         self.ranges
@@ -125,13 +116,7 @@ impl Parts {
     /// The ends of a live range, each a node of its owner and an offset (DOM Standard, interface AbstractRange).
     pub fn range_points(&self, owner: Owner, number: u32) -> Points
         requires { is_some (range_at (part_of self.now.world owner) number) ≡ true }
-        ensures start_is_node { HoldsNode self.now result.start.0 }
-        ensures end_is_node { HoldsNode self.now result.end.0 }
-        ensures own_start { owner_in self.now result.start.0 ≡ owner }
-        ensures own_end { owner_in self.now result.end.0 ≡ owner }
-        ensures value { Makes owner (Command.range_get number)
-            (boundaries (at (name_in self.now result.start.0) result.start.1) (at (name_in self.now result.end.0) result.end.1)) self.now.world
-            self.now.world }
+        ensures { AreEndsOf self.now owner number result.start result.end }
     {
         let Some(points) = self.ranges.points(owner, number) else {
             unreachable!()

@@ -12,6 +12,7 @@ ghost use Rattle.dom_worlds.specs.Worlds.{IsPart};
 ghost use Rattle.dom_slots.specs.Hosts.{HostsAreNodes};
 ghost use Rattle.dom_slots.specs.Shadows.{shadows};
 ghost use Rattle.dom_tree.specs.Forest.{IsNode, name_of};
+ghost use Rattle.dom_parts.specs.Calls.{IsReadFrom};
 ghost use Rattle.dom_parts.specs.Doc.{name_in, owner_in, trees_in, IsOwnNode, HoldsNode};
 ghost use Rattle.dom_parts.specs.Hosting.{IsAlone, outermost_root};
 
@@ -100,9 +101,7 @@ impl Parts {
     /// The parent of a node, which a root has not (DOM Standard, concept: parent).
     pub fn parent(&self, node: Key) -> Option<Key>
         requires { HoldsNode self.now node }
-        ensures value { option_map (name_in self.now) result ≡ parent_of (trees_in self.now node) (name_in self.now node) }
-        ensures node { ForSome result (HoldsNode self.now) }
-        ensures owner { ForSome result (λ k. owner_in self.now k ≡ owner_in self.now node) }
+        ensures { IsReadFrom self.now node parent_of result }
     {
         self.trees.forest.parent(node)
     }
@@ -110,9 +109,7 @@ impl Parts {
     /// The first child of a node.
     pub fn first(&self, node: Key) -> Option<Key>
         requires { HoldsNode self.now node }
-        ensures value { option_map (name_in self.now) result ≡ first_of (children_of (trees_in self.now node) (name_in self.now node)) }
-        ensures node { ForSome result (HoldsNode self.now) }
-        ensures owner { ForSome result (λ k. owner_in self.now k ≡ owner_in self.now node) }
+        ensures { IsReadFrom self.now node (λ ts x. first_of (children_of ts x)) result }
     {
         self.trees.forest.first(node)
     }
@@ -120,9 +117,7 @@ impl Parts {
     /// The last child of a node.
     pub fn last(&self, node: Key) -> Option<Key>
         requires { HoldsNode self.now node }
-        ensures value { option_map (name_in self.now) result ≡ last_of (children_of (trees_in self.now node) (name_in self.now node)) }
-        ensures node { ForSome result (HoldsNode self.now) }
-        ensures owner { ForSome result (λ k. owner_in self.now k ≡ owner_in self.now node) }
+        ensures { IsReadFrom self.now node (λ ts x. last_of (children_of ts x)) result }
     {
         self.trees.forest.last(node)
     }
@@ -130,9 +125,7 @@ impl Parts {
     /// The sibling just after a node.
     pub fn next(&self, node: Key) -> Option<Key>
         requires { HoldsNode self.now node }
-        ensures value { option_map (name_in self.now) result ≡ next_sibling (trees_in self.now node) (name_in self.now node) }
-        ensures node { ForSome result (HoldsNode self.now) }
-        ensures owner { ForSome result (λ k. owner_in self.now k ≡ owner_in self.now node) }
+        ensures { IsReadFrom self.now node next_sibling result }
     {
         self.trees.forest.next(node)
     }
@@ -140,9 +133,7 @@ impl Parts {
     /// The sibling just before a node.
     pub fn prev(&self, node: Key) -> Option<Key>
         requires { HoldsNode self.now node }
-        ensures value { option_map (name_in self.now) result ≡ previous_sibling (trees_in self.now node) (name_in self.now node) }
-        ensures node { ForSome result (HoldsNode self.now) }
-        ensures owner { ForSome result (λ k. owner_in self.now k ≡ owner_in self.now node) }
+        ensures { IsReadFrom self.now node previous_sibling result }
     {
         self.trees.forest.prev(node)
     }

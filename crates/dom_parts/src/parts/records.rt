@@ -37,27 +37,6 @@ impl Parts {
         if !self.is_watched(target) {
             return Ok(());
         }
-        self.record_children(target, added, removed, prev, next)
-    }
-
-    /// The record of a change of a node's children goes to the observers that are interested in it.
-    fn record_children(
-        &mut self,
-        target: Key,
-        added: &[Key],
-        removed: &[Key],
-        prev: Option<Key>,
-        next: Option<Key>,
-    ) -> Result<(), AllocError>
-        requires target_is_node { HoldsNode self.old target }
-        requires added_are_nodes { AreNodes self.old added.now }
-        requires removed_are_nodes { AreNodes self.old removed.now }
-        requires prev_is_node { IsNodeIf self.old prev }
-        requires next_is_node { IsNodeIf self.old next }
-        ensures { OnOk result (self.new ≡ stepped (owner_in self.old target)
-            (queue_record (child_list (name_in self.old target) (map (name_in self.old) added.now) (map (name_in self.old) removed.now)
-            (option_map (name_in self.old) prev) (option_map (name_in self.old) next))) self.old) }
-    {
         let alloc = self.alloc;
         self.record(Change::ChildList {
             target,

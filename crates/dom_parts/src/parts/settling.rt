@@ -1,9 +1,9 @@
 //! What is left of a `Doc` after a step of which memory was refused (own rule).
-ghost use Rattle.std.specs.Prelude.{◌≡◌, OnOk, OnErr, []};
+ghost use Rattle.std.specs.Prelude.{◌≡◌, []};
 ghost use Rattle.dom_model.specs.Tree.{none};
 ghost use Rattle.dom_traversal.specs.Cursors.{cursors_of};
 ghost use Rattle.dom_observers.specs.Owners.{tables_of as observers_of};
-ghost use Rattle.dom_parts.specs.AllTables.{tables_with_trees, AreFirst};
+ghost use Rattle.dom_parts.specs.AllTables.{tables_with_trees, AreFirst, IsSettled};
 ghost use Rattle.dom_parts.specs.Doc.{nothing_left};
 
 use crate::Parts;
@@ -37,12 +37,9 @@ pub(super) fn settle(
     ranges: &mut RangeTable,
     alloc: Global,
 ) -> Result<(), AllocError>
-    ensures result { result ≡ done }
-    ensures forest { OnOk done (trees.new.forest ≡ trees.old.forest) }
-    ensures tables { OnOk done (tables_with_trees (cursors_of cursors.new) (observers_of observers.new) trees.new ranges.new
-        ≡ tables_with_trees (cursors_of cursors.old) (observers_of observers.old) trees.old ranges.old) }
-    ensures empty { OnErr done (trees.new.forest ≡ record { names = []; trees = none }) }
-    ensures first { OnErr done (AreFirst (tables_with_trees (cursors_of cursors.new) (observers_of observers.new) trees.new ranges.new)) }
+    ensures { IsSettled done result trees.old.forest trees.new.forest
+        (tables_with_trees (cursors_of cursors.old) (observers_of observers.old) trees.old ranges.old)
+        (tables_with_trees (cursors_of cursors.new) (observers_of observers.new) trees.new ranges.new) }
 {
     if done.is_err() {
         give_up(trees, cursors, observers, ranges, alloc);

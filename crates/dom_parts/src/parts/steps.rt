@@ -19,6 +19,14 @@ use dom_traversal::law_iterators_stay;
 use node_arena::Key;
 use std::alloc::{AllocError, Global};
 
+/// A change of the data of a node: from an offset on, so many code units give way to others (DOM Standard, replace data).
+#[derive(Drop)]
+pub struct DataChange {
+    pub offset: usize,
+    pub count: usize,
+    pub units: DomStr,
+}
+
 impl Parts {
     /// A node leaves its parent, after it got its transient registrations, and its owner's iterators and live ranges left its
     /// tree; slots are signalled.
@@ -140,28 +148,25 @@ impl Parts {
 
     /// Code units of a Text or a Comment give way to others, after the ends of live ranges moved with them. All of them give
     /// way without taking memory.
-    pub fn change_data(
-        &mut self,
-        node: Key,
-        offset: usize,
-        count: usize,
-        data: DomStr,
-    ) -> Result<(), AllocError>
+    pub fn change_data(&mut self, node: Key, change: DataChange) -> Result<(), AllocError>
         requires node_is_node { HoldsNode self.old node }
-        requires may_come { MayCome (part_of self.old.world (owner_in self.old node)) (name_in self.old node) «data».items }
-        requires there { count ≤ length (node_in (trees_in self.old node) (name_in self.old node)).text - offset }
-        ensures ok { OnOk result (self.new ≡ stepped (owner_in self.old node) (replace_data (name_in self.old node) offset count «data».items) self.old) }
-        ensures whole { offset ≡ 0 → length (node_in (trees_in self.old node) (name_in self.old node)).text ≤ count → IsOk result }
+        requires may_come { MayCome (part_of self.old.world (owner_in self.old node)) (name_in self.old node) change.units.items }
+        requires there { change.count ≤ length (node_in (trees_in self.old node) (name_in self.old node)).text - change.offset }
+        ensures ok { OnOk result (self.new ≡ stepped (owner_in self.old node)
+            (replace_data (name_in self.old node) change.offset change.count change.units.items) self.old) }
+        ensures whole { change.offset ≡ 0 → length (node_in (trees_in self.old node) (name_in self.old node)).text ≤ change.count → IsOk result }
         ensures err { OnErr result (self.new ≡ self.old) }
     {
         self.trees.forest.law_nodes_stand_once();
-        let size = data.len();
+        let offset = change.offset;
+        let count = change.count;
+        let size = change.units.len();
         let text = spliced(
             self.alloc,
             self.trees.forest.text(node),
             offset,
             count,
-            data,
+            change.units,
         )?;
         self.ranges.on_replace_data(node, offset, count, size);
         self.trees.forest.set_data(node, text);

@@ -44,7 +44,7 @@ change_data-requires-clause-may_come c =
     may_then d c.queue_data_record.new.self c.args.node
     (character_data (name_in d c.args.node) (Some (node_in (trees_in d c.args.node) (name_in d c.args.node)).text))
     (c.laws.ensures.alone c.args.node c.requires.node_is_node) c.in_ok-queue_data_record.ensures
-    (c.laws.ensures.parts (owner_in d c.args.node)) c.args.data.items c.requires.may_come
+    (c.laws.ensures.parts (owner_in d c.args.node)) c.args.change.units.items c.requires.may_come
 
 pub change_data-requires-clause-there : goal.change_data-requires-clause-there
 change_data-requires-clause-there c =

@@ -1,11 +1,9 @@
 use Rattle.std.proofs.Common.{◌≡◌, ◌-◌, length, option_map, refl, ap, arith}
 use Rattle.dom_model.specs.Names.{DomString}
 use Rattle.dom_model.specs.Tree.{node_in}
-use Rattle.dom_parts.specs.Doc.{name_in, owner_in, trees_in}
+use Rattle.dom_parts.specs.Doc.{name_in, trees_in}
 use Rattle.dom_mutation.proofs.Grown.{IsMade, made_so, new_owner, new_unlinked, new_not_above, split_whole}
-use Rattle.dom_model.specs.Part.{next_name}
-use Rattle.dom_model.specs.TextChanges.{new_text_node, splitting}
-use Rattle.dom_model.specs.World.{part_of}
+use Rattle.dom_model.specs.TextChanges.{splitting}
 use Rattle.dom_mutation.proofs.BoundedDocs.{bounds_added}
 use Rattle.dom_mutation.proofs.ReadyCalls.{plan-done}
 use Rattle.dom_mutation.proofs.ReadyPlans.{ready-splitting}
@@ -42,23 +40,14 @@ returns-in-Ok-clause-world c =
 
 pub cut_tail-requires-clause-bounds : goal.cut_tail-requires-clause-bounds
 cut_tail-requires-clause-bounds c =
-    let d = c.args.parts.now in
-    let y = next_name (part_of d.world (owner_in d c.args.node)) in
-    bounds_added d c.make_text.new.parts c.args.node y
-    (new_text_node y (option_map (name_in d) c.document-document.result) c.in_ok-tail.tail.items)
-    record {
-      here = c.requires.node_is_node;
-      alone = c.laws.ensures.alone c.args.node c.requires.node_is_node;
-      part = c.laws.ensures.parts _;
-      bounds = (c.requires.ready _).bounds;
-    } c.in_ok-new.ensures.names c.in_ok-new.ensures.world
+    bounds_added c.args.parts.now c.make_text.new.parts c.args.node (new_text (goal.at.cut_tail-requires-clause-bounds c).In_ok-new)
+    (c.laws.ensures.parts _) (c.requires.ready _).bounds
 
 pub returns-in-Ok-clause-ready : goal.returns-in-Ok-clause-ready
 returns-in-Ok-clause-ready c =
-    let d = c.args.parts.now in
-    let x = c.args.node in
-    plan-done d d c.cut_tail.new.parts refl
-    (record { alone = c.laws.ensures.alone; parts = c.laws.ensures.parts; stand = c.laws.ensures.stand }) x
-    c.requires.node_is_node (λ a. splitting (name_in a x) c.args.offset)
-    (λ l i r. ready-splitting _ i r (name_in d x) c.args.offset (l.stand x c.requires.node_is_node) c.requires.text) (returns-in-Ok-clause-world c)
+    plan-done c.args.parts.now c.args.parts.now c.cut_tail.new.parts refl
+    (record { alone = c.laws.ensures.alone; parts = c.laws.ensures.parts; stand = c.laws.ensures.stand }) c.args.node
+    c.requires.node_is_node (λ a. splitting (name_in a c.args.node) c.args.offset)
+    (λ l i r. ready-splitting _ i r (name_in c.args.parts.now c.args.node) c.args.offset (l.stand c.args.node c.requires.node_is_node) c.requires.text)
+    (returns-in-Ok-clause-world c)
     c.requires.ready

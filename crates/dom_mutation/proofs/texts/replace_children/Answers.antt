@@ -1,12 +1,10 @@
 use Rattle.std.proofs.Common.{[], Some, refl, ap, sym, ◌∙◌}
 use Rattle.dom_model.specs.Names.{is_empty}
-use Rattle.dom_parts.specs.Doc.{name_in, owner_in}
+use Rattle.dom_parts.specs.Doc.{name_in}
 use Rattle.dom_mutation.proofs.Inserted.{some_left}
 use Rattle.dom_mutation.proofs.Grown.{IsMade, made_so, new_owner, new_not_above}
 use Rattle.dom_mutation.proofs.Emptied.{text_whole}
-use Rattle.dom_model.specs.Part.{next_name}
-use Rattle.dom_model.specs.TextChanges.{new_text_node, replacing_children}
-use Rattle.dom_model.specs.World.{part_of}
+use Rattle.dom_model.specs.TextChanges.{replacing_children}
 use Rattle.dom_mutation.proofs.BoundedDocs.{bounds_added}
 use Rattle.dom_mutation.proofs.ReadyCalls.{plan-done, planned-done}
 use Rattle.dom_mutation.proofs.ReadyPlans.{ready-children}
@@ -35,31 +33,21 @@ returns-in-Ok-put_text-clause-world c =
 
 pub put_text-requires-clause-bounds : goal.put_text-requires-clause-bounds
 put_text-requires-clause-bounds c =
-    let d = c.args.parts.now in
-    let y = next_name (part_of d.world (owner_in d c.args.node)) in
-    bounds_added d c.make_text.new.parts c.args.node y (new_text_node y (Some (name_in d c.document_below-document.result)) c.args.units.items)
-    record {
-      here = c.requires.node_is_node;
-      alone = c.laws.ensures.alone c.args.node c.requires.node_is_node;
-      part = c.laws.ensures.parts _;
-      bounds = (c.requires.ready _).bounds;
-    } c.in_ok-text.ensures.names c.in_ok-text.ensures.world
+    bounds_added c.args.parts.now c.make_text.new.parts c.args.node (new_text (goal.at.put_text-requires-clause-bounds c).In_ok-text)
+    (c.laws.ensures.parts _) (c.requires.ready _).bounds
 
 pub returns-in-Ok-clause-ready : goal.returns-in-Ok-clause-ready
 returns-in-Ok-clause-ready c =
-    let d = c.args.parts.now in
-    let x = c.args.node in
-    planned-done d d c.clear.new.parts refl
-    (record { alone = c.laws.ensures.alone; parts = c.laws.ensures.parts; stand = c.laws.ensures.stand }) x
-    c.requires.node_is_node (λ a. replacing_children (name_in a x) [])
-    (λ l i r. ready-children _ i r (name_in d x) [] (l.stand x c.requires.node_is_node) c.requires.inner) c.in-Ok.ensures c.requires.ready
+    planned-done c.args.parts.now c.args.parts.now c.clear.new.parts refl
+    (record { alone = c.laws.ensures.alone; parts = c.laws.ensures.parts; stand = c.laws.ensures.stand }) c.args.node
+    c.requires.node_is_node (λ a. replacing_children (name_in a c.args.node) [])
+    (λ l i r. ready-children _ i r (name_in c.args.parts.now c.args.node) [] (l.stand c.args.node c.requires.node_is_node) c.requires.inner) c.in-Ok.ensures
+    c.requires.ready
 
 pub returns-in-Ok-put_text-clause-ready : goal.returns-in-Ok-put_text-clause-ready
 returns-in-Ok-put_text-clause-ready c =
-    let d = c.args.parts.now in
-    let x = c.args.node in
-    plan-done d d c.put_text.new.parts refl
-    (record { alone = c.laws.ensures.alone; parts = c.laws.ensures.parts; stand = c.laws.ensures.stand }) x
-    c.requires.node_is_node (λ a. replacing_children (name_in a x) c.args.units.items)
-    (λ l i r. ready-children _ i r (name_in d x) c.args.units.items (l.stand x c.requires.node_is_node) c.requires.inner)
+    plan-done c.args.parts.now c.args.parts.now c.put_text.new.parts refl
+    (record { alone = c.laws.ensures.alone; parts = c.laws.ensures.parts; stand = c.laws.ensures.stand }) c.args.node
+    c.requires.node_is_node (λ a. replacing_children (name_in a c.args.node) c.args.units.items)
+    (λ l i r. ready-children _ i r (name_in c.args.parts.now c.args.node) c.args.units.items (l.stand c.args.node c.requires.node_is_node) c.requires.inner)
     (returns-in-Ok-put_text-clause-world c) c.requires.ready

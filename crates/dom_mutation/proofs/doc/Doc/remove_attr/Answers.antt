@@ -6,9 +6,7 @@ use Rattle.dom_mutation.proofs.doc.Doc.remove_attr.Goals as goal
 
 pub invariant_of-self : goal.invariant_of-self
 invariant_of-self c =
-    let d = c.args.self.now in
-    let x = c.args.node in
-    planned-done c.self.inside.parts d c.unset_attribute.new.parts c.self.view_is
-    (record { alone = c.laws.ensures.alone; parts = c.laws.ensures.parts; stand = c.laws.ensures.stand }) x
-    c.requires (λ a. unsetting_attribute (name_in a x) c.args.name.now)
-    (λ l i r. ready-no_attribute _ i r (name_in d x) c.args.name.now) c.in-Ok.ensures c.self.invariant
+    planned-done c.self.inside.parts c.args.self.now c.unset_attribute.new.parts c.self.view_is
+    (record { alone = c.laws.ensures.alone; parts = c.laws.ensures.parts; stand = c.laws.ensures.stand }) c.args.node
+    c.requires (λ a. unsetting_attribute (name_in a c.args.node) c.args.name.now)
+    (λ l i r. ready-no_attribute _ i r (name_in c.args.self.now c.args.node) c.args.name.now) c.in-Ok.ensures c.self.invariant

@@ -16,15 +16,15 @@ replacing_data-requires-clause-may_come c some =
 
 pub invariant_of-self : goal.invariant_of-self
 invariant_of-self c =
-    let d = c.args.self.now in
-    let x = c.args.node in
-    planned-done c.self.inside.parts d c.replacing_data.new.parts c.self.view_is
-    (record { alone = c.laws.ensures.alone; parts = c.laws.ensures.parts; stand = c.laws.ensures.stand }) x
-    c.requires.node_is_node (λ a. replacing_data (name_in a x) c.args.offset c.args.count c.args.data.items)
-    (λ l i r. ready-data _ i r (name_in d x) c.args.offset c.args.count c.args.data.items c.requires.may_come) c.in-Ok.ensures c.self.invariant
+    planned-done c.self.inside.parts c.args.self.now c.replacing_data.new.parts c.self.view_is
+    (record { alone = c.laws.ensures.alone; parts = c.laws.ensures.parts; stand = c.laws.ensures.stand }) c.args.node
+    c.requires.node_is_node (λ a. replacing_data (name_in a c.args.node) c.args.change.offset c.args.change.count c.args.change.units.items)
+    (λ l i r. ready-data _ i r (name_in c.args.self.now c.args.node) c.args.change.offset c.args.change.count c.args.change.units.items c.requires.may_come)
+    c.in-Ok.ensures c.self.invariant
 
 pub returns-in-Ok : goal.returns-in-Ok
 returns-in-Ok c =
     let x = c.args.node in
-    subst (λ (d : DocState). c.replacing_data.new.parts ≡ planned (owner_in d x) (replacing_data (name_in d x) c.args.offset c.args.count c.args.data.items) d)
+    subst (λ (d : DocState). c.replacing_data.new.parts ≡ planned (owner_in d x)
+    (replacing_data (name_in d x) c.args.change.offset c.args.change.count c.args.change.units.items) d)
     c.self.view_is c.in-Ok.ensures

@@ -7,12 +7,10 @@ use Rattle.dom_mutation.proofs.doc.Doc.set_attr.Goals as goal
 
 pub invariant_of-self : goal.invariant_of-self
 invariant_of-self c =
-    let d = c.args.self.now in
-    let x = c.args.node in
-    planned-done c.self.inside.parts d c.change_attribute.new.parts c.self.view_is
-    (record { alone = c.laws.ensures.alone; parts = c.laws.ensures.parts; stand = c.laws.ensures.stand }) x
-    c.requires.node_is_node (λ a. setting_attribute (name_in a x) c.args.name.now c.args.value.items)
-    (λ l i r. ready-attribute _ i r (name_in d x) c.args.name.now c.args.value.items) c.in-Ok.ensures c.self.invariant
+    planned-done c.self.inside.parts c.args.self.now c.change_attribute.new.parts c.self.view_is
+    (record { alone = c.laws.ensures.alone; parts = c.laws.ensures.parts; stand = c.laws.ensures.stand }) c.args.node
+    c.requires.node_is_node (λ a. setting_attribute (name_in a c.args.node) c.args.name.now c.args.value.items)
+    (λ l i r. ready-attribute _ i r (name_in c.args.self.now c.args.node) c.args.name.now c.args.value.items) c.in-Ok.ensures c.self.invariant
 
 pub returns-in-Ok-clause-world : goal.returns-in-Ok-clause-world
 returns-in-Ok-clause-world c =

@@ -38,13 +38,7 @@ after c =
     let all = all_tables c.self.inside in
     tree_step f c.self.invariant c.self.view_is c.args.node c.requires (change_node h x) own (keeps_changed h (same_name c.args.name.now value) x f.trees)
     (Attribute c.args.node) c.change_attr-done.new.self c.change_attr-done.ensures
-    (record {
-      result = c.settle.ensures.result;
-      forest = c.settle.ensures.forest;
-      tables = c.settle.ensures.tables;
-      empty = c.settle.ensures.empty;
-      first = c.settle.ensures.first;
-    })
+    c.settle.ensures
     (λ ns. set_attribute (name_at ns c.args.node) c.args.name.now value)
     (λ left. attribute_hosted (contents f.names f.trees all) c.self.inside.trees.slots.hosts (are_hosts f.names f.trees all c.self.invariant) x.owner
     there (change_node h x f.trees) (contents f.names (change_node h x f.trees) all).tables own.owned c.args.node left c.args.name.now value

@@ -1,20 +1,12 @@
-use Rattle.std.proofs.Common.{◌≡◌, refl, sym, ap, subst, ◌∙◌}
+use Rattle.std.proofs.Common.{ap}
 use Rattle.dom_model.specs.Names.{last_of}
-use Rattle.std.specs.Option.{option_map}
 use Rattle.dom_model.specs.Tree.{children_of}
-use Rattle.dom_tree.specs.Forest.{name_at}
-use Rattle.dom_parts.specs.Doc.{owner_in}
 use Rattle.dom_parts.proofs.OwnNodes.{last_near}
-use Rattle.dom_parts.proofs.Shown.{shown}
+use Rattle.dom_parts.proofs.Shown.{read_from}
 use Rattle.dom_parts.proofs.parts.Parts.last.Goals as goal
 
-pub returns-clause-value : goal.returns-clause-value
-returns-clause-value c = shown c.self.inside.trees.forest c.self.invariant c.self.view_is (λ ts x. last_of (children_of ts x))
-    (λ ns. option_map (name_at ns) c.last.result) c.args.node c.last.ensures.value (λ r. ap (λ xs. last_of xs) r.children)
-
-pub returns-clause-owner : goal.returns-clause-owner
-returns-clause-owner c k e =
+pub returns : goal.returns
+returns c =
     let f = c.self.inside.trees.forest in
-    let x = name_at f.names c.args.node in
-    subst (λ d. owner_in d k ≡ owner_in d c.args.node) c.self.view_is
-    (last_near f.trees c.self.invariant.owned x.owner x (name_at f.names k) refl (sym c.last.ensures.value ∙ ap (option_map (name_at f.names)) e))
+    read_from f c.self.invariant c.self.view_is (λ ts x. last_of (children_of ts x)) (last_near f.trees c.self.invariant.owned)
+    c.last.ensures.value (λ r. ap (λ xs. last_of xs) r.children) c.last.ensures.node

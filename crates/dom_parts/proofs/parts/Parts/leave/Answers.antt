@@ -61,14 +61,7 @@ after c =
     (sym is) c.leave.ensures.others)
     (observers_of c.transient.new.self) (on_ok c.transient.result c.in_default-transient.not-Err c.transient.ensures) c.on_remove.new.self
     (c.on_remove.ensures.child c.in-Some.parent (c.parent.ensures.node c.in-Some.parent c.in-Some.is) (sym c.in-Some.ensures.value))
-    c.unlink-done.new.self c.unlink-done.ensures
-    (record {
-      result = c.settle.ensures.result;
-      forest = c.settle.ensures.forest;
-      tables = c.settle.ensures.tables;
-      empty = c.settle.ensures.empty;
-      first = c.settle.ensures.first;
-    })
+    c.unlink-done.new.self c.unlink-done.ensures c.settle.ensures
 
 pub invariant_of-self-2 : goal.invariant_of-self-2
 invariant_of-self-2 c = (after c).held

@@ -1,13 +1,15 @@
-use Rattle.std.proofs.Common.{◌<◌, ℕ, length, ap, ◌∙◌}
+use Rattle.std.proofs.Common.{◌<◌, ℕ, length, refl, ap, ◌∙◌}
+use Rattle.std.specs.Prelude.{nat_eq}
+use Rattle.dom_model.specs.Names.{name_eq}
+use Rattle.dom_model.specs.Ranges.{after_insert}
 use Rattle.dom_model.specs.Steps.{make_room}
 use Rattle.dom_model.specs.Tree.{index_of}
+use Rattle.dom_ranges.proofs.Naming.{insert-named}
 use Rattle.dom_tree.specs.Forest.{name_at}
-use Rattle.dom_parts.specs.Doc.{name_in, owner_in, stepped, contents, all_tables}
-use Rattle.dom_parts.proofs.DocInvariant.{are_hosts}
-use Rattle.dom_parts.proofs.RangedStates.{held_live, live_done, room_asks}
-use Rattle.dom_parts.proofs.RangedSteps.{room_ranged}
-use Rattle.dom_parts.proofs.RangedWorlds.{room_told}
-use Rattle.dom_parts.proofs.Shown.{known, shown, owner_there}
+use Rattle.dom_parts.specs.Doc.{name_in, owner_in, stepped, all_tables}
+use Rattle.dom_parts.proofs.RangeRules.{insert_rule}
+use Rattle.dom_parts.proofs.RangedStates.{MovesEnds, ends_moved, room_asks}
+use Rattle.dom_parts.proofs.Shown.{known, shown}
 use Rattle.dom_parts.proofs.parts.Parts.move_ends.Goals as goal
 
 pub on_insert_before-requires-clause-fits : goal.on_insert_before-requires-clause-fits
@@ -16,32 +18,30 @@ on_insert_before-requires-clause-fits c =
     room_asks f c.self.invariant c.self.view_is c.law_nodes_stand_once.ensures.once c.law_nodes_stand_once.ensures.only c.args.parent c.args.child
     c.args.count c.requires.parent_is_node c.requires.is_child c.requires.bounds c.requires.few (index_of f.trees (name_at f.names c.args.child))
 
-pub invariant_of-self : goal.invariant_of-self
-invariant_of-self c =
+-- what the step leaves
+left : (c : goal.After-on_insert_before) → MovesEnds c.self.inside.trees.forest (all_tables c.self.inside) c.args.self.now c.on_insert_before.new.self
+    c.args.parent (λ ns. make_room (name_at ns c.args.parent)
+    (index_of c.self.inside.trees.forest.trees (name_at c.self.inside.trees.forest.names c.args.child)) c.args.count)
+left c =
     let f = c.self.inside.trees.forest in
-    let all = all_tables c.self.inside in
-    let o = (name_at f.names c.args.parent).owner in
+    let p = name_at f.names c.args.parent in
     let index = index_of f.trees (name_at f.names c.args.child) in
-    held_live f.names f.trees all c.self.invariant c.on_insert_before.new.self
-    ((room_ranged (contents f.names f.trees all) all.ranges c.on_insert_before.new.self c.self.invariant.ranges
-    c.law_nodes_stand_once.ensures.distinct o c.args.parent
-    (known f c.self.invariant c.self.view_is (λ e. c.args.parent < length e.names) c.requires.parent_is_node) (λ j. o) index c.args.count
-    c.on_insert_before.ensures).1
+    ends_moved f c.self.invariant c.self.view_is c.law_nodes_stand_once.ensures.distinct c.args.parent c.requires.parent_is_node
+    (after_insert nat_eq c.args.parent index c.args.count) (after_insert name_eq p index c.args.count)
+    (λ ns. make_room (name_at ns c.args.parent) index c.args.count) tt refl
+    (insert-named f.names c.law_nodes_stand_once.ensures.distinct c.args.parent index c.args.count
+    (known f c.self.invariant c.self.view_is (λ e. c.args.parent < length e.names) c.requires.parent_is_node))
+    (insert_rule p.owner p refl index c.args.count) c.on_insert_before.ensures
     (room_asks f c.self.invariant c.self.view_is c.law_nodes_stand_once.ensures.once c.law_nodes_stand_once.ensures.only c.args.parent c.args.child
-    c.args.count c.requires.parent_is_node c.requires.is_child c.requires.bounds c.requires.few index))
+    c.args.count c.requires.parent_is_node c.requires.is_child c.requires.bounds c.requires.few index)
+
+pub invariant_of-self : goal.invariant_of-self
+invariant_of-self c = (left c).held
 
 pub returns : goal.returns
 returns c =
     let f = c.self.inside.trees.forest in
-    let all = all_tables c.self.inside in
     let d = c.args.self.now in
-    let o = (name_at f.names c.args.parent).owner in
     let index = index_of f.trees (name_at f.names c.args.child) in
-    live_done f c.self.invariant c.self.view_is c.args.parent c.on_insert_before.new.self (λ ns. make_room (name_at ns c.args.parent) index c.args.count)
-    (room_told (contents f.names f.trees all) c.self.inside.trees.slots.hosts (are_hosts f.names f.trees all c.self.invariant) all.ranges
-    c.on_insert_before.new.self c.self.invariant.ranges c.law_nodes_stand_once.ensures.distinct o
-    (owner_there f c.self.invariant c.self.view_is c.args.parent c.requires.parent_is_node) c.args.parent
-    (known f c.self.invariant c.self.view_is (λ e. c.args.parent < length e.names) c.requires.parent_is_node) (λ j. o) index c.args.count
-    c.on_insert_before.ensures)
-    ∙ ap (λ (i : ℕ). stepped (owner_in d c.args.parent) (make_room (name_in d c.args.parent) i c.args.count) d)
+    (left c).state ∙ ap (λ (i : ℕ). stepped (owner_in d c.args.parent) (make_room (name_in d c.args.parent) i c.args.count) d)
     (shown f c.self.invariant c.self.view_is index_of (λ ns. index) c.args.child (λ j. index) (λ r. r.index))

@@ -1,21 +1,15 @@
-use Rattle.std.proofs.Common.{◌≡◌, ◌<◌, length, ◌∙◌}
-use Rattle.std.specs.Prelude.{nat_lt}
+use Rattle.std.proofs.Common.{◌≡◌, ◌<◌, length}
 use Rattle.dom_observers.specs.Owners.{tables_of}
 use Rattle.dom_observers.specs.Views.{words_of}
 use Rattle.dom_parts.specs.Doc.{owner_in}
 use Rattle.dom_parts.proofs.Shown.{known}
-use Rattle.dom_parts.proofs.Observing.{there_by, observer_is, within, same_if, refused_known, faults_known, observed_held, observed_world}
+use Rattle.dom_parts.proofs.Observing.{same_if, refused_known, faults_known, observed_held, observed_world}
 use Rattle.dom_parts.proofs.parts.Parts.observe.Goals as goal
 
 pub invariant_of-self : goal.invariant_of-self
 invariant_of-self c =
-    let f = c.self.inside.trees.forest in
-    observed_held f c.self.invariant c.self.view_is c.args.owner
-    (there_by f c.self.invariant c.self.view_is c.args.owner c.args.number c.requires.there) (tables_of c.observe.new.self) c.args.number
-    c.args.node
-    (known f c.self.invariant c.self.view_is (λ e. c.args.node < length e.names) c.requires.node_is_node)
-    (known f c.self.invariant c.self.view_is (λ e. owner_in e c.args.node ≡ c.args.owner) c.requires.own) (words_of c.args.options)
-    c.observe.result c.observe.ensures.err c.observe.ensures.tables
+    observed_held c.self.inside.trees.forest c.self.invariant c.self.view_is c.args.owner c.args.number c.requires.there (tables_of c.observe.new.self)
+    c.args.node c.requires.node_is_node c.requires.own (words_of c.args.options) c.observe.result c.observe.ensures.err c.observe.ensures.tables
 
 pub observe-requires-clause-node_is_node : goal.observe-requires-clause-node_is_node
 observe-requires-clause-node_is_node c =
@@ -27,29 +21,19 @@ observe-requires-clause-own c =
 
 pub returns-clause-world : goal.returns-clause-world
 returns-clause-world c =
-    let f = c.self.inside.trees.forest in
-    observed_world f c.self.invariant c.self.view_is c.args.owner
-    (there_by f c.self.invariant c.self.view_is c.args.owner c.args.number c.requires.there) (tables_of c.observe.new.self) c.args.number
-    c.args.node
-    (known f c.self.invariant c.self.view_is (λ e. c.args.node < length e.names) c.requires.node_is_node)
-    (known f c.self.invariant c.self.view_is (λ e. owner_in e c.args.node ≡ c.args.owner) c.requires.own) (words_of c.args.options)
-    c.law_nodes_stand_once.ensures.distinct c.observe.result c.observe.ensures.tables
+    observed_world c.self.inside.trees.forest c.self.invariant c.self.view_is c.args.owner c.args.number c.requires.there (tables_of c.observe.new.self)
+    c.args.node c.requires.node_is_node c.requires.own (words_of c.args.options) c.law_nodes_stand_once.ensures.distinct c.observe.result
+    c.observe.ensures.tables
 
 pub returns-clause-no_kind : goal.returns-clause-no_kind
 returns-clause-no_kind c =
-    let f = c.self.inside.trees.forest in
-    let queues = (tables_of c.self.inside.observers c.args.owner).record_queues in
-    refused_known f c.self.invariant c.self.view_is c.args.owner (nat_lt c.args.number (length queues))
-    (within queues c.args.number (observer_is f c.self.invariant c.self.view_is c.args.owner c.args.number ∙ c.requires.there)) c.observe.result
-    c.observe.ensures.no_kind
+    refused_known c.self.inside.trees.forest c.self.invariant c.self.view_is c.args.owner c.args.number c.requires.there (tables_of c.observe.new.self)
+    c.observe.result c.observe.ensures.no_kind
 
 pub returns-clause-other : goal.returns-clause-other
 returns-clause-other c =
-    let f = c.self.inside.trees.forest in
-    let queues = (tables_of c.self.inside.observers c.args.owner).record_queues in
-    faults_known f c.self.invariant c.self.view_is c.args.owner (nat_lt c.args.number (length queues))
-    (within queues c.args.number (observer_is f c.self.invariant c.self.view_is c.args.owner c.args.number ∙ c.requires.there)) c.observe.result
-    c.observe.ensures.unknown c.observe.ensures.other
+    faults_known c.self.inside.trees.forest c.self.invariant c.self.view_is c.args.owner c.args.number c.requires.there (tables_of c.observe.new.self)
+    c.observe.result c.observe.ensures.unknown c.observe.ensures.other
 
 pub returns-clause-err : goal.returns-clause-err
 returns-clause-err c = same_if c.self.inside.trees.forest c.self.invariant c.self.view_is c.args.owner (tables_of c.observe.new.self) c.observe.result

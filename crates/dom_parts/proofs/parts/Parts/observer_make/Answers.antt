@@ -3,23 +3,18 @@ use Rattle.std.specs.Prelude.{◌↔◌}
 use Rattle.dom_base.specs.declared.Fault.TheVariants.{Refused}
 use Rattle.dom_base.specs.declared.Refusal.TheVariants.{Limit}
 use Rattle.dom_model.specs.CommandRefusals.{past_limit}
-use Rattle.dom_model.specs.World.{is_there}
 use Rattle.dom_observers.specs.Owners.{tables_of}
-use Rattle.dom_parts.proofs.Shown.{known}
 use Rattle.dom_parts.proofs.Observing.{made_held, made_world, count_is, same_if}
 use Rattle.dom_parts.proofs.parts.Parts.observer_make.Goals as goal
 
 pub invariant_of-self : goal.invariant_of-self
 invariant_of-self c =
-    let f = c.self.inside.trees.forest in
-    let there = known f c.self.invariant c.self.view_is (λ e. is_there e.world c.args.owner ≡ true) c.requires in
-    made_held f c.self.invariant c.self.view_is c.args.owner there (tables_of c.make.new.self) c.make.result c.make.ensures.err c.make.ensures.tables
+    made_held c.self.inside.trees.forest c.self.invariant c.self.view_is c.args.owner c.requires (tables_of c.make.new.self) c.make.result
+    c.make.ensures.err c.make.ensures.tables
 
 pub returns-clause-world : goal.returns-clause-world
 returns-clause-world c =
-    let f = c.self.inside.trees.forest in
-    let there = known f c.self.invariant c.self.view_is (λ e. is_there e.world c.args.owner ≡ true) c.requires in
-    made_world f c.self.invariant c.self.view_is c.args.owner there (tables_of c.make.new.self) c.make.result c.make.ensures.err
+    made_world c.self.inside.trees.forest c.self.invariant c.self.view_is c.args.owner c.requires (tables_of c.make.new.self) c.make.result c.make.ensures.err
     c.make.ensures.tables c.make.ensures.number
 
 pub returns-clause-limit : goal.returns-clause-limit

@@ -66,13 +66,7 @@ after c =
     (unlinked f c.self.invariant c.self.view_is c.args.node c.args.parent c.requires.unlinked)
     (not_above f c.self.invariant c.self.view_is c.args.node c.args.parent c.requires.not_above))
     (Place c.args.node c.args.parent c.args.before) c.link-done.new.self c.link-done.ensures
-    (record {
-      result = c.settle.ensures.result;
-      forest = c.settle.ensures.forest;
-      tables = c.settle.ensures.tables;
-      empty = c.settle.ensures.empty;
-      first = c.settle.ensures.first;
-    })
+    c.settle.ensures
     (λ ns. place (name_at ns c.args.node) (name_at ns c.args.parent) (option_map (name_at ns) c.args.before))
     (λ left. place_hosted (contents f.names f.trees all) c.self.inside.trees.slots.hosts (are_hosts f.names f.trees all c.self.invariant) p.owner there
     (placed x p b f.trees) (contents f.names (placed x p b f.trees) all).tables own.owned c.args.node c.args.parent c.args.before left

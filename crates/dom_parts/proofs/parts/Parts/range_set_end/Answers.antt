@@ -2,14 +2,14 @@ use Rattle.std.proofs.Common.{arith}
 use Rattle.dom_model.specs.Command.{Command, own}
 use Rattle.dom_parts.specs.Doc.{all_tables, name_in}
 use Rattle.dom_parts.proofs.RangedLists.{own_at_nodes}
-use Rattle.dom_parts.proofs.RangedPassing.{SetsEnd, end_is_set}
+use Rattle.dom_parts.proofs.RangedPassing.{EndIsSet, end_is_set}
 use Rattle.dom_parts.proofs.parts.Parts.range_set_end.Goals as goal
 
 pub set_end-requires-clause-ends : goal.set_end-requires-clause-ends
 set_end-requires-clause-ends c = own_at_nodes c.self.inside.trees.forest.names c.self.inside.ranges c.self.invariant.ranges.own c.args.owner
 
 -- what the call leaves
-sets : (c : goal.After-set_end) → SetsEnd c.self.inside.trees.forest (all_tables c.self.inside) c.args.self.now c.args.owner c.args.node c.args.offset
+sets : (c : goal.After-set_end) → EndIsSet c.self.inside.trees.forest (all_tables c.self.inside) c.args.self.now c.args.owner c.args.node c.args.offset
     c.set_end.new.self (Command.range_end c.args.number (own (name_in c.args.self.now c.args.node).number) c.args.offset) c.set_end.result
 sets c =
     end_is_set c.self.inside.trees.forest c.self.invariant c.self.view_is c.args.owner c.args.number c.requires.there
@@ -25,14 +25,5 @@ sets c =
 pub invariant_of-self : goal.invariant_of-self
 invariant_of-self c = (sets c).held
 
-pub returns-clause-world : goal.returns-clause-world
-returns-clause-world c = (sets c).makes
-
-pub returns-clause-refused : goal.returns-clause-refused
-returns-clause-refused c = (sets c).refused
-
-pub returns-clause-other : goal.returns-clause-other
-returns-clause-other c = (sets c).other
-
-pub returns-clause-err : goal.returns-clause-err
-returns-clause-err c = (sets c).same
+pub returns : goal.returns
+returns c = (sets c).says

@@ -1,7 +1,7 @@
 use Rattle.std.proofs.Common.{◌∙◌}
 use Rattle.std.specs.Prelude.{slice_get}
 use Rattle.dom_observers.specs.Owners.{tables_of}
-use Rattle.dom_parts.proofs.Observing.{there_by, observer_is, shown_one, taken_held, taken_nodes, taken_world}
+use Rattle.dom_parts.proofs.Observing.{observer_is, shown_one, taken_held, taken_nodes, taken_world}
 use Rattle.dom_parts.proofs.parts.Parts.take_records.Goals as goal
 
 pub unreachable-requires : goal.unreachable-requires
@@ -11,18 +11,15 @@ unreachable-requires c =
 
 pub invariant_of-self : goal.invariant_of-self
 invariant_of-self c =
-    let f = c.self.inside.trees.forest in
-    taken_held f c.self.invariant c.self.view_is c.args.owner (there_by f c.self.invariant c.self.view_is c.args.owner c.args.number c.requires)
-    (tables_of c.take.new.self) c.args.number c.in-Some.records.items c.in-Some.ensures.records c.in-Some.ensures.tables
+    taken_held c.self.inside.trees.forest c.self.invariant c.self.view_is c.args.owner c.args.number c.requires
+    (tables_of c.take.new.self) c.in-Some.records.items c.in-Some.ensures.records c.in-Some.ensures.tables
 
 pub returns-clause-nodes : goal.returns-clause-nodes
 returns-clause-nodes c =
-    let f = c.self.inside.trees.forest in
-    taken_nodes f c.self.invariant c.self.view_is c.args.owner (there_by f c.self.invariant c.self.view_is c.args.owner c.args.number c.requires)
-    (tables_of c.take.new.self) c.args.number c.in-Some.records.items c.in-Some.ensures.records c.in-Some.ensures.tables
+    taken_nodes c.self.inside.trees.forest c.self.invariant c.self.view_is c.args.owner c.args.number c.requires
+    (tables_of c.take.new.self) c.in-Some.records.items c.in-Some.ensures.records c.in-Some.ensures.tables
 
 pub returns-clause-world : goal.returns-clause-world
 returns-clause-world c =
-    let f = c.self.inside.trees.forest in
-    taken_world f c.self.invariant c.self.view_is c.args.owner (there_by f c.self.invariant c.self.view_is c.args.owner c.args.number c.requires)
-    (tables_of c.take.new.self) c.args.number c.in-Some.records.items c.in-Some.ensures.records c.in-Some.ensures.tables
+    taken_world c.self.inside.trees.forest c.self.invariant c.self.view_is c.args.owner c.args.number c.requires
+    (tables_of c.take.new.self) c.in-Some.records.items c.in-Some.ensures.records c.in-Some.ensures.tables

@@ -21,8 +21,5 @@ moves c =
 pub invariant_of-self : goal.invariant_of-self
 invariant_of-self c = (moves c).held
 
-pub returns-clause-node : goal.returns-clause-node
-returns-clause-node c = (moves c).node
-
-pub returns-clause-world : goal.returns-clause-world
-returns-clause-world c = (moves c).world
+pub returns : goal.returns
+returns c = (moves c).says

@@ -13,8 +13,8 @@ use Rattle.dom_mutation.proofs.BoundedDocs.{bounds_removed, bounds_at}
 use Rattle.dom_mutation.proofs.Nodes.{nodes_kept}
 use Rattle.dom_mutation.proofs.Replaced.{next_is_near, stays_removed}
 use Rattle.dom_mutation.proofs.Turns.{Stays, may_now, child_now}
-use Rattle.dom_mutation.proofs.replacing.replacing.Goals.{In_ok-removing}
-use Rattle.dom_mutation.proofs.replacing.replacing.Goals as goal
+use Rattle.dom_mutation.proofs.doc.replacing.replacing.Goals.{In_ok-removing}
+use Rattle.dom_mutation.proofs.doc.replacing.replacing.Goals as goal
 
 pub reference_child-reference-requires-clause-child_is_child : goal.reference_child-reference-requires-clause-child_is_child
 reference_child-reference-requires-clause-child_is_child c =
