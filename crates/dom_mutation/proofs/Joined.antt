@@ -16,7 +16,7 @@ use Rattle.dom_model.specs.Tree.{times_in, is_inclusive_ancestor, subtree, inclu
 use Rattle.dom_model.specs.Steps.{Step}
 use Rattle.dom_model.specs.World.{part_of}
 use Rattle.dom_model.specs.WorldSteps.{world_after}
-use Rattle.dom_model.specs.Changes.{◌and_then◌, observed, remove_plan}
+use Rattle.dom_model.specs.Changes.{observed, remove_plan}
 use Rattle.dom_model.specs.TextChanges.{contiguous_texts_after, joining, normalizing_text}
 use Rattle.dom_model.proofs.OwnerLaws.{name_eq-same}
 use Rattle.dom_tree.specs.Forest.{name_at}

@@ -6,7 +6,7 @@ use Rattle.dom_base.specs.declared.NodeName.{NodeName}
 use Rattle.dom_model.specs.Names.{name_eq, first_of, items_after}
 use Rattle.dom_model.specs.Tree.{Trees, none, tree, parent_of, children_of, next_sibling, inclusive_ancestors, is_inclusive_ancestor}
 use Rattle.dom_model.specs.World.{part_of}
-use Rattle.dom_model.specs.Changes.{◌and_then◌, suppressed, remove_plan, reference_child}
+use Rattle.dom_model.specs.Changes.{suppressed, remove_plan, reference_child}
 use Rattle.dom_model.proofs.OwnerLaws.{name_eq-true}
 use Rattle.dom_tree.specs.Forest.{name_at}
 use Rattle.dom_parts.specs.Doc.{DocState, planned, name_in, owner_in, trees_in, IsChild}

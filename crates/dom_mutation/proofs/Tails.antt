@@ -4,7 +4,6 @@ use Rattle.std.specs.Option.{ForSome}
 use Rattle.std.proofs.lemmas.Bool.{false_from_ne_true}
 use Rattle.dom_model.specs.Tree.{parent_of, inclusive_ancestors, is_inclusive_ancestor}
 use Rattle.dom_model.specs.World.{part_of}
-use Rattle.dom_model.specs.Changes.{◌and_then◌}
 use Rattle.dom_model.proofs.OwnerLaws.{name_eq-true}
 use Rattle.dom_parts.specs.Doc.{DocState, name_in, owner_in, trees_in, MayMove, IsChild}
 use Rattle.dom_laws.proofs.Paths.{Lacks, lacks_from, lacks_to}
