@@ -19,7 +19,7 @@ use Rattle.dom_model.proofs.OwnerLaws.{name_eq-turned}
 use Rattle.dom_tree.specs.Forest.{name_at}
 use Rattle.dom_tree.specs.Owners.{trees_of_owner, AreOwned, IsReadOwn}
 use Rattle.dom_tree.proofs.Owned.{read_own}
-use Rattle.dom_mutation.specs.Doc.{DocState}
+use Rattle.dom_mutation.specs.Doc.{DocState, name_in, owner_in, trees_in}
 use Rattle.dom_admission.specs.Turned.{turned}
 
 -- a node that is counted once is there
@@ -153,3 +153,16 @@ module _ (t : Option Owner) (d now : DocState) (seen : turned t d ≡ now) (o : 
     mine = owner-named d.world o s;
     reads = read_own ts owned o (named (part_of d.world o) s) (owner-named d.world o s);
   }
+
+-- what is said of a node by its key and its owner's part is said of its name
+pub told_one : {A : Type 0} {d : DocState} {o : Owner} {w : NodeWord} {key : ℕ} (f : Part → NodeName → A) → KeyOf d o w key →
+    f (part_of d.world (owner_in d key)) (name_in d key) ≡ f (part_of d.world o) (named (part_of d.world o) w)
+told_one {d = d} f x = λ j. f (part_of d.world (x.mine j)) (x.name j)
+
+-- what is read of the node of a key in the trees of all owners is read so in its owner's
+pub read_of : {A : Type 0} {names : List NodeName} {ts : Trees} (s : DocState) (key : ℕ) (f : Trees → NodeName → A) → names ≡ s.names → AreOwned ts →
+    ((o : Owner) → trees_of_owner o ts ≡ (part_of s.world o).trees) →
+    ((o : Owner) (x : NodeName) → IsReadOwn o ts x → f ts x ≡ f (trees_of_owner o ts) x) → f ts (name_at names key) ≡ f (trees_in s key) (name_in s key)
+read_of {ts = ts} s key f all owned each same =
+    let x = name_in s key in
+    ap (λ (ns : List NodeName). f ts (name_at ns key)) all ∙ same x.owner x (read_own ts owned x.owner x refl) ∙ ap (λ us. f us x) (each x.owner)

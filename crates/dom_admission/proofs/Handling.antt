@@ -8,7 +8,10 @@ use Rattle.dom_base.specs.declared.Fault.{Fault}
 use Rattle.dom_base.specs.declared.Fault.TheVariants.{Refused, Memory}
 use Rattle.dom_base.specs.declared.Refusal.{Refusal}
 use Rattle.dom_base.specs.declared.Refusal.TheVariants.{Busy, Foreign, Unknown, WrongKind}
+use Rattle.dom_base.specs.declared.NodeName.{NodeName}
 use Rattle.dom_base.specs.declared.Owner.{Owner}
+use Rattle.dom_model.specs.Changes.{Plan}
+use Rattle.dom_model.specs.CommandNames.{named}
 use Rattle.dom_model.specs.Names.{owner_eq}
 use Rattle.dom_model.specs.Effects.{Effect, answers, changes, tables}
 use Rattle.dom_model.specs.Output.{Output, says, replied, Said, Value}
@@ -19,16 +22,18 @@ use Rattle.dom_model.specs.Steps.{Step}
 use Rattle.dom_model.specs.Turns.{opening_turn}
 use Rattle.dom_model.specs.World.{World, part_of, find_part, put_part, with_part, is_there}
 use Rattle.dom_model.specs.WorldSteps.{world_after}
-use Rattle.dom_model.specs.Command.{Command, effect, own_refusal}
+use Rattle.dom_model.specs.Command.{Command, NodeWord, effect, own_refusal}
 use Rattle.dom_model.specs.DocumentMachine.{effect_in, refusal, accepted, is_busy}
 use Rattle.dom_model.proofs.OwnerLaws.{owner_eq-same, owner_eq-true}
 use Rattle.dom_text.specs.Text.{output_text}
 use Rattle.dom_text.proofs.OutputLaws.{output_text-append}
-use Rattle.dom_mutation.specs.Doc.{DocState, MakesSaying}
+use Rattle.dom_mutation.specs.Doc.{DocState, MakesSaying, made, name_in, owner_in}
 use Rattle.dom_admission.specs.declared.admission.Operand.{Operand}
 use Rattle.dom_admission.specs.Handled.{IsDone, IsHandled, let_pass}
 use Rattle.dom_admission.specs.Refusals.{is_there_as, is_fit, has_foreign, are_there, are_fitting, early_refusal}
 use Rattle.dom_admission.specs.Turned.{with_turn, turned, opened_turn}
+use Rattle.dom_tree.specs.Forest.{name_at}
+use Rattle.dom_admission.proofs.Finding.{key_of}
 use Rattle.dom_admission.proofs.Refusing.{IsNaming, and_true, refusal-naming}
 use Rattle.dom_admission.proofs.Turned.{after_turned}
 
@@ -229,6 +234,19 @@ module _ (t : Option Owner) (d s : DocState) (seen : turned t d ≡ s) {o : Owne
   tells {reply = reply} none runs makes is done =
       keeps none runs makes is
       (subst (λ (u : DocState). IsDone None (opening_turn u.world o, says o (replied reply) ∷ []) u.world new before after r) (sym seen) done)
+
+-- it makes the steps of a plan on the node of a key
+module _ (plan : NodeName → Plan) (t : Option Owner) (d s : DocState) (seen : turned t d ≡ s) {o : Owner} {c : Command} (may : MayAct s.world o c)
+    (new : World) (before after : List ℕ) (r : Result (Unit {0}) Fault) (w : NodeWord) (key : ℕ) where
+  pub makes : {mid : World} {reply : Value} → name_at s.names key ≡ named (part_of s.world o) w → own_refusal (part_of d.world o) c ≡ None →
+      accepted (with_turn t d.world) o c ≡ effecting (with_turn t d.world) o c →
+      changes (plan (named (part_of d.world o) w) (part_of d.world o)) reply ≡ effect (part_of d.world o) c →
+      mid ≡ made (owner_in d key) (plan (name_in d key)) d.world →
+      IsDone None (opening_turn (with_turn t mid) o, says o (replied reply) ∷ []) (with_turn t mid) new before after r →
+      IsHandled o c s.world new before after r
+  makes is none runs does by done =
+      let node = key_of t d s seen o w key is in
+      plans t d s seen may new before after r none runs does (by ∙ (λ j. made (node.mine j) (plan (node.name j)) d.world)) done
 
 -- it is refused by its own tests, which changed nothing, or memory was refused
 module _ (t : Option Owner) (d s : DocState) (seen : turned t d ≡ s) {o : Owner} {c : Command} (may : MayAct s.world o c) (mid : DocState)

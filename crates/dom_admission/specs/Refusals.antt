@@ -64,21 +64,17 @@ accepts_node n node = accepts n node.kind node.element
 abbrev pub is_others : Operand → Bool
 is_others n = option_map_or (λ x. is_foreign (word_view x)) (node_named n) false
 
--- whether an owner's node, range, iterator, walker or observer is there
+-- whether an owner's range, iterator, walker or observer is there
+abbrev pub is_counted : Part → Operand → Bool
+is_counted p (names.Range k) = is_some (range_at p k)
+is_counted p (names.Iterator k) = is_some (slice_get p.iterators k)
+is_counted p (names.Walker k) = is_some (slice_get p.walkers k)
+is_counted p (names.Observer k) = is_some (slice_get p.record_queues k)
+is_counted p _ = false
+
+-- whether what is named is there
 abbrev pub is_there_as : Part → Operand → Bool
-is_there_as p (names.Any x) = has_node p.trees (named p (word_view x))
-is_there_as p (names.Element x) = has_node p.trees (named p (word_view x))
-is_there_as p (names.Text x) = has_node p.trees (named p (word_view x))
-is_there_as p (names.Document x) = has_node p.trees (named p (word_view x))
-is_there_as p (names.Data x) = has_node p.trees (named p (word_view x))
-is_there_as p (names.Child x) = has_node p.trees (named p (word_view x))
-is_there_as p (names.Parent x) = has_node p.trees (named p (word_view x))
-is_there_as p (names.Slottable x) = has_node p.trees (named p (word_view x))
-is_there_as p (names.Slot x) = has_node p.trees (named p (word_view x))
-is_there_as p (names.Range k) = is_some (range_at p k)
-is_there_as p (names.Iterator k) = is_some (slice_get p.iterators k)
-is_there_as p (names.Walker k) = is_some (slice_get p.walkers k)
-is_there_as p (names.Observer k) = is_some (slice_get p.record_queues k)
+is_there_as p n = option_map_or (λ x. has_node p.trees (named p (word_view x))) (node_named n) (is_counted p n)
 
 -- whether a node is of the kind that is asked for; a range, an iterator, a walker or an observer always is
 abbrev pub is_fit : Part → Operand → Bool

@@ -2,10 +2,10 @@
 ghost use Rattle.std.specs.Prelude.{◌≡◌};
 ghost use Rattle.dom_model.specs.CommandNames.{is_foreign};
 ghost use Rattle.dom_model.specs.World.{part_of};
-ghost use Rattle.dom_model.specs.Validity.{first_refusal};
 ghost use Rattle.dom_reader.specs.Views.{word_view};
 ghost use Rattle.dom_admission.specs.Handled.{let_pass};
-ghost use Rattle.dom_admission.specs.Refusals.{early_refusal, has_foreign, node_named, accepts, is_there_as, is_fit, are_there, are_fitting, is_others};
+ghost use Rattle.dom_admission.specs.Refusals.{early_refusal, has_foreign, is_others, node_named, accepts};
+ghost use Rattle.dom_admission.specs.Refusals.{is_there_as, is_counted, is_fit, are_there, are_fitting};
 
 use crate::state::State;
 use dom_base::{Fault, Kind, Owner, Refusal};
@@ -81,24 +81,19 @@ impl State {
     pub fn admit(&self, owner: Owner, named: &[Operand]) -> Result<(), Fault>
         ensures { result ≡ let_pass (early_refusal self.now.world owner named.now) }
     {
-        match self.early_refusal(owner, named) {
-            None => Ok(()),
-            Some(refusal) => Err(Fault::Refused(refusal)),
+        if self.is_busy(owner) {
+            return Err(Fault::Refused(Refusal::Busy));
         }
-    }
-
-    /// Tests in their order whether an owner may speak now, and whether what its line names is its own, is there, and is of
-    /// the kinds that are asked for.
-    fn early_refusal(&self, owner: Owner, named: &[Operand]) -> Option<Refusal>
-        ensures { result ≡ early_refusal self.now.world owner named.now }
-    {
-        first_refusal(&[
-            (self.is_busy(owner), Refusal::Busy),
-            (has_foreign(named), Refusal::Foreign),
-            (!self.is_there(owner), Refusal::Unknown),
-            (!self.are_there(owner, named), Refusal::Unknown),
-            (!self.are_fitting(owner, named), Refusal::WrongKind),
-        ])
+        if has_foreign(named) {
+            return Err(Fault::Refused(Refusal::Foreign));
+        }
+        if !self.is_there(owner) || !self.are_there(owner, named) {
+            return Err(Fault::Refused(Refusal::Unknown));
+        }
+        if !self.are_fitting(owner, named) {
+            return Err(Fault::Refused(Refusal::WrongKind));
+        }
+        Ok(())
     }
 
     /// Whether all that is named is there.
@@ -112,20 +107,22 @@ impl State {
     fn is_there_as(&self, owner: Owner, named: Operand) -> bool
         ensures { result ≡ is_there_as (part_of self.now.world owner) named }
     {
+        match named.node() {
+            Some(node) => self.has(owner, node),
+            None => self.is_counted(owner, named),
+        }
+    }
+
+    /// Whether an owner's range, iterator, walker or observer is there.
+    fn is_counted(&self, owner: Owner, named: Operand) -> bool
+        ensures { result ≡ is_counted (part_of self.now.world owner) named }
+    {
         match named {
             Operand::Range(number) => self.doc.has_range(owner, number),
             Operand::Iterator(number) => self.doc.has_iter(owner, number),
             Operand::Walker(number) => self.doc.has_walker(owner, number),
             Operand::Observer(number) => self.doc.has_observer(owner, number),
-            Operand::Any(node)
-            | Operand::Element(node)
-            | Operand::Text(node)
-            | Operand::Document(node)
-            | Operand::Data(node)
-            | Operand::Child(node)
-            | Operand::Parent(node)
-            | Operand::Slottable(node)
-            | Operand::Slot(node) => self.has(owner, node),
+            _ => false,
         }
     }
 
@@ -137,38 +134,18 @@ impl State {
     }
 
     /// Whether a node is of the kind that is asked for; a range, an iterator, a walker or an observer always is. Where any kind
-    /// will do there is no look-up, and the local name is read of a slot alone.
+    /// will do there is no look-up.
     fn is_fit(&self, owner: Owner, named: Operand) -> bool
         ensures { result ≡ is_fit (part_of self.now.world owner) named }
     {
         match named {
-            Operand::Any(_)
-            | Operand::Range(_)
-            | Operand::Iterator(_)
-            | Operand::Walker(_)
-            | Operand::Observer(_) => true,
-            Operand::Slot(node) => named.accepts(self.kind(owner, node), self.element(owner, node)),
-            Operand::Element(node)
-            | Operand::Text(node)
-            | Operand::Document(node)
-            | Operand::Data(node)
-            | Operand::Child(node)
-            | Operand::Parent(node)
-            | Operand::Slottable(node) => named.accepts(self.kind(owner, node), ""),
+            Operand::Any(_) => true,
+            _ => match named.node() {
+                Some(node) => named.accepts(self.kind(owner, node), self.element(owner, node)),
+                None => true,
+            },
         }
     }
-}
-
-/// The refusal of the first test that holds.
-fn first_refusal(tests: &[(bool, Refusal)]) -> Option<Refusal>
-    ensures { result ≡ first_refusal tests.now }
-{
-    for (holds, refusal) in tests {
-        if *holds {
-            return Some(*refusal);
-        }
-    }
-    None
 }
 
 /// Whether one of the nodes is spelled as another owner's.
