@@ -1,5 +1,5 @@
 -- What a look-up of a name in a forest says of an owner's own trees.
-use Rattle.std.proofs.Common.{◌≡◌, ℕ, ◌<◌, Bool, true, false, ◌||◌, List, [], ◌∷◌, length, Option, Some, None, cond, refl, sym, ap, ◌∙◌, arith, zero-add}
+use Rattle.std.proofs.Common.{◌≡◌, ℕ, ◌<◌, Bool, true, false, ◌||◌, List, [], ◌∷◌, length, Option, Some, None, cond, refl, sym, ap, subst, ◌∙◌, arith, zero-add}
 use Rattle.std.specs.Prelude.{is_some, slice_get, count_by, find}
 use Rattle.std.specs.Option.{option_map, ForSome}
 use Rattle.std.proofs.lemmas.List.Sums.{sum_by-cons}
@@ -93,13 +93,6 @@ module _ (ts : Trees) (w : World) (owned : AreOwned ts) (own_trees : (o : Owner)
       let here : has_node ts x ≡ has_node (part_of w o).trees x = (read_own ts owned o x refl).presence ∙ ap (λ (us : Trees). has_node us x) (own_trees o) in
       rw spelled (found_node names x r found, is_found x r finds found kept ∙ here)
 
-  -- a node of an owner is the same in its own trees
-  pub node_own : (o : Owner) (s : NodeWord) → node_in ts (named (part_of w o) s) ≡ node_in (part_of w o).trees (named (part_of w o) s)
-  node_own o s =
-      let x = named (part_of w o) s in
-      let of : x.owner ≡ o = ap (λ (y : NodeName). y.owner) (named-number_in (part_of w o) s) ∙ owner-part_of w o in
-      (read_own ts owned o x of).node ∙ ap (λ (us : Trees). node_in us x) (own_trees o)
-
 -- a name that no node has is not found
 absent : (ns : List Node) (x : NodeName) → is_in name_eq x (names_of ns) ≡ false → find (λ n. name_eq n.name x) ns ≡ None
 absent [] x h = refl
@@ -136,6 +129,20 @@ pub record KeyOf (d : DocState) (o : Owner) (s : NodeWord) (key : ℕ) : Type 0 
   pub mine : (name_at d.names key).owner ≡ o
   pub number : named (part_of d.world o) (own (name_at d.names key).number) ≡ named (part_of d.world o) s
 
+-- what is said of a node by its key and its owner's part is said of its name
+pub told_one : {A : Type 0} {d : DocState} {o : Owner} {w : NodeWord} {key : ℕ} (f : Part → NodeName → A) → KeyOf d o w key →
+    f (part_of d.world (owner_in d key)) (name_in d key) ≡ f (part_of d.world o) (named (part_of d.world o) w)
+told_one {d = d} f x = λ j. f (part_of d.world (x.mine j)) (x.name j)
+
+-- what is read of the node of a key in the trees of all owners is read so in its owner's
+module _ (s : DocState) (key : ℕ) where
+  pub read_of : {A : Type 0} {names : List NodeName} {ts : Trees} (f : Trees → NodeName → A) → names ≡ s.names → AreOwned ts →
+      ((o : Owner) → trees_of_owner o ts ≡ (part_of s.world o).trees) →
+      ((o : Owner) (x : NodeName) → IsReadOwn o ts x → f ts x ≡ f (trees_of_owner o ts) x) → f ts (name_at names key) ≡ f (trees_in s key) (name_in s key)
+  read_of {ts = ts} f all owned each same =
+      let x = name_in s key in
+      ap (λ (ns : List NodeName). f ts (name_at ns key)) all ∙ same x.owner x (read_own ts owned x.owner x refl) ∙ ap (λ us. f us x) (each x.owner)
+
 -- In a state with these documents, a key by which a node was looked up.
 module _ (t : Option Owner) (d now : DocState) (seen : turned t d ≡ now) (o : Owner) (s : NodeWord) (key : ℕ)
     (is : name_at now.names key ≡ named (part_of now.world o) s) where
@@ -154,15 +161,11 @@ module _ (t : Option Owner) (d now : DocState) (seen : turned t d ≡ now) (o : 
     reads = read_own ts owned o (named (part_of d.world o) s) (owner-named d.world o s);
   }
 
--- what is said of a node by its key and its owner's part is said of its name
-pub told_one : {A : Type 0} {d : DocState} {o : Owner} {w : NodeWord} {key : ℕ} (f : Part → NodeName → A) → KeyOf d o w key →
-    f (part_of d.world (owner_in d key)) (name_in d key) ≡ f (part_of d.world o) (named (part_of d.world o) w)
-told_one {d = d} f x = λ j. f (part_of d.world (x.mine j)) (x.name j)
-
--- what is read of the node of a key in the trees of all owners is read so in its owner's
-pub read_of : {A : Type 0} {names : List NodeName} {ts : Trees} (s : DocState) (key : ℕ) (f : Trees → NodeName → A) → names ≡ s.names → AreOwned ts →
-    ((o : Owner) → trees_of_owner o ts ≡ (part_of s.world o).trees) →
-    ((o : Owner) (x : NodeName) → IsReadOwn o ts x → f ts x ≡ f (trees_of_owner o ts) x) → f ts (name_at names key) ≡ f (trees_in s key) (name_in s key)
-read_of {ts = ts} s key f all owned each same =
-    let x = name_in s key in
-    ap (λ (ns : List NodeName). f ts (name_at ns key)) all ∙ same x.owner x (read_own ts owned x.owner x refl) ∙ ap (λ us. f us x) (each x.owner)
+  -- what is read of it in the trees of all owners is read so of the node that is named, in its owner's
+  pub read_found : {A : Type 0} {names : List NodeName} {ts : Trees} (f : Trees → NodeName → A) → names ≡ d.names → AreOwned ts →
+      ((p : Owner) → trees_of_owner p ts ≡ (part_of d.world p).trees) →
+      ((p : Owner) (x : NodeName) → IsReadOwn p ts x → f ts x ≡ f (trees_of_owner p ts) x) →
+      f ts (name_at names key) ≡ f (part_of now.world o).trees (named (part_of now.world o) s)
+  read_found {names = names} {ts = ts} f all owned each same =
+      subst (λ (u : DocState). f ts (name_at names key) ≡ f (part_of u.world o).trees (named (part_of u.world o) s)) seen
+      (read_of d key f all owned each same ∙ told_one (λ p x. f p.trees x) key_of)

@@ -13,7 +13,7 @@ use Rattle.dom_base.specs.declared.Owner.{Owner}
 use Rattle.dom_model.specs.Changes.{Plan}
 use Rattle.dom_model.specs.CommandNames.{named}
 use Rattle.dom_model.specs.Names.{owner_eq}
-use Rattle.dom_model.specs.Effects.{Effect, answers, changes, tables}
+use Rattle.dom_model.specs.Effects.{Effect, answers, changes}
 use Rattle.dom_model.specs.Output.{Output, says, replied, Said, Value}
 use Rattle.dom_model.specs.Part.{Part, empty_part}
 use Rattle.dom_model.specs.Validity.{first_refusal}

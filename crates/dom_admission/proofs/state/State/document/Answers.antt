@@ -1,4 +1,4 @@
-use Rattle.std.proofs.Common.{◌≡◌, ◌∙◌, ap, sym, List}
+use Rattle.std.proofs.Common.{◌∙◌, ap, sym, List}
 use Rattle.std.specs.Prelude.{is_some}
 use Rattle.std.specs.Option.{option_map}
 use Rattle.dom_base.specs.declared.NodeName.{NodeName}
@@ -7,7 +7,7 @@ use Rattle.dom_model.specs.CommandNames.{named}
 use Rattle.dom_model.specs.World.{part_of}
 use Rattle.dom_reader.specs.Views.{word_view}
 use Rattle.dom_tree.specs.Forest.{name_at}
-use Rattle.dom_admission.proofs.Finding.{node_own, no_node-absent}
+use Rattle.dom_admission.proofs.Finding.{key_of, no_node-absent, read_of, told_one}
 use Rattle.dom_admission.proofs.state.State.document.Goals as goal
 
 pub document-requires : goal.document-requires
@@ -15,16 +15,12 @@ document-requires c = rw (c.forest.ensures.names) (rw (← c.self.view_is) at (c
 
 pub returns-in-Some : goal.returns-in-Some
 returns-in-Some c =
-    let w = c.self.inside.doc.world in
-    let s = word_view c.args.node in
-    let names = c.self.inside.doc.names in
-    let is : name_at names c.in-Some.key ≡ named (part_of w c.args.owner) s = rw (← c.self.view_is) at (c.find.ensures.found c.in-Some.key c.in-Some.is).1 in
-    let here = ap (λ (ns : List NodeName). name_at ns c.in-Some.key) c.forest.ensures.names ∙ is in
-    let same = ap (λ (n : Node). n.document)
-    (ap (node_in c.forest.result.now.trees) here ∙ node_own c.forest.result.now.trees w c.forest.ensures.owned c.forest.ensures.trees
-    c.args.owner s) in
-    let value = ap (λ (ns : List NodeName). option_map (name_at ns) c.document.result) (sym c.forest.ensures.names) ∙ c.document.ensures.value ∙ same in
-    rw (← c.self.view_is) (record { value = value; node = λ k e. rw (c.forest.ensures.names) at (c.document.ensures.node k e) })
+    let e = c.forest.ensures in
+    let d = c.self.inside.doc in
+    let value = ap (λ (ns : List NodeName). option_map (name_at ns) c.document.result) (sym e.names) ∙ c.document.ensures.value
+    ∙ read_of d _ (λ ts y. (node_in ts y).document) e.names e.owned e.trees (λ o x own. ap (λ (n : Node). n.document) own.node)
+    ∙ told_one (λ p x. (node_in p.trees x).document) (key_of _ d _ c.self.view_is _ _ _ (c.find.ensures.found c.in-Some.key c.in-Some.is).1) in
+    rw (← c.self.view_is) (record { value = value; node = λ k h. rw (e.names) at (c.document.ensures.node k h) })
 
 pub returns-in-None-clause-value : goal.returns-in-None-clause-value
 returns-in-None-clause-value c =

@@ -1,12 +1,10 @@
-use Rattle.std.proofs.Common.{◌≡◌, ◌∙◌, ap, sym, List}
+use Rattle.std.proofs.Common.{◌∙◌, ap, sym}
 use Rattle.std.specs.Prelude.{is_some}
-use Rattle.dom_base.specs.declared.NodeName.{NodeName}
-use Rattle.dom_model.specs.Tree.{Node, node_in}
 use Rattle.dom_model.specs.CommandNames.{named}
+use Rattle.dom_model.specs.Tree.{Node, node_in}
 use Rattle.dom_model.specs.World.{part_of}
 use Rattle.dom_reader.specs.Views.{word_view}
-use Rattle.dom_tree.specs.Forest.{name_at}
-use Rattle.dom_admission.proofs.Finding.{node_own, no_node-absent}
+use Rattle.dom_admission.proofs.Finding.{no_node-absent, read_found}
 use Rattle.dom_admission.proofs.state.State.element.Goals as goal
 
 pub element-requires : goal.element-requires
@@ -14,13 +12,9 @@ element-requires c = rw (c.forest.ensures.names) (rw (← c.self.view_is) at (c.
 
 pub returns-in-Some : goal.returns-in-Some
 returns-in-Some c =
-    let w = c.self.inside.doc.world in
-    let s = word_view c.args.node in
-    let is : name_at c.self.inside.doc.names c.in-Some.key ≡ named (part_of w c.args.owner) s =
-    rw (← c.self.view_is) at (c.find.ensures.found c.in-Some.key c.in-Some.is).1 in
-    let here = ap (λ (names : List NodeName). name_at names c.in-Some.key) c.forest.ensures.names ∙ is in
-    rw (← c.self.view_is) (c.element.ensures ∙ ap (λ (x : NodeName). (node_in c.forest.result.now.trees x).element) here ∙
-    ap (λ (n : Node). n.element) (node_own c.forest.result.now.trees w c.forest.ensures.owned c.forest.ensures.trees c.args.owner s))
+    let e = c.forest.ensures in
+    c.element.ensures ∙ read_found _ c.self.inside.doc _ c.self.view_is _ _ _ (c.find.ensures.found c.in-Some.key c.in-Some.is).1
+    (λ ts y. (node_in ts y).element) e.names e.owned e.trees (λ o x own. ap (λ (n : Node). n.element) own.node)
 
 pub returns-in-None : goal.returns-in-None
 returns-in-None c =
