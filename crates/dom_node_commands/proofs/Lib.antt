@@ -1,2 +1,3 @@
 mod Attaching
 mod CommandPlans
+mod NamedNodes

@@ -1,10 +1,9 @@
 //! The commands on attributes.
-ghost use Rattle.std.specs.Prelude.{◌≡◌, true, string_bytes};
-ghost use Rattle.dom_model.specs.Tree.{has_node, node_in, attribute_value};
+ghost use Rattle.std.specs.Prelude.{◌≡◌, string_bytes};
+ghost use Rattle.dom_model.specs.Tree.{node_in, attribute_value};
 ghost use Rattle.dom_model.specs.Command.{set_attribute, unset_attribute, attribute};
-ghost use Rattle.dom_model.specs.CommandNames.{named};
 ghost use Rattle.dom_model.specs.Effects.{string_or_null};
-ghost use Rattle.dom_model.specs.World.{part_of};
+ghost use Rattle.dom_mutation.specs.Doc.{HoldsNode, name_in, trees_in};
 ghost use Rattle.dom_printer.specs.Replies.{value_view};
 ghost use Rattle.dom_reader.specs.Views.{word_view};
 ghost use Rattle.dom_admission.specs.Handled.{KeepsNames, IsHandled};
@@ -13,6 +12,7 @@ use dom_admission::{Operand, State};
 use dom_base::{DomStr, Fault, Owner};
 use dom_printer::{Value, put_reply};
 use dom_reader::NodeWord;
+use node_arena::Key;
 
 /// `set E WORD STR`: an element's attribute gets a value; a new attribute goes last.
 pub fn set_attribute(
@@ -64,18 +64,18 @@ pub fn attribute(
     ensures names { KeepsNames state.old.names state.new.names result }
 {
     state.admit(owner, &[Operand::Element(element)])?;
-    put_reply(out, owner, &attribute_value(state, owner, element, &name))?;
+    let element = state.key(owner, element);
+    put_reply(out, owner, &attribute_value(state, element, &name))?;
     state.open_turn(owner);
     Ok(())
 }
 
-/// The value of an attribute of a node that is there, for a reply.
-fn attribute_value<'a>(state: &'a State, owner: Owner, node: NodeWord, name: &str) -> Value<'a>
-    requires { has_node (part_of state.now.world owner).trees (named (part_of state.now.world owner) (word_view node)) ≡ true }
-    ensures { value_view result ≡ string_or_null
-        (attribute_value (node_in (part_of state.now.world owner).trees (named (part_of state.now.world owner) (word_view node))) name.now) }
+/// The value of a node's attribute, for a reply.
+fn attribute_value<'a>(state: &'a State, node: Key, name: &str) -> Value<'a>
+    requires { HoldsNode state.now node }
+    ensures { value_view result ≡ string_or_null (attribute_value (node_in (trees_in state.now node) (name_in state.now node)) name.now) }
 {
-    match state.doc.forest().attr(state.key(owner, node), name) {
+    match state.forest().attr(node, name) {
         Some(value) => Value::Str(value),
         None => Value::Null,
     }

@@ -1,11 +1,9 @@
 //! The commands on shadow trees: the making of components, and slots (DOM Standard, 4.2.2 Shadow tree).
-ghost use Rattle.std.specs.Prelude.{◌≡◌, true, IfOk};
-ghost use Rattle.dom_model.specs.Tree.{has_node};
+ghost use Rattle.std.specs.Prelude.{◌≡◌, IfOk};
 ghost use Rattle.dom_model.specs.Command.{attach, shadow_root, slot_of, assigned as assigned_command};
-ghost use Rattle.dom_model.specs.CommandNames.{named};
 ghost use Rattle.dom_model.specs.Slots.{assigned_nodes};
 ghost use Rattle.dom_model.specs.Trace.{is_page};
-ghost use Rattle.dom_model.specs.World.{part_of};
+ghost use Rattle.dom_mutation.specs.Doc.{HoldsNode, name_in};
 ghost use Rattle.dom_reader.specs.Views.{word_view};
 ghost use Rattle.dom_admission.specs.Handled.{KeepsNames, IsHandled};
 
@@ -14,6 +12,7 @@ use dom_base::{Fault, NodeName, Owner, Refusal};
 use dom_printer::Value;
 use dom_reader::NodeWord;
 use dom_slots::law_slots_are_of_worlds;
+use node_arena::Key;
 use std::alloc::AllocError;
 
 /// `attach E`: a new component, to whose closed shadow root an element of the owner's is the host (DOM Standard, attach a shadow
@@ -76,17 +75,16 @@ pub fn assigned(
         return Err(Fault::Refused(Refusal::Syntax));
     }
     state.admit(owner, &[Operand::Slot(slot)])?;
-    let nodes = assigned_to(state, owner, slot)?;
+    let nodes = assigned_to(state, state.key(owner, slot))?;
     state.accept(owner, &Value::List(&nodes), out)
 }
 
-/// The names of the nodes assigned to a slot that is there.
-fn assigned_to(state: &State, owner: Owner, slot: NodeWord) -> Result<Vec<NodeName>, AllocError>
-    requires { has_node (part_of state.now.world owner).trees (named (part_of state.now.world owner) (word_view slot)) ≡ true }
-    ensures { IfOk result (λ names. names.items ≡ assigned_nodes state.now.world (named (part_of state.now.world owner) (word_view slot))) }
+/// The names of the nodes assigned to a slot.
+fn assigned_to(state: &State, slot: Key) -> Result<Vec<NodeName>, AllocError>
+    requires { HoldsNode state.now slot }
+    ensures { IfOk result (λ names. names.items ≡ assigned_nodes state.now.world (name_in state.now slot)) }
 {
     law_slots_are_of_worlds();
-    let slot = state.key(owner, slot);
     let (forest, slots) = state.forest_and_slots();
     let nodes = slots.assigned(forest, slot)?;
     names_of(state.alloc, forest, &nodes)

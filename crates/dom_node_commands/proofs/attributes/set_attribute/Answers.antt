@@ -2,10 +2,9 @@ use Rattle.std.proofs.Common.{◌∷◌, ◌∙◌, [], not, refl}
 use Rattle.dom_model.specs.Changes.{setting_attribute}
 use Rattle.dom_model.specs.Names.{is_name}
 use Rattle.dom_model.specs.Tree.{is_element, kind_of}
-use Rattle.dom_model.specs.World.{part_of}
 use Rattle.dom_admission.specs.declared.admission.Operand.TheVariants.{Element}
 use Rattle.dom_mutation.specs.Doc.{made}
-use Rattle.dom_admission.proofs.Finding.{key_of}
+use Rattle.dom_admission.proofs.Finding.{key_of, told_one}
 use Rattle.dom_admission.proofs.Handling.{faults, fits, may_act, plans, refused}
 use Rattle.dom_admission.proofs.OwnRefusals.{held, lone_passes, lone_refuses, unless}
 use Rattle.dom_admission.proofs.Refusing.{namings}
@@ -19,8 +18,8 @@ pub returns-in_err-set_attr-clause-handled : goal.returns-in_err-set_attr-clause
 returns-in_err-set_attr-clause-handled c =
     let e = c.in_err-set_attr.ensures in
     faults _ c.state.inside.doc _ c.state.view_is (may_act _ _ _ (Element c.args.element ∷ []) (search namings) c.admit.ensures c.in_ok-admit.was) _ _ _
-    c.from_residual-in_err-set_attr.ensures.1 (lone_refuses (λ j. not (is_name (c.deref.ensures j))) (unless e.refused) e.other)
-    (λ r h. e.unchanged (held e.refused e.other r h).0)
+    c.from_residual-in_err-set_attr.ensures.1
+    (lone_refuses (λ j. not (is_name (c.deref.ensures j))) (unless e.refused) e.other) (λ r h. e.unchanged (held e.refused e.other r h).0)
 
 pub returns-clause-handled : goal.returns-clause-handled
 returns-clause-handled c =
@@ -33,7 +32,5 @@ returns-clause-handled c =
 
 pub set_attr-requires-clause-element : goal.set_attr-requires-clause-element
 set_attr-requires-clause-element c =
-    let d = c.state.inside.doc in
-    let element = key_of _ d _ c.state.view_is _ _ _ c.key-element.ensures.name in
-    (λ j. is_element (kind_of (part_of d.world (element.mine j)).trees (element.name j))) ∙ fits _ d _ c.state.view_is _ (Element c.args.element) []
-    c.admit.ensures c.in_ok-admit.was
+    told_one (λ p x. is_element (kind_of p.trees x)) (key_of _ c.state.inside.doc _ c.state.view_is _ _ _ c.key-element.ensures.name)
+    ∙ fits _ c.state.inside.doc _ c.state.view_is _ (Element c.args.element) [] c.admit.ensures c.in_ok-admit.was

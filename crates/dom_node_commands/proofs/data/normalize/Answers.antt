@@ -1,9 +1,7 @@
-use Rattle.std.proofs.Common.{◌∷◌, ◌∙◌, [], refl}
+use Rattle.std.proofs.Common.{◌∷◌, [], refl}
 use Rattle.dom_model.specs.TextChanges.{normalizing}
 use Rattle.dom_admission.specs.declared.admission.Operand.TheVariants.{Any}
-use Rattle.dom_mutation.specs.Doc.{made}
-use Rattle.dom_admission.proofs.Finding.{key_of}
-use Rattle.dom_admission.proofs.Handling.{may_act, plans, refused}
+use Rattle.dom_admission.proofs.Handling.{makes, may_act, refused}
 use Rattle.dom_admission.proofs.Refusing.{namings}
 use Rattle.dom_node_commands.proofs.data.normalize.Goals as goal
 
@@ -12,8 +10,6 @@ returns-in_err-admit-clause-handled c = refused _ _ _ (Any c.args.node ∷ []) _
 
 pub returns-clause-handled : goal.returns-clause-handled
 returns-clause-handled c =
-    let d = c.state.inside.doc in
-    let node = key_of _ d _ c.state.view_is _ _ _ c.key-node.ensures.name in
-    let e = c.in_ok-normalize.ensures in
-    plans _ d _ c.state.view_is (may_act _ _ _ (Any c.args.node ∷ []) (search namings) c.admit.ensures c.in_ok-admit.was) _ _ _ _
-    refl refl refl (e.world ∙ (λ j. made (node.mine j) (normalizing (node.name j)) d.world)) c.accept.ensures.done
+    makes normalizing _ c.state.inside.doc _ c.state.view_is
+    (may_act _ _ _ (Any c.args.node ∷ []) (search namings) c.admit.ensures c.in_ok-admit.was) _ _ _ _ _ _ c.key-node.ensures.name
+    refl refl refl c.in_ok-normalize.ensures.world c.accept.ensures.done

@@ -1,14 +1,14 @@
 use Rattle.std.proofs.Common.{◌∷◌, ◌∙◌, [], Err, ap, refl}
 use Rattle.dom_model.specs.Changes.{adopt_plan}
 use Rattle.dom_model.specs.Tree.{is_document, kind_of}
-use Rattle.dom_model.specs.World.{part_of}
+use Rattle.dom_mutation.specs.Doc.{adoption_refusal}
 use Rattle.dom_admission.specs.declared.admission.Operand.TheVariants.{Any, Document}
-use Rattle.dom_mutation.specs.Doc.{adoption_refusal, made}
-use Rattle.dom_admission.proofs.Finding.{key_of}
+use Rattle.dom_admission.proofs.Finding.{key_of, told_one}
 use Rattle.dom_admission.proofs.Handling.{faults, fits, may_act, plans, refused}
 use Rattle.dom_admission.proofs.OwnRefusals.{none_refused, refuses}
 use Rattle.dom_admission.proofs.Refusing.{namings}
 use Rattle.dom_node_commands.proofs.CommandPlans.{adoption-is}
+use Rattle.dom_node_commands.proofs.NamedNodes.{keys_two, made_two}
 use Rattle.dom_node_commands.proofs.moving.adopt.Goals as goal
 
 pub returns-in_err-admit-clause-handled : goal.returns-in_err-admit-clause-handled
@@ -17,26 +17,21 @@ returns-in_err-admit-clause-handled c =
 
 pub returns-in_err-adopt-clause-handled : goal.returns-in_err-adopt-clause-handled
 returns-in_err-adopt-clause-handled c =
-    let d = c.state.inside.doc in
-    let node = key_of _ d _ c.state.view_is _ _ _ c.key-node.ensures.name in
-    let e = c.in_err-adopt.ensures in
-    faults _ d _ c.state.view_is (may_act _ _ _ (Document c.args.document ∷ Any c.args.node ∷ []) (search namings) c.admit.ensures c.in_ok-admit.was) _ _ _
-    c.from_residual-in_err-adopt.ensures.1 (refuses ((λ j. adoption_refusal (kind_of (part_of d.world (node.mine j)).trees (node.name j))) ∙ adoption-is _)
-    (λ r. (e.refused r).0)) (λ r h. e.unchanged r (ap Err h))
+    let same = told_one (λ p x. adoption_refusal (kind_of p.trees x)) (key_of _ c.state.inside.doc _ c.state.view_is _ _ _ c.key-node.ensures.name) in
+    faults _ c.state.inside.doc _ c.state.view_is
+    (may_act _ _ _ (Document c.args.document ∷ Any c.args.node ∷ []) (search namings) c.admit.ensures c.in_ok-admit.was) _ _ _
+    c.from_residual-in_err-adopt.ensures.1 (refuses (same ∙ adoption-is _) (λ r. (c.in_err-adopt.ensures.refused r).0))
+    (λ r h. c.in_err-adopt.ensures.unchanged r (ap Err h))
 
 pub returns-clause-handled : goal.returns-clause-handled
 returns-clause-handled c =
-    let d = c.state.inside.doc in
-    let document = key_of _ d _ c.state.view_is _ _ _ c.key-document.ensures.name in
-    let node = key_of _ d _ c.state.view_is _ _ _ c.key-node.ensures.name in
-    let e = c.in_ok-adopt.ensures in
-    plans _ d _ c.state.view_is (may_act _ _ _ (Document c.args.document ∷ Any c.args.node ∷ []) (search namings) c.admit.ensures c.in_ok-admit.was) _ _ _ _
-    (none_refused ((λ j. adoption_refusal (kind_of (part_of d.world (node.mine j)).trees (node.name j))) ∙ adoption-is _) tt e.refused) refl refl
-    (e.world ∙ (λ j. made (node.mine j) (adopt_plan (document.name j) (node.name j)) d.world)) c.accept.ensures.done
+    let at = keys_two _ c.state.inside.doc _ c.state.view_is _ _ _ _ _ c.key-node.ensures.name c.key-document.ensures.name in
+    plans _ c.state.inside.doc _ c.state.view_is
+    (may_act _ _ _ (Document c.args.document ∷ Any c.args.node ∷ []) (search namings) c.admit.ensures c.in_ok-admit.was) _ _ _ _
+    (none_refused (told_one (λ p x. adoption_refusal (kind_of p.trees x)) at.0 ∙ adoption-is _) tt c.in_ok-adopt.ensures.refused) refl refl
+    (c.in_ok-adopt.ensures.world ∙ made_two (λ x y. adopt_plan y x) at) c.accept.ensures.done
 
 pub adopt-requires-clause-document : goal.adopt-requires-clause-document
 adopt-requires-clause-document c =
-    let d = c.state.inside.doc in
-    let document = key_of _ d _ c.state.view_is _ _ _ c.key-document.ensures.name in
-    (λ j. is_document (kind_of (part_of d.world (document.mine j)).trees (document.name j))) ∙ fits _ d _ c.state.view_is _ (Document c.args.document)
-    (Any c.args.node ∷ []) c.admit.ensures c.in_ok-admit.was
+    told_one (λ p x. is_document (kind_of p.trees x)) (key_of _ c.state.inside.doc _ c.state.view_is _ _ _ c.key-document.ensures.name)
+    ∙ fits _ c.state.inside.doc _ c.state.view_is _ (Document c.args.document) (Any c.args.node ∷ []) c.admit.ensures c.in_ok-admit.was

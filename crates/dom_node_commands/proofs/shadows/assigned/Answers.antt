@@ -16,10 +16,11 @@ returns-in_err-admit-clause-handled c =
 
 pub returns-clause-handled : goal.returns-clause-handled
 returns-clause-handled c =
-    let opens = opened-same (λ u. assigned_nodes u (named (part_of u c.args.owner) (word_view c.args.slot))) c.args.state.now.world c.args.owner (λ t. refl) in
+    let w = c.args.state.now.world in
+    let opens = opened-same (λ u. assigned_nodes u (named (part_of u c.args.owner) (word_view c.args.slot))) w c.args.owner (λ t. refl) in
     asks (may_act _ _ _ (Slot c.args.slot ∷ []) (naming-assigned _ (sym c.is_page.ensures ∙ c.if-is_page.false) _) c.admit.ensures
     c.in_ok-admit.was) _ _ _ _ refl refl
-    (ap a_list (c.deref.ensures.value ∙ c.in_ok-nodes.ensures ∙ opens)) c.accept.ensures.done
+    (ap a_list (c.deref.ensures.value ∙ c.in_ok-nodes.ensures ∙ ap (assigned_nodes w) c.key.ensures.name ∙ opens)) c.accept.ensures.done
 
-pub assigned_to-requires : goal.assigned_to-requires
-assigned_to-requires c = one_there (passes c.args.state.now.world c.args.owner (Slot c.args.slot ∷ []) c.admit.ensures c.in_ok-admit.was)
+pub key-requires : goal.key-requires
+key-requires c = one_there (passes c.args.state.now.world c.args.owner (Slot c.args.slot ∷ []) c.admit.ensures c.in_ok-admit.was)
