@@ -12,9 +12,8 @@ element-requires c = rw (c.forest.ensures.names) (rw (← c.self.view_is) at (c.
 
 pub returns-in-Some : goal.returns-in-Some
 returns-in-Some c =
-    let e = c.forest.ensures in
     c.element.ensures ∙ read_found _ c.self.inside.doc _ c.self.view_is _ _ _ (c.find.ensures.found c.in-Some.key c.in-Some.is).1
-    (λ ts y. (node_in ts y).element) e.names e.owned e.trees (λ o x own. ap (λ (n : Node). n.element) own.node)
+    (λ ts y. (node_in ts y).element) c.forest.ensures.names c.forest.ensures.owned c.forest.ensures.trees (λ o x own. ap (λ (n : Node). n.element) own.node)
 
 pub returns-in-None : goal.returns-in-None
 returns-in-None c =

@@ -12,9 +12,8 @@ kind-requires c = rw (c.forest.ensures.names) (rw (← c.self.view_is) at (c.fin
 
 pub returns-in-Some : goal.returns-in-Some
 returns-in-Some c =
-    let e = c.forest.ensures in
     c.kind.ensures ∙ read_found _ c.self.inside.doc _ c.self.view_is _ _ _ (c.find.ensures.found c.in-Some.key c.in-Some.is).1
-    kind_of e.names e.owned e.trees (λ o x own. ap (λ (n : Node). n.kind) own.node)
+    kind_of c.forest.ensures.names c.forest.ensures.owned c.forest.ensures.trees (λ o x own. ap (λ (n : Node). n.kind) own.node)
 
 pub returns-in-None : goal.returns-in-None
 returns-in-None c =
