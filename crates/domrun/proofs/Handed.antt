@@ -1,5 +1,5 @@
 -- What a run has written stays written where it is handed on.
-use Rattle.std.proofs.Common.{◌≡◌, ℕ, ◌<◌, true, false, List, Option, Result, Ok, Err, OnOk, IfErr, refl, sym, subst, ◌∙◌, arith}
+use Rattle.std.proofs.Common.{◌≡◌, ℕ, ◌<◌, Bool, true, false, List, Option, Result, Ok, Err, OnOk, IfErr, refl, sym, subst, ◌∙◌, arith}
 use Rattle.std.specs.Result.{is_ok}
 use Rattle.std.specs.Io.KnownBytes.{Keeps}
 use Rattle.std.proofs.KnownBytes.{Appends-kept}
@@ -13,6 +13,11 @@ use Rattle.dom_engine.specs.Run.{RunsToEnd, StopsRun, CountsWrites}
 pub record Ending {E : Type 0} (handed : Result (Unit {0}) E) (ended result : Result (Unit {0}) RunFault) : Type 0 where
   pub written : is_ok handed ≡ true → result ≡ ended
   pub lost : is_ok handed ≡ false → result ≡ Err Write
+
+-- so it ends by whether its output was handed on
+pub ending-by : {E : Type 0} {handed : Result (Unit {0}) E} {is_written : Bool} {ended result : Result (Unit {0}) RunFault} → is_written ≡ is_ok handed →
+    (is_written ≡ true → result ≡ ended) → (is_written ≡ false → result ≡ Err Write) → Ending handed ended result
+ending-by is written lost = record { written = λ ok. written (is ∙ ok); lost = λ no. lost (is ∙ no) }
 
 -- what was taken stays so
 abbrev Stays : Taken → Taken → Type 0
