@@ -135,8 +135,8 @@ SECTIONS = [
     ("4.5", "Interface Document", {
         "adopt": ("Doc::adopt", "commands/moving-a-node-is-adopted"),
         "adoptNode()": ("Doc::adopt", "commands/moving-a-node-is-adopted"),
-        "createNodeIterator()": ("dom_query_commands::new_iterator", "rows/iterator-under-removal"),
-        "createTreeWalker()": ("dom_query_commands::new_walker", "rows/walkers-and-filters"),
+        "createNodeIterator()": ("dom_query_commands::new_cursor", "rows/iterator-under-removal"),
+        "createTreeWalker()": ("dom_query_commands::new_cursor", "rows/walkers-and-filters"),
         "createElement()": ("dom_node_commands::new_element", "commands/making-each-kind-is-made"),
     }),
     ("4.7", "Interface DocumentFragment", {

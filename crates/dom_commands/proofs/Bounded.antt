@@ -1,12 +1,12 @@
 -- The ends of ranges are within their nodes also in the worlds on the way through a line, and in a world without its listeners;
 -- there too each owner has its first node.
-use Rattle.std.proofs.Common.{◌≡◌, List, [], ◌∷◌, fold, Option, Some, ◌∙◌, subst}
+use Rattle.std.proofs.Common.{◌≡◌, List, [], Option, Some, sym, ◌∙◌, subst}
 use Rattle.std.specs.Prelude.{is_some}
 use Rattle.dom_base.specs.declared.NodeName.{NodeName}
 use Rattle.dom_base.specs.declared.Owner.{Owner}
 use Rattle.dom_model.specs.Command.{EventWords}
-use Rattle.dom_model.specs.Dispatch.{dispatch_in, world_visit, visits_of}
-use Rattle.dom_model.specs.Listeners.{Listener, Visit, Dispatching, begun, after_invoke}
+use Rattle.dom_model.specs.Dispatch.{dispatch_in, visits_of}
+use Rattle.dom_model.specs.Listeners.{Listener, begun}
 use Rattle.dom_model.specs.Names.{name_eq}
 use Rattle.dom_model.specs.Part.{Part, first_node}
 use Rattle.dom_model.specs.Paths.{views}
@@ -15,6 +15,7 @@ use Rattle.dom_model.specs.World.{World, part_of, with_part}
 use Rattle.dom_model.proofs.PartLaws.{owner-part_of}
 use Rattle.dom_worlds.specs.Bounds.{HasBounds, IsBounded}
 use Rattle.dom_worlds.specs.Tables.{IsNodeIn}
+use Rattle.dom_worlds.proofs.TurnLemmas.{part_of-visits}
 use Rattle.dom_worlds.proofs.WorldLemmas.{each-part}
 use Rattle.dom_worlds.proofs.ListLemmas.{either_way}
 use Rattle.dom_commands.specs.WithListeners.{heard}
@@ -25,20 +26,11 @@ use Rattle.dom_commands.proofs.ListenerWorlds.{FitsIn, there-heard, part-heard}
 bounded-with_part : (w : World) (p : Part) (o : Owner) → p.owner ≡ o → HasBounds p → IsBounded w → IsBounded (with_part w p)
 bounded-with_part w p o e h b = each-part (λ x q. HasBounds q) w p o e h b
 
--- visits change listeners alone
-bounded-visits : (e : EventWords) (vs : List (Visit NodeName)) (w : World) (d : Dispatching NodeName) → IsBounded w →
-    IsBounded (fold (world_visit e) (w, d) vs).0
-bounded-visits e [] w d b = b
-bounded-visits e (v ∷ vs) w d b =
-    let o = v.current.owner in
-    let p = part_of w o in
-    let done = after_invoke name_eq e (record d { listeners = p.listeners }) v in
-    let q : Part = record p { listeners = done.listeners } in
-    bounded-visits e vs (with_part w q) done (bounded-with_part w q o (owner-part_of w o) (record { ranges = (b o).ranges; leaves = (b o).leaves }) b)
-
--- an event is dispatched
+-- an event is dispatched: its visits change listeners alone
 pub bounded-dispatch : (w : World) (x : NodeName) (related : Option NodeName) (e : EventWords) → IsBounded w → IsBounded (dispatch_in w x related e).run.0
-bounded-dispatch w x related e b = bounded-visits e (visits_of name_eq e.bubbles (views w x related e.composed)) w (begun []) b
+bounded-dispatch w x related e b = λ o.
+    subst HasBounds (sym (part_of-visits e (visits_of name_eq e.bubbles (views w x related e.composed)) (w, begun []) o))
+    (record { ranges = (b o).ranges; leaves = (b o).leaves })
 
 -- an owner's signals are taken, and its observers notified
 pub bounded-told : (w : World) (o : Owner) → IsBounded w → IsBounded (with_part (without_signals w o) (notified (part_of w o)))

@@ -37,7 +37,7 @@ use Rattle.dom_commands.proofs.ListenerWorlds.{FitsIn, part-heard, there-heard}
 use Rattle.dom_commands.proofs.HeardCommands.{refusal-heard, opening-heard, fits-opening}
 use Rattle.dom_commands.proofs.Listening.{OwnersAreThere, fits-own, own-listened, others-listened, own-unlistened, others-unlistened, at-listened}
 use Rattle.dom_commands.proofs.Listening.{at-unlistened}
-use Rattle.dom_commands.proofs.Machines.{seen_at, always_at}
+use Rattle.dom_commands.proofs.Machines.{seen_at, seen_reached, always_at}
 
 -- ---- the turn that a command opens
 
@@ -168,56 +168,55 @@ pub named_alike : (p q : Part) (x : NodeWord) → p.owner ≡ q.owner → named 
 named_alike p q (own k) e = ap (λ (o : Owner). node_of o k) e
 named_alike p q foreign e = ap (λ (o : Owner). node_of o 0) e
 
--- The node of a key, in a state with listeners.
-module _ (names : List NodeName) (ls : List (Listener ℕ)) (w : World) (apart : TellApart names) (there : OwnersAreThere names w)
-    (at : AllByRecursion (IsListenerAt names) ls)
-    (reached : IsReached false (heard (own_listeners names ls) w)) (o : Owner) (x : NodeWord) (k : ℕ) (within : k < length names)
-    (name : name_at names k ≡ named (part_of w o) x) where
-  its_owner : (name_at names k).owner ≡ o
-  its_owner = ap (λ (y : NodeName). y.owner) name ∙ owner-named w o x
+-- The node of a key, in a machine at rest that is seen as this state with these listeners.
+module _ (s : DocState) (ls : List (Listener ℕ)) (m : MachineNow) (seen : machine_now s ls ≡ m) (sound : IsAtRest m) (apart : TellApart s.names)
+    (there : OwnersAreThere s.names s.world) (o : Owner) (x : NodeWord) (k : ℕ) (within : k < length s.names)
+    (name : name_at s.names k ≡ named (part_of s.world o) x) where
+  its_owner : (name_at s.names k).owner ≡ o
+  its_owner = ap (λ (y : NodeName). y.owner) name ∙ owner-named s.world o x
 
-  its_name : (p : Part) → p.owner ≡ o → named p x ≡ name_at names k
-  its_name p e = named_alike p (part_of w o) x (e ∙ sym (owner-part_of w o)) ∙ sym name
+  its_name : (p : Part) → p.owner ≡ o → named p x ≡ name_at s.names k
+  its_name p e = named_alike p (part_of s.world o) x (e ∙ sym (owner-part_of s.world o)) ∙ sym name
 
   -- `listen`
-  pub listening : (words : ListenerWords) → MayAct w o (Command.listen x words) →
-      ChangesListeners names ls (with_listener_added nat_eq k words ls) w o (Command.listen x words)
+  pub listening : (words : ListenerWords) → MayAct s.world o (Command.listen x words) →
+      ChangesListeners s.names ls (with_listener_added nat_eq k words ls) s.world o (Command.listen x words)
   listening words may =
-      let y = name_at names k in
+      let y = name_at s.names k in
       record {
         there = there;
-        at = at;
-        at_now = at-listened names apart ls at k within words;
-        reached = reached;
+        at = seen_at s ls m seen sound;
+        at_now = at-listened s.names apart ls (seen_at s ls m seen sound) k within words;
+        reached = seen_reached s ls m seen sound;
         may = may;
         none = refl;
         change = with_listener_added name_eq y words;
         runs = λ v. refl;
         does = λ p e. ap (λ (z : NodeName). keeps (record p { listeners = with_listener_added name_eq z words p.listeners }) nothing) (its_name p e);
-        mine = subst (λ (a : Owner). own_listeners names (with_listener_added nat_eq k words ls) a ≡ with_listener_added name_eq y words
-            (own_listeners names ls a)) its_owner
-            (own-listened names apart ls at k within words);
-        others = λ q other. others-listened names apart ls at k within words q (λ e. other (sym its_owner ∙ e));
+        mine = subst (λ (a : Owner). own_listeners s.names (with_listener_added nat_eq k words ls) a ≡ with_listener_added name_eq y words
+            (own_listeners s.names ls a)) its_owner
+            (own-listened s.names apart ls (seen_at s ls m seen sound) k within words);
+        others = λ q other. others-listened s.names apart ls (seen_at s ls m seen sound) k within words q (λ e. other (sym its_owner ∙ e));
       }
 
   -- `unlisten`
-  pub unlistening : (event label : Word) (capture : Bool) → MayAct w o (Command.unlisten x event label capture) →
-      ChangesListeners names ls (with_listener_removed nat_eq k event label capture ls) w o (Command.unlisten x event label capture)
+  pub unlistening : (event label : Word) (capture : Bool) → MayAct s.world o (Command.unlisten x event label capture) →
+      ChangesListeners s.names ls (with_listener_removed nat_eq k event label capture ls) s.world o (Command.unlisten x event label capture)
   unlistening event label capture may =
-      let y = name_at names k in
+      let y = name_at s.names k in
       let less = with_listener_removed nat_eq k event label capture ls in
       record {
         there = there;
-        at = at;
-        at_now = at-unlistened names apart ls at k within event label capture;
-        reached = reached;
+        at = seen_at s ls m seen sound;
+        at_now = at-unlistened s.names apart ls (seen_at s ls m seen sound) k within event label capture;
+        reached = seen_reached s ls m seen sound;
         may = may;
         none = refl;
         change = with_listener_removed name_eq y event label capture;
         runs = λ v. refl;
         does = λ p e. ap (λ (z : NodeName). keeps (record p { listeners = with_listener_removed name_eq z event label capture p.listeners }) nothing)
             (its_name p e);
-        mine = subst (λ (a : Owner). own_listeners names less a ≡ with_listener_removed name_eq y event label capture (own_listeners names ls a)) its_owner
-            (own-unlistened names apart ls at k within event label capture);
-        others = λ q other. others-unlistened names apart ls at k within event label capture q (λ e. other (sym its_owner ∙ e));
+        mine = subst (λ (a : Owner). own_listeners s.names less a ≡ with_listener_removed name_eq y event label capture (own_listeners s.names ls a)) its_owner
+            (own-unlistened s.names apart ls (seen_at s ls m seen sound) k within event label capture);
+        others = λ q other. others-unlistened s.names apart ls (seen_at s ls m seen sound) k within event label capture q (λ e. other (sym its_owner ∙ e));
       }

@@ -65,31 +65,23 @@ module _ (of : Owner → List (Listener NodeName)) where
       plan_of_range (hearing of p) k f ≡ plan_of_range p k f
   of_range-hearing p k f same = λ j. of_range p k [] (λ r. same r j)
 
+  found-hearing : {A : Type 0} (p : Part) (f g : A → Effect) → ((a : A) → f a ≡ hearing_effect of (g a)) → (a : Option A) →
+      option_map_or f a (answers (hearing of p) nothing) ≡ hearing_effect of (option_map_or g a (answers p nothing))
+  found-hearing p f g same None = refl
+  found-hearing p f g same (Some a) = same a
+
   range-hearing : (p : Part) (k : ℕ) (f : Range NodeName → Effect) →
       of_range (hearing of p) k (answers (hearing of p) nothing) (λ r. hearing_effect of (f r)) ≡ hearing_effect of
       (of_range p k (answers p nothing) f)
-  range-hearing p k f = by (range_at p k)
-    where
-      by : (r : Option (Range NodeName)) →
-          option_map_or (λ r. hearing_effect of (f r)) r (answers (hearing of p) nothing) ≡ hearing_effect of (option_map_or f r (answers p nothing))
-      by None = refl
-      by (Some r) = refl
+  range-hearing p k f = found-hearing p (λ r. hearing_effect of (f r)) f (λ r. refl) (range_at p k)
 
   iterator-hearing : (p : Part) (k : ℕ) (f g : Iterator → Effect) → ((i : Iterator) → f i ≡ hearing_effect of (g i)) →
       of_iterator (hearing of p) k f ≡ hearing_effect of (of_iterator p k g)
-  iterator-hearing p k f g same = by (slice_get p.iterators k)
-    where
-      by : (i : Option Iterator) → option_map_or f i (answers (hearing of p) nothing) ≡ hearing_effect of (option_map_or g i (answers p nothing))
-      by None = refl
-      by (Some i) = same i
+  iterator-hearing p k f g same = found-hearing p f g same (slice_get p.iterators k)
 
   walker-hearing : (p : Part) (k : ℕ) (f g : Walker → Effect) → ((w : Walker) → f w ≡ hearing_effect of (g w)) →
       of_walker (hearing of p) k f ≡ hearing_effect of (of_walker p k g)
-  walker-hearing p k f g same = by (slice_get p.walkers k)
-    where
-      by : (w : Option Walker) → option_map_or f w (answers (hearing of p) nothing) ≡ hearing_effect of (option_map_or g w (answers p nothing))
-      by None = refl
-      by (Some w) = same w
+  walker-hearing p k f g same = found-hearing p f g same (slice_get p.walkers k)
 
   set-hearing : (p : Part) (k : ℕ) (w : Walker) (x : Option NodeName) (v : Value) →
       sets_walker (hearing of p) k w x v ≡ hearing_effect of (sets_walker p k w x v)

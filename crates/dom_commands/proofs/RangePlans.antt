@@ -21,8 +21,20 @@ use Rattle.dom_model.proofs.PartLaws.{owner-part_of}
 use Rattle.dom_mutation.specs.Doc.{Makes}
 use Rattle.dom_range_ops.specs.Takings.{new_names}
 use Rattle.dom_tree.specs.Forest.{name_at}
+use Rattle.dom_admission.specs.declared.admission.Operand.TheVariants as operands
 use Rattle.dom_admission.specs.Handled.{BeginsWith, KeepsNames}
 use Rattle.dom_admission.proofs.Handling.{with_part-same}
+use Rattle.dom_admission.proofs.Refusing.{IsNaming, namings}
+
+-- these commands name their range alone
+pub naming-text : (o : Owner) (k : ℕ) → IsNaming o (Command.range_text k) (operands.Range k ∷ [])
+naming-text o k = search namings
+
+pub naming-extract : (o : Owner) (k : ℕ) → IsNaming o (Command.extract k) (operands.Range k ∷ [])
+naming-extract o k = search namings
+
+pub naming-delete : (o : Owner) (k : ℕ) → IsNaming o (Command.delete k) (operands.Range k ∷ [])
+naming-delete o k = search namings
 
 -- names that stay in front of others are kept, however a command ends
 pub keeps_names : (names more : List NodeName) (r : Result (Unit {0}) Fault) → BeginsWith names more → KeepsNames names more r

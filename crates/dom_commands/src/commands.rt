@@ -9,7 +9,9 @@ use crate::ranging::perform_on_range;
 use dom_admission::State;
 use dom_base::{Fault, Owner};
 use dom_node_commands::{attributes, data, making, moving, shadows};
-use dom_query_commands::{cursors, microtasks, observing, reads, selecting};
+use dom_query_commands::cursors::{self, Cursor};
+use dom_query_commands::things::{self, Request};
+use dom_query_commands::{microtasks, observing, reads, selecting};
 use dom_reader::Command;
 
 /// A command that neither reads listeners nor changes them, by its handler.
@@ -79,17 +81,17 @@ fn ask(state: &mut State, owner: Owner, command: Command, out: &mut Vec<u8>) -> 
         Command::ShadowRoot(element) => shadows::shadow_root(state, owner, element, out),
         Command::SlotOf(node) => shadows::slot_of(state, owner, node, out),
         Command::Assigned(slot) => shadows::assigned(state, owner, slot, out),
-        Command::IteratorNew(root, filter) => cursors::new_iterator(
-            state, owner, root, filter, out,
-        ),
-        Command::IteratorNext(number) => cursors::next_of_iterator(state, owner, number, out),
-        Command::IteratorPrevious(number) => cursors::previous_of_iterator(
-            state, owner, number, out,
-        ),
-        Command::IteratorAt(number) => cursors::place_of_iterator(state, owner, number, out),
-        Command::WalkerNew(root, filter) => cursors::new_walker(state, owner, root, filter, out),
-        Command::Walk(number, step) => cursors::walk(state, owner, number, step, out),
-        Command::WalkerAt(number) => cursors::place_of_walker(state, owner, number, out),
+        Command::IteratorNew(root, filter) => {
+            cursors::new_cursor(state, owner, Cursor::Iterator, (root, filter), out)
+        }
+        Command::IteratorNext(i) => things::perform(state, owner, i, Request::Next, out),
+        Command::IteratorPrevious(i) => things::perform(state, owner, i, Request::Previous, out),
+        Command::IteratorAt(i) => things::perform(state, owner, i, Request::Reference, out),
+        Command::WalkerNew(root, filter) => {
+            cursors::new_cursor(state, owner, Cursor::Walker, (root, filter), out)
+        }
+        Command::Walk(w, step) => things::perform(state, owner, w, Request::Walk(step), out),
+        Command::WalkerAt(w) => things::perform(state, owner, w, Request::Current, out),
         Command::WalkerSet(number, node) => cursors::set_walker(state, owner, number, node, out),
         Command::Query(node, text) => selecting::query(state, owner, node, text, out),
         Command::Matches(element, text) => selecting::matches(state, owner, element, text, out),
@@ -97,7 +99,7 @@ fn ask(state: &mut State, owner: Owner, command: Command, out: &mut Vec<u8>) -> 
         Command::Observe(number, node, words) => observing::observe(
             state, owner, number, node, words, out,
         ),
-        Command::Disconnect(number) => observing::disconnect(state, owner, number, out),
+        Command::Disconnect(o) => things::perform(state, owner, o, Request::Disconnect, out),
         Command::Take(number) => observing::take_records(state, owner, number, out),
         other => perform_on_range(state, owner, other, out),
     }

@@ -1,21 +1,18 @@
 //! The commands on live ranges (DOM Standard, 5.5 Interface Range).
-ghost use Rattle.std.specs.Prelude.{◌≡◌, true};
-ghost use Rattle.dom_model.specs.Command.{range_new, range_start, range_end, range_collapse, range_drop, range_get, range_text};
+ghost use Rattle.std.specs.Prelude.{◌≡◌, true, if◌then◌else◌};
+ghost use Rattle.dom_model.specs.Command.{range_new, range_start, range_end, range_text};
 ghost use Rattle.dom_model.specs.Command.{extract as extract_command, delete as delete_command, insert_node as insert_node_command};
-ghost use Rattle.dom_model.specs.Ranges.{at};
-ghost use Rattle.dom_printer.specs.Replies.{boundary_view};
 ghost use Rattle.dom_reader.specs.Views.{command_view, word_view};
 ghost use Rattle.dom_commands.specs.RangeWorlds.{HasFirstNodes};
 ghost use Rattle.dom_admission.specs.Handled.{KeepsNames, IsHandled};
 ghost use Rattle.dom_commands.specs.CommandGroups.{is_range};
-ghost use Rattle.dom_mutation.specs.Doc.{HoldsNode, name_in};
 
 use dom_admission::{Operand, State};
 use dom_base::{Fault, Owner};
-use dom_printer::{Boundary, Value};
+use dom_printer::Value;
+use dom_query_commands::things::{self, Request};
 use dom_range_ops::range_text;
 use dom_reader::{Command, NodeWord};
-use node_arena::Key;
 
 /// A command on live ranges, by its handler.
 pub(crate) fn perform_on_range(
@@ -32,16 +29,20 @@ pub(crate) fn perform_on_range(
     match command {
         Command::RangeNew => new_range(state, owner, out),
         Command::RangeStart(number, node, offset) => {
-            set_range_start(state, owner, number, node, offset, out)
+            set_boundary(state, owner, number, true, (node, offset), out)
         }
         Command::RangeEnd(number, node, offset) => {
-            set_range_end(state, owner, number, node, offset, out)
+            set_boundary(state, owner, number, false, (node, offset), out)
         }
-        Command::RangeCollapse(number, to_start) => {
-            collapse_range(state, owner, number, to_start, out)
-        }
-        Command::RangeDrop(number) => drop_range(state, owner, number, out),
-        Command::RangeGet(number) => ends_of_range(state, owner, number, out),
+        Command::RangeCollapse(number, to_start) => things::perform(
+            state,
+            owner,
+            number,
+            Request::Collapse(to_start),
+            out,
+        ),
+        Command::RangeDrop(number) => { things::perform(state, owner, number, Request::Drop, out) }
+        Command::RangeGet(number) => things::perform(state, owner, number, Request::Ends, out),
         Command::RangeText(number) => text_of_range(state, owner, number, out),
         Command::Extract(number) => extract(state, owner, number, out),
         Command::Delete(number) => delete(state, owner, number, out),
@@ -62,97 +63,34 @@ fn new_range(state: &mut State, owner: Owner, out: &mut Vec<u8>) -> Result<(), F
     state.accept(owner, &Value::Range(number), out)
 }
 
-/// `range-start R N OFFSET`: another start of a range; its end follows where it would stand wrongly.
-fn set_range_start(
+/// `range-start R N OFFSET`: another start of a range, or `range-end R N OFFSET`: another end; its other one follows where it would stand
+/// wrongly.
+fn set_boundary(
     state: &mut State,
     owner: Owner,
     number: u32,
-    node: NodeWord,
-    offset: u32,
+    is_start: bool,
+    point: (NodeWord, u32),
     out: &mut Vec<u8>,
 ) -> Result<(), Fault>
-    ensures handled { IsHandled owner (range_start number (word_view node) offset) state.old.world state.new.world out.old.items out.new.items result }
+    ensures handled { IsHandled owner (if is_start then range_start number (word_view point.0) point.1 else range_end number (word_view point.0) point.1)
+        state.old.world state.new.world out.old.items out.new.items result }
     ensures names { KeepsNames state.old.names state.new.names result }
 {
+    let (node, offset) = point;
     state.admit(owner, &[Operand::Any(node), Operand::Range(number)])?;
     let node = state.key(owner, node);
-    let set = state
-        .doc
-        .range_set_start(owner, number, node, offset as usize);
-    match set {
+    let offset = offset as usize;
+    if is_start {
+        return match state.doc.range_set_start(owner, number, node, offset) {
+            Ok(()) => state.accept(owner, &Value::Nothing, out),
+            Err(refusal) => Err(Fault::Refused(refusal)),
+        };
+    }
+    match state.doc.range_set_end(owner, number, node, offset) {
         Ok(()) => state.accept(owner, &Value::Nothing, out),
         Err(refusal) => Err(Fault::Refused(refusal)),
     }
-}
-
-/// `range-end R N OFFSET`: another end of a range; its start follows where it would stand wrongly.
-fn set_range_end(
-    state: &mut State,
-    owner: Owner,
-    number: u32,
-    node: NodeWord,
-    offset: u32,
-    out: &mut Vec<u8>,
-) -> Result<(), Fault>
-    ensures handled { IsHandled owner (range_end number (word_view node) offset) state.old.world state.new.world out.old.items out.new.items result }
-    ensures names { KeepsNames state.old.names state.new.names result }
-{
-    state.admit(owner, &[Operand::Any(node), Operand::Range(number)])?;
-    let node = state.key(owner, node);
-    let set = state
-        .doc
-        .range_set_end(owner, number, node, offset as usize);
-    match set {
-        Ok(()) => state.accept(owner, &Value::Nothing, out),
-        Err(refusal) => Err(Fault::Refused(refusal)),
-    }
-}
-
-/// `range-collapse R start` or `range-collapse R end`: both ends of a range go to its start, or to its end.
-fn collapse_range(
-    state: &mut State,
-    owner: Owner,
-    number: u32,
-    to_start: bool,
-    out: &mut Vec<u8>,
-) -> Result<(), Fault>
-    ensures handled { IsHandled owner (range_collapse number to_start) state.old.world state.new.world out.old.items out.new.items result }
-    ensures names { KeepsNames state.old.names state.new.names result }
-{
-    state.admit(owner, &[Operand::Range(number)])?;
-    state.doc.range_collapse(owner, number, to_start);
-    state.accept(owner, &Value::Nothing, out)
-}
-
-/// `range-drop R`: a range goes, and its number is not given again.
-fn drop_range(state: &mut State, owner: Owner, number: u32, out: &mut Vec<u8>) -> Result<(), Fault>
-    ensures handled { IsHandled owner (range_drop number) state.old.world state.new.world out.old.items out.new.items result }
-    ensures names { KeepsNames state.old.names state.new.names result }
-{
-    state.admit(owner, &[Operand::Range(number)])?;
-    state.doc.range_remove(owner, number);
-    state.accept(owner, &Value::Nothing, out)
-}
-
-/// `range-get R`: the start and the end of a range, each a node and an offset.
-fn ends_of_range(
-    state: &mut State,
-    owner: Owner,
-    number: u32,
-    out: &mut Vec<u8>,
-) -> Result<(), Fault>
-    ensures handled { IsHandled owner (range_get number) state.old.world state.new.world out.old.items out.new.items result }
-    ensures names { KeepsNames state.old.names state.new.names result }
-{
-    state.admit(owner, &[Operand::Range(number)])?;
-    let points = state.doc.range_points(owner, number);
-    let (start, start_offset) = points.start;
-    let (end, end_offset) = points.end;
-    let value = Value::Boundaries {
-        start: boundary(state, start, start_offset),
-        end: boundary(state, end, end_offset),
-    };
-    state.accept(owner, &value, out)
 }
 
 /// `range-text R`: the text of a range.
@@ -206,15 +144,4 @@ fn insert_node(
     let node = state.key(owner, node);
     dom_range_ops::insert_node(&mut state.doc, owner, number, node)?;
     state.accept(owner, &Value::Nothing, out)
-}
-
-/// A boundary point with the name of its node.
-fn boundary(state: &State, node: Key, offset: usize) -> Boundary
-    requires { HoldsNode state.now node }
-    ensures { boundary_view result ≡ at (name_in state.now node) offset }
-{
-    Boundary {
-        node: state.doc.forest().name(node),
-        offset,
-    }
 }

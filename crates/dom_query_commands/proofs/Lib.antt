@@ -2,6 +2,7 @@ mod Connecting
 mod Notices
 mod ObserverLaws
 mod Places
+mod Requesting
 mod SelectorLaws
 mod Siblings
 mod SpotReads

@@ -11,7 +11,13 @@ use Rattle.dom_query_commands.specs.Recorded.{record_lines}
 use Rattle.dom_query_commands.proofs.Notices.{map_twice}
 use Rattle.dom_model.specs.DocumentMachine.{accepted}
 use Rattle.dom_model.specs.Turns.{opening_turn}
+use Rattle.dom_admission.specs.declared.admission.Operand.TheVariants.{Observer}
 use Rattle.dom_admission.specs.Turned.{with_turn}
+use Rattle.dom_admission.proofs.Refusing.{IsNaming, namings}
+
+-- the taking of records names its observer alone
+pub naming-take : (o : Owner) (k : ℕ) → IsNaming o (Command.take k) (Observer k ∷ [])
+naming-take o k = search namings
 
 -- the lines of an observer's records
 pub record_lines_are : (d : DocState) (o : Owner) (k : ℕ) (records : List Change) →

@@ -79,20 +79,21 @@ module _ (ts : Trees) (owned : AreOwned ts) (o : Owner) where
   sibling_own : (x y : NodeName) → x.owner ≡ o → In y (siblings ts x) → y.owner ≡ o
   sibling_own x y own = beside x y own (parent_of ts x) (stays_own ts owned o x own).parent
 
-  -- the elements before and behind one
+  -- the elements among some of its siblings
+  elements_own : (some : List NodeName → List NodeName) → ((y : NodeName) (ys : List NodeName) → In y (some ys) → In y ys) → (x : NodeName) →
+      x.owner ≡ o → filter (λ y. is_element (kind_of ts y)) (some (siblings ts x))
+      ≡ filter (λ y. is_element (kind_of (trees_of_owner o ts) y)) (some (siblings (trees_of_owner o ts) x))
+  elements_own some among x own =
+      filter-same (λ y. is_element (kind_of ts y)) (λ y. is_element (kind_of (trees_of_owner o ts) y)) (some (siblings ts x))
+      (λ y i. kind_own y (sibling_own x y own (among y (siblings ts x) i)))
+      ∙ ap (λ (ys : List NodeName). filter (λ y. is_element (kind_of (trees_of_owner o ts) y)) (some ys)) (read_own ts owned o x own).sibling_list
+
+  -- those before one, and those behind
   before_own : (x : NodeName) → x.owner ≡ o → elements_before ts x ≡ elements_before (trees_of_owner o ts) x
-  before_own x own =
-      filter-same (λ y. is_element (kind_of ts y)) (λ y. is_element (kind_of (trees_of_owner o ts) y)) (items_before name_eq x (siblings ts x))
-      (λ y i. kind_own y (sibling_own x y own (before-in x y (siblings ts x) i)))
-      ∙ ap (λ (ys : List NodeName). filter (λ y. is_element (kind_of (trees_of_owner o ts) y)) (items_before name_eq x ys))
-      (read_own ts owned o x own).sibling_list
+  before_own x own = elements_own (items_before name_eq x) (before-in x) x own
 
   behind_own : (x : NodeName) → x.owner ≡ o → elements_behind ts x ≡ elements_behind (trees_of_owner o ts) x
-  behind_own x own =
-      filter-same (λ y. is_element (kind_of ts y)) (λ y. is_element (kind_of (trees_of_owner o ts) y)) (items_after name_eq x (siblings ts x))
-      (λ y i. kind_own y (sibling_own x y own (after-in x y (siblings ts x) i)))
-      ∙ ap (λ (ys : List NodeName). filter (λ y. is_element (kind_of (trees_of_owner o ts) y)) (items_after name_eq x ys))
-      (read_own ts owned o x own).sibling_list
+  behind_own x own = elements_own (items_after name_eq x) (after-in x) x own
 
   -- simple selectors
   simple_own : (x : NodeName) → x.owner ≡ o → (s : Simple) → simple_matches ts x s ≡ simple_matches (trees_of_owner o ts) x s

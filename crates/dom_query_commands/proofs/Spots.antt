@@ -97,6 +97,18 @@ spot_there (tree n c r) above after x h = elim (cases_Bool (name_eq n.name x)) [
 
 -- ---- from spot to spot
 
+-- From a spot to another one, where these trees are its trees of a kind, to which it leads at the first node too.
+module _ (to : Trees) (trees_at : Spot → Trees) (next : Spot → Spot)
+    (first : (m : Node) (d q : Trees) (above : List NodeName) (after : List TreeStep) → trees_at (spot_at m d q above after) ≡ to →
+    IsSpot (tree m d q) above after (next (spot_at m d q above after))) where
+  IsSpot-next_to : (ts : Trees) (above : List NodeName) (after : List TreeStep) (s : Spot) → IsSpot ts above after s → trees_at s ≡ to →
+      IsSpot ts above after (next s)
+  IsSpot-next_to none above after s at e = absurd at
+  IsSpot-next_to (tree m d q) above after s (inl h) e =
+      subst (λ (t : Spot). trees_at t ≡ to → IsSpot (tree m d q) above after (next t)) (sym h) (first m d q above after) e
+  IsSpot-next_to (tree m d q) above after s (inr (inl i)) e = inr (inl (IsSpot-next_to d (m.name ∷ above) (closed q after) s i e))
+  IsSpot-next_to (tree m d q) above after s (inr (inr i)) e = inr (inr (IsSpot-next_to q above after s i e))
+
 -- the first child of a node
 abbrev pub child_spot : Spot → Node → Trees → Trees → Spot
 child_spot s n c r = spot_at n c r (s.node.name ∷ s.above) (closed s.right s.after)
@@ -104,13 +116,9 @@ child_spot s n c r = spot_at n c r (s.node.name ∷ s.above) (closed s.right s.a
 -- it is a spot there too
 pub IsSpot-child : {n : Node} {c r : Trees} (ts : Trees) (above : List NodeName) (after : List TreeStep) (s : Spot) → IsSpot ts above after s →
     s.below ≡ tree n c r → IsSpot ts above after (child_spot s n c r)
-IsSpot-child none above after s at e = absurd at
-IsSpot-child {n = n} {c = c} {r = r} (tree m d q) above after s (inl h) e =
-    let P : Spot → Type 0 = λ t. t.below ≡ tree n c r → IsSpot (tree m d q) above after (child_spot t n c r) in
-    subst P (sym h) (λ f. inr (inl (subst
-    (λ (ts : Trees). IsSpot ts (m.name ∷ above) (closed q after) (spot_at n c r (m.name ∷ above) (closed q after))) (sym f) (inl refl)))) e
-IsSpot-child (tree m d q) above after s (inr (inl i)) e = inr (inl (IsSpot-child d (m.name ∷ above) (closed q after) s i e))
-IsSpot-child (tree m d q) above after s (inr (inr i)) e = inr (inr (IsSpot-child q above after s i e))
+IsSpot-child {n = n} {c = c} {r = r} =
+    IsSpot-next_to (tree n c r) (λ s. s.below) (λ s. child_spot s n c r) (λ m d q above after e. inr (inl (subst
+    (λ (ts : Trees). IsSpot ts (m.name ∷ above) (closed q after) (spot_at n c r (m.name ∷ above) (closed q after))) (sym e) (inl refl))))
 
 -- the sibling just after a node
 abbrev pub next_spot : Spot → Node → Trees → Trees → Spot
@@ -119,12 +127,9 @@ next_spot s n c r = spot_at n c r s.above s.after
 -- it is a spot there too
 pub IsSpot-next : {n : Node} {c r : Trees} (ts : Trees) (above : List NodeName) (after : List TreeStep) (s : Spot) → IsSpot ts above after s →
     s.right ≡ tree n c r → IsSpot ts above after (next_spot s n c r)
-IsSpot-next none above after s at e = absurd at
-IsSpot-next {n = n} {c = c} {r = r} (tree m d q) above after s (inl h) e =
-    let P : Spot → Type 0 = λ t. t.right ≡ tree n c r → IsSpot (tree m d q) above after (next_spot t n c r) in
-    subst P (sym h) (λ f. inr (inr (subst (λ (ts : Trees). IsSpot ts above after (spot_at n c r above after)) (sym f) (inl refl)))) e
-IsSpot-next (tree m d q) above after s (inr (inl i)) e = inr (inl (IsSpot-next d (m.name ∷ above) (closed q after) s i e))
-IsSpot-next (tree m d q) above after s (inr (inr i)) e = inr (inr (IsSpot-next q above after s i e))
+IsSpot-next {n = n} {c = c} {r = r} =
+    IsSpot-next_to (tree n c r) (λ s. s.right) (λ s. next_spot s n c r)
+    (λ m d q above after e. inr (inr (subst (λ (ts : Trees). IsSpot ts above after (spot_at n c r above after)) (sym e) (inl refl))))
 
 -- a spot of a root, with what stands above and behind all trees
 abbrev pub IsRoot : Trees → List NodeName → List TreeStep → Spot → Type 0

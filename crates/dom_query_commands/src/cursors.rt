@@ -1,131 +1,77 @@
 //! The commands on iterators and walkers.
-ghost use Rattle.std.specs.Prelude.{◌≡◌, ◌<◌, if◌then◌else◌};
-ghost use Rattle.dom_model.specs.Command.{iterator_new, iterator_next, iterator_previous, iterator_at, walker_new, walk, walker_at, walker_set};
+ghost use Rattle.std.specs.Prelude.{◌≡◌, ◌<◌, ◌↔◌, ◌⊎◌, if◌then◌else◌, true, Err, IfOk, IfErr, OnErr};
+ghost use Rattle.dom_base.specs.declared.Refusal.TheVariants.{Limit};
+ghost use Rattle.dom_model.specs.Command.{own, walker_set};
+ghost use Rattle.dom_model.specs.CommandRefusals.{past_limit};
+ghost use Rattle.dom_model.specs.World.{part_of};
+ghost use Rattle.dom_printer.specs.Replies.{value_view};
 ghost use Rattle.dom_reader.specs.Views.{word_view, filter_view, show_view};
 ghost use Rattle.dom_traversal.specs.Filters.{filter_of, show_of};
 ghost use Rattle.dom_admission.specs.Handled.{KeepsNames, IsHandled};
+ghost use Rattle.dom_mutation.specs.Doc.{HoldsNode, Makes, name_in, owner_in};
+ghost use Rattle.dom_query_commands.specs.Requests.{cursor_new, cursor_count};
 
-use crate::reads::node_or_null;
 use dom_admission::{Operand, State};
-use dom_base::{Fault, Move, Owner};
+use dom_base::{Fault, Owner};
+use dom_mutation::Doc;
 use dom_printer::Value;
 use dom_reader::{Filter, NodeWord, Show};
 use dom_traversal::Filter as NodeFilter;
+use node_arena::Key;
 
-/// `iter-new N SHOW [FILTER]`: a new iterator, before its root.
-pub fn new_iterator(
+/// What goes from node to node below a root.
+#[derive(Clone, Copy)]
+pub enum Cursor {
+    Iterator,
+    Walker,
+}
+
+/// `iter-new N SHOW [FILTER]`: a new iterator, before its root, or `walk-new N SHOW [FILTER]`: a new walker, at its root.
+pub fn new_cursor(
     state: &mut State,
     owner: Owner,
-    root: NodeWord,
-    filter: Filter,
+    cursor: Cursor,
+    words: (NodeWord, Filter),
     out: &mut Vec<u8>,
 ) -> Result<(), Fault>
-    ensures handled { IsHandled owner (iterator_new (word_view root) (filter_view filter)) state.old.world state.new.world out.old.items
+    ensures handled { IsHandled owner (cursor_new cursor (word_view words.0) (filter_view words.1)) state.old.world state.new.world out.old.items
         out.new.items result }
     ensures names { KeepsNames state.old.names state.new.names result }
 {
+    let (root, filter) = words;
     state.admit(owner, &[Operand::Any(root)])?;
     let root = state.key(owner, root);
-    let number = state.doc.iter_make(owner, root, node_filter(filter))?;
-    state.accept(owner, &Value::Iterator(number), out)
-}
-
-/// `iter-next I`: the next node of an iterator, or `null`.
-pub fn next_of_iterator(
-    state: &mut State,
-    owner: Owner,
-    number: u32,
-    out: &mut Vec<u8>,
-) -> Result<(), Fault>
-    ensures handled { IsHandled owner (iterator_next number) state.old.world state.new.world out.old.items out.new.items result }
-    ensures names { KeepsNames state.old.names state.new.names result }
-{
-    state.admit(owner, &[Operand::Iterator(number)])?;
-    let next = state.doc.iter_next(owner, number);
-    let value = node_or_null(state, next);
+    let value = make(&mut state.doc, owner, cursor, root, node_filter(filter))?;
     state.accept(owner, &value, out)
 }
 
-/// `iter-prev I`: the node before, of an iterator, or `null`.
-pub fn previous_of_iterator(
-    state: &mut State,
+/// Makes an iterator or a walker at its root, and answers its number.
+fn make(
+    doc: &mut Doc,
     owner: Owner,
-    number: u32,
-    out: &mut Vec<u8>,
-) -> Result<(), Fault>
-    ensures handled { IsHandled owner (iterator_previous number) state.old.world state.new.world out.old.items out.new.items result }
-    ensures names { KeepsNames state.old.names state.new.names result }
+    cursor: Cursor,
+    root: Key,
+    filter: NodeFilter,
+) -> Result<Value<'static>, Fault>
+    requires root_is_node { HoldsNode doc.old root }
+    requires own { owner_in doc.old root ≡ owner }
+    ensures names { doc.new.names ≡ doc.old.names }
+    ensures world { IfOk result (λ value. Makes owner (cursor_new cursor (own (name_in doc.old root).number) (filter_of filter)) (value_view value)
+        doc.old.world doc.new.world) }
+    ensures limit { (result ≡ Err (Fault.Refused Limit)) ↔ (past_limit (cursor_count cursor (part_of doc.old.world owner)) 1 ≡ true) }
+    ensures other { IfErr result (λ fault. (fault ≡ Fault.Refused Limit) ⊎ (fault ≡ Fault.Memory)) }
+    ensures err { OnErr result (doc.new ≡ doc.old) }
 {
-    state.admit(owner, &[Operand::Iterator(number)])?;
-    let previous = state.doc.iter_previous(owner, number);
-    let value = node_or_null(state, previous);
-    state.accept(owner, &value, out)
-}
-
-/// `iter-at I`: the reference of an iterator, and whether the iterator stands before it or after it.
-pub fn place_of_iterator(
-    state: &mut State,
-    owner: Owner,
-    number: u32,
-    out: &mut Vec<u8>,
-) -> Result<(), Fault>
-    ensures handled { IsHandled owner (iterator_at number) state.old.world state.new.world out.old.items out.new.items result }
-    ensures names { KeepsNames state.old.names state.new.names result }
-{
-    state.admit(owner, &[Operand::Iterator(number)])?;
-    let (reference, before) = state.doc.iter_at(owner, number);
-    let node = state.doc.forest().name(reference);
-    state.accept(owner, &Value::Reference { node, before }, out)
-}
-
-/// `walk-new N SHOW [FILTER]`: a new walker, at its root.
-pub fn new_walker(
-    state: &mut State,
-    owner: Owner,
-    root: NodeWord,
-    filter: Filter,
-    out: &mut Vec<u8>,
-) -> Result<(), Fault>
-    ensures handled { IsHandled owner (walker_new (word_view root) (filter_view filter)) state.old.world state.new.world out.old.items out.new.items result }
-    ensures names { KeepsNames state.old.names state.new.names result }
-{
-    state.admit(owner, &[Operand::Any(root)])?;
-    let root = state.key(owner, root);
-    let number = state.doc.walk_make(owner, root, node_filter(filter))?;
-    state.accept(owner, &Value::Walker(number), out)
-}
-
-/// `walk W MOVE`: the node to which a walker moves, or `null`.
-pub fn walk(
-    state: &mut State,
-    owner: Owner,
-    number: u32,
-    step: Move,
-    out: &mut Vec<u8>,
-) -> Result<(), Fault>
-    ensures handled { IsHandled owner (walk number step) state.old.world state.new.world out.old.items out.new.items result }
-    ensures names { KeepsNames state.old.names state.new.names result }
-{
-    state.admit(owner, &[Operand::Walker(number)])?;
-    let moved = state.doc.walk(owner, number, step);
-    let value = node_or_null(state, moved);
-    state.accept(owner, &value, out)
-}
-
-/// `walk-at W`: the current node of a walker.
-pub fn place_of_walker(
-    state: &mut State,
-    owner: Owner,
-    number: u32,
-    out: &mut Vec<u8>,
-) -> Result<(), Fault>
-    ensures handled { IsHandled owner (walker_at number) state.old.world state.new.world out.old.items out.new.items result }
-    ensures names { KeepsNames state.old.names state.new.names result }
-{
-    state.admit(owner, &[Operand::Walker(number)])?;
-    let current = state.doc.walk_at(owner, number);
-    let node = state.doc.forest().name(current);
-    state.accept(owner, &Value::Node(node), out)
+    match cursor {
+        Cursor::Iterator => match doc.iter_make(owner, root, filter) {
+            Ok(number) => Ok(Value::Iterator(number)),
+            Err(fault) => Err(fault),
+        },
+        Cursor::Walker => match doc.walk_make(owner, root, filter) {
+            Ok(number) => Ok(Value::Walker(number)),
+            Err(fault) => Err(fault),
+        },
+    }
 }
 
 /// `walk-set W N`: a node becomes the current one of a walker.

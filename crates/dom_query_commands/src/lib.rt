@@ -9,4 +9,5 @@ pub mod observing;
 pub mod reads;
 mod records;
 pub mod selecting;
+pub mod things;
 mod tree_text;

@@ -1,6 +1,6 @@
 //! The commands on mutation observers (DOM Standard, 4.3 Mutation observers).
 ghost use Rattle.std.specs.Prelude.{◌≡◌};
-ghost use Rattle.dom_model.specs.Command.{observer, observe, disconnect, take};
+ghost use Rattle.dom_model.specs.Command.{observer, observe, take};
 ghost use Rattle.dom_observers.specs.Views.{words_of};
 ghost use Rattle.dom_reader.specs.Views.{word_view, observe_view};
 ghost use Rattle.dom_admission.specs.Handled.{KeepsNames, IsHandled};
@@ -40,21 +40,6 @@ pub fn observe(
     state
         .doc
         .observe(owner, number, node, observer_options(words))?;
-    state.accept(owner, &Value::Nothing, out)
-}
-
-/// `disconnect O`: an observer loses its registrations and its records.
-pub fn disconnect(
-    state: &mut State,
-    owner: Owner,
-    number: u32,
-    out: &mut Vec<u8>,
-) -> Result<(), Fault>
-    ensures handled { IsHandled owner (disconnect number) state.old.world state.new.world out.old.items out.new.items result }
-    ensures names { KeepsNames state.old.names state.new.names result }
-{
-    state.admit(owner, &[Operand::Observer(number)])?;
-    state.doc.disconnect(owner, number);
     state.accept(owner, &Value::Nothing, out)
 }
 

@@ -14,6 +14,7 @@ ghost use Rattle.dom_tree.specs.Forest.{IsNode, name_of};
 ghost use Rattle.dom_admission.specs.Handled.{KeepsNames, IsHandled};
 ghost use Rattle.dom_mutation.specs.Doc.{HoldsNode, name_in};
 
+use crate::things;
 use crate::tree_text::tree_steps;
 use dom_admission::{Operand, State};
 use dom_base::{Fault, NodeName, Owner};
@@ -129,14 +130,11 @@ fn reply_tree(
 }
 
 /// A node or `null`, for a reply.
-pub(crate) fn node_or_null(state: &State, node: Option<Key>) -> Value<'static>
+fn node_or_null(state: &State, node: Option<Key>) -> Value<'static>
     requires { ForSome node (HoldsNode state.now) }
     ensures { value_view result ≡ node_or_null (option_map (name_in state.now) node) }
 {
-    match node {
-        Some(key) => Value::Node(state.doc.forest().name(key)),
-        None => Value::Null,
-    }
+    things::node_or_null(&state.doc, node)
 }
 
 /// The parent of a node that is there.

@@ -1,5 +1,4 @@
-use Rattle.std.proofs.Common.{◌∷◌, ◌∙◌, [], ap, refl, sym}
-use Rattle.dom_model.specs.Command.{Command}
+use Rattle.std.proofs.Common.{◌∙◌, ap, refl, sym}
 use Rattle.dom_model.specs.Effects.{changes, plan_of_range}
 use Rattle.dom_model.specs.Extract.{extracting}
 use Rattle.dom_model.specs.Output.{a_node}
@@ -7,14 +6,12 @@ use Rattle.dom_model.specs.World.{part_of}
 use Rattle.dom_admission.specs.declared.admission.Operand.TheVariants.{Range}
 use Rattle.dom_admission.proofs.Handling.{may_act, plans, refused, thing_there}
 use Rattle.dom_admission.proofs.OwnRefusals.{none_stopped}
-use Rattle.dom_admission.proofs.Refusing.{namings}
-use Rattle.dom_commands.proofs.RangePlans.{extracted-kept, extracted-name, keeps_names}
+use Rattle.dom_commands.proofs.RangePlans.{extracted-kept, extracted-name, keeps_names, naming-extract}
 use Rattle.dom_commands.proofs.ranging.extract.Goals as goal
 
 pub returns-in_err-admit-clause-handled : goal.returns-in_err-admit-clause-handled
 returns-in_err-admit-clause-handled c =
-    refused _ c.args.owner (Command.extract c.args.number) (Range c.args.number ∷ []) _ _ (search namings) c.admit.ensures c.in_err-admit.was
-    c.from_residual.ensures.1
+    refused _ _ _ _ _ _ (naming-extract c.args.owner c.args.number) c.admit.ensures c.in_err-admit.was c.from_residual.ensures.1
 
 pub returns-clause-handled : goal.returns-clause-handled
 returns-clause-handled c =
@@ -23,7 +20,7 @@ returns-clause-handled c =
     let p = part_of d.world c.args.owner in
     let known = thing_there _ c.state.inside.doc _ c.state.view_is _ (Range c.args.number) c.admit.ensures c.in_ok-admit.was in
     let fragment = extracted-name d.names c.extract.new.doc.names d.world c.args.owner c.args.number known e.names _ e.key in
-    plans _ c.state.inside.doc _ c.state.view_is (may_act _ _ _ (Range c.args.number ∷ []) (search namings) c.admit.ensures c.in_ok-admit.was) _ _ _ _
+    plans _ c.state.inside.doc _ c.state.view_is (may_act _ _ _ _ (naming-extract c.args.owner c.args.number) c.admit.ensures c.in_ok-admit.was) _ _ _ _
     (none_stopped refl c.in_ok-fragment.fragment e.stopped) refl
     (ap (changes (plan_of_range p c.args.number (extracting c.args.number))) (ap a_node (sym (rw c.forest.ensures.names at c.name-made.ensures.at) ∙ fragment)))
     e.world c.accept.ensures.done

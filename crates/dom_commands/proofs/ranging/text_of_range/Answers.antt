@@ -1,22 +1,18 @@
-use Rattle.std.proofs.Common.{◌∷◌, [], ap, refl}
-use Rattle.dom_model.specs.Command.{Command}
+use Rattle.std.proofs.Common.{ap, refl}
 use Rattle.dom_model.specs.Output.{a_string}
 use Rattle.dom_admission.specs.declared.admission.Operand.TheVariants.{Range}
 use Rattle.dom_admission.proofs.Handling.{may_act, refused, tells, thing_there}
-use Rattle.dom_admission.proofs.Refusing.{namings}
-use Rattle.dom_commands.proofs.RangePlans.{text_told}
+use Rattle.dom_commands.proofs.RangePlans.{naming-text, text_told}
 use Rattle.dom_commands.proofs.ranging.text_of_range.Goals as goal
 
 pub returns-in_err-admit-clause-handled : goal.returns-in_err-admit-clause-handled
 returns-in_err-admit-clause-handled c =
-    refused _ c.args.owner (Command.range_text c.args.number) (Range c.args.number ∷ []) _ _ (search namings) c.admit.ensures c.in_err-admit.was
-    c.from_residual.ensures.1
+    refused _ _ _ _ _ _ (naming-text c.args.owner c.args.number) c.admit.ensures c.in_err-admit.was c.from_residual.ensures.1
 
 pub returns-clause-handled : goal.returns-clause-handled
 returns-clause-handled c =
-    let d = c.state.inside.doc in
     let known = thing_there _ c.state.inside.doc _ c.state.view_is _ (Range c.args.number) c.admit.ensures c.in_ok-admit.was in
-    let text = text_told d.world c.args.owner c.args.number c.in_ok-text.text.items known c.in_ok-text.ensures in
+    let text = text_told c.state.inside.doc.world c.args.owner c.args.number c.in_ok-text.text.items known c.in_ok-text.ensures in
     tells _ c.state.inside.doc _ c.state.view_is
-    (may_act _ _ _ (Range c.args.number ∷ []) (search namings) c.admit.ensures c.in_ok-admit.was) _ _ _ _ refl refl text (ap a_string c.deref.ensures.value)
+    (may_act _ _ _ _ (naming-text c.args.owner c.args.number) c.admit.ensures c.in_ok-admit.was) _ _ _ _ refl refl text (ap a_string c.deref.ensures.value)
     c.accept.ensures.done

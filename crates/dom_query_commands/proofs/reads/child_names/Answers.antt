@@ -20,11 +20,9 @@ loop-at-init c =
 
 pub loop-at-smaller : goal.loop-at-smaller
 loop-at-smaller c =
-    let f = c.args.forest.now in
     let law = c.law_nodes_stand_once.ensures in
-    let i = c.loop-at.invariant in
-    let from = goes_on f.names f.trees law.once law.only (name_at f.names c.args.node) (i.node c.in-Some.child c.in-Some.is)
-    c.next-at.result c.in-Some.is c.next-at.ensures.value i.child in
+    let from = goes_on _ _ law.once law.only (name_at c.args.forest.now.names c.args.node) (c.loop-at.invariant.node c.in-Some.child c.in-Some.is)
+    c.next-at.result c.in-Some.is c.next-at.ensures.value c.loop-at.invariant.child in
     omega (arith, ap (length {A = NodeName}) from.0)
 
 pub loop-at-preserved : goal.loop-at-preserved

@@ -25,11 +25,10 @@ loop-place-init c =
 
 pub loop-place-smaller : goal.loop-place-smaller
 loop-place-smaller c =
-    let names = c.args.forest.now.names in
-    let ts = c.args.forest.now.trees in
     let law = c.law_nodes_stand_once.ensures in
-    let next = turn names ts (name_at names c.args.top) c.in-Some.at c.loop-place.place c.after-place.result (step_view c.in_ok-step.field-0) law.once law.only
-    (c.loop-place.invariant.node c.in-Some.at c.in-Some.is) c.in-Some.is c.loop-place.invariant.within c.after-place.ensures.value c.in_ok-step.ensures in
+    let next = turn _ _ (name_at c.args.forest.now.names c.args.top) c.in-Some.at c.loop-place.place c.after-place.result
+    (step_view c.in_ok-step.field-0) law.once law.only (c.loop-place.invariant.node c.in-Some.at c.in-Some.is) c.in-Some.is c.loop-place.invariant.within
+    c.after-place.ensures.value c.in_ok-step.ensures in
     omega (arith, ap (length {A = TreeStep}) next.0)
 
 pub loop-place-preserved : goal.loop-place-preserved

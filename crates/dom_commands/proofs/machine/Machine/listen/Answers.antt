@@ -7,7 +7,6 @@ use Rattle.dom_reader.specs.Views.{listener_view, word_view}
 use Rattle.dom_admission.proofs.Handling.{may_act, refused}
 use Rattle.dom_admission.proofs.Refusing.{namings}
 use Rattle.dom_commands.proofs.EventCommands.{listening, listens_at, listens_in, stopped}
-use Rattle.dom_commands.proofs.Machines.{seen_at, seen_reached}
 use Rattle.dom_commands.proofs.machine.Machine.listen.Goals as goal
 
 pub returns-in_err-admit-clause-handled : goal.returns-in_err-admit-clause-handled
@@ -20,13 +19,10 @@ pub returns : goal.returns
 returns c =
     let s = c.self.inside.state in
     let ls = c.self.inside.listeners in
-    let k = c.key-node.result in
-    let law = c.law_names_tell_nodes.ensures in
-    let at = seen_at s ls c.args.self.now c.self.view_is c.requires in
-    let changing = listening s.names ls s.world law.distinct law.there at (seen_reached s ls c.args.self.now c.self.view_is c.requires) c.args.owner
-    (word_view c.args.node) k c.key-node.ensures.node c.key-node.ensures.name (listener_view c.args.words)
+    let changing = listening s ls c.args.self.now c.self.view_is c.requires c.law_names_tell_nodes.ensures.distinct c.law_names_tell_nodes.ensures.there
+    c.args.owner (word_view c.args.node) c.key-node.result c.key-node.ensures.node c.key-node.ensures.name (listener_view c.args.words)
     (may_act _ _ _ (Any c.args.node ∷ []) (search namings) c.admit.ensures c.in_ok-admit.was) in
-    let now = c.in_ok-listen.ensures.ok ∙ ap (λ v. with_listener_added nat_eq k v ls) c.listener_init.ensures in
+    let now = c.in_ok-listen.ensures.ok ∙ ap (λ v. with_listener_added nat_eq c.key-node.result v ls) c.listener_init.ensures in
     record {
       handled = listens_in s c.accept.new.self ls c.listen.new.self changing c.accept.ensures.names now c.args.self.now c.self.view_is _ _ _
           c.accept.ensures.done;

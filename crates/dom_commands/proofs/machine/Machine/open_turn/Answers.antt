@@ -6,10 +6,8 @@ use Rattle.dom_commands.proofs.machine.Machine.open_turn.Goals as goal
 
 pub returns-clause-sound : goal.returns-clause-sound
 returns-clause-sound c =
-    let s = c.self.inside.state in
     let ls = c.self.inside.listeners in
     let t = c.open_turn.new.self in
-    let o = c.args.owner in
-    let opened : IsOpened s t o = record { names = c.open_turn.ensures.names; world = c.open_turn.ensures.world } in
-    subst (λ (m : MachineNow). is_there m.world o ≡ true → IsAtRest m → IsAtRest (machine_now t ls)) c.self.view_is (opened_sound ls opened)
+    let opened : IsOpened c.self.inside.state t c.args.owner = record { names = c.open_turn.ensures.names; world = c.open_turn.ensures.world } in
+    subst (λ (m : MachineNow). is_there m.world c.args.owner ≡ true → IsAtRest m → IsAtRest (machine_now t ls)) c.self.view_is (opened_sound ls opened)
     c.requires.owner_is_there c.requires.sound

@@ -5,7 +5,6 @@ use Rattle.dom_reader.specs.Views.{word_view}
 use Rattle.dom_admission.proofs.Handling.{may_act, refused}
 use Rattle.dom_admission.proofs.Refusing.{namings}
 use Rattle.dom_commands.proofs.EventCommands.{listens_at, listens_in, stopped, unlistening}
-use Rattle.dom_commands.proofs.Machines.{seen_at, seen_reached}
 use Rattle.dom_commands.proofs.machine.Machine.unlisten.Goals as goal
 
 pub returns-in_err-admit-clause-handled : goal.returns-in_err-admit-clause-handled
@@ -18,11 +17,8 @@ pub returns : goal.returns
 returns c =
     let s = c.self.inside.state in
     let ls = c.self.inside.listeners in
-    let k = c.key-node.result in
-    let law = c.law_names_tell_nodes.ensures in
-    let at = seen_at s ls c.args.self.now c.self.view_is c.requires in
-    let changing = unlistening s.names ls s.world law.distinct law.there at (seen_reached s ls c.args.self.now c.self.view_is c.requires) c.args.owner
-    (word_view c.args.node) k c.key-node.ensures.node c.key-node.ensures.name c.args.event.now c.args.label.now c.args.capture
+    let changing = unlistening s ls c.args.self.now c.self.view_is c.requires c.law_names_tell_nodes.ensures.distinct c.law_names_tell_nodes.ensures.there
+    c.args.owner (word_view c.args.node) c.key-node.result c.key-node.ensures.node c.key-node.ensures.name c.args.event.now c.args.label.now c.args.capture
     (may_act _ _ _ (Any c.args.node ∷ []) (search namings) c.admit.ensures c.in_ok-admit.was) in
     let now = c.unlisten.ensures in
     record {

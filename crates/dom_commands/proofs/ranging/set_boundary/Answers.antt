@@ -1,0 +1,28 @@
+use Rattle.std.proofs.Common.{◌∷◌, [], ℕ, Bool, true, false}
+use Rattle.std.specs.Prelude.{if◌then◌else◌}
+use Rattle.dom_base.specs.declared.Owner.{Owner}
+use Rattle.dom_model.specs.Command.{Command}
+use Rattle.dom_admission.specs.declared.admission.Operand.TheVariants.{Any, Range}
+use Rattle.dom_reader.specs.Views.{word_view}
+use Rattle.dom_reader.specs.declared.line.NodeWord.{NodeWord}
+use Rattle.dom_admission.proofs.Finding.{key_of}
+use Rattle.dom_admission.proofs.Handling.{refused}
+use Rattle.dom_admission.proofs.Refusing.{IsNaming, namings}
+use Rattle.dom_commands.proofs.ranging.set_boundary.Goals as goal
+
+-- it names the node and the range, whichever end is set
+naming : (o : Owner) (is_start : Bool) (k : ℕ) (x : NodeWord) (offset : ℕ) →
+    IsNaming o (if is_start then Command.range_start k (word_view x) offset else Command.range_end k (word_view x) offset) (Any x ∷ Range k ∷ [])
+naming o true k x offset = search namings
+naming o false k x offset = search namings
+
+pub returns-in_err-admit-clause-handled : goal.returns-in_err-admit-clause-handled
+returns-in_err-admit-clause-handled c =
+    refused _ _ _ _ _ _ (naming c.args.owner c.args.is_start c.args.number c.args.point.0 c.args.point.1) c.admit.ensures c.in_err-admit.was
+    c.from_residual.ensures.1
+
+pub range_set_start-requires-clause-own : goal.range_set_start-requires-clause-own
+range_set_start-requires-clause-own c = (key_of _ c.state.inside.doc _ c.state.view_is _ _ _ c.key-node.ensures.name).mine
+
+pub range_set_end-requires-clause-own : goal.range_set_end-requires-clause-own
+range_set_end-requires-clause-own c = (key_of _ c.state.inside.doc _ c.state.view_is _ _ _ c.key-node.ensures.name).mine
