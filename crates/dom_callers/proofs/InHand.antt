@@ -15,14 +15,14 @@ pub the_value : {X : Type 0} (o : Option X) → is_some o ≡ true → (x : X) �
 the_value None is = absurd (true≢false (sym is))
 the_value (Some x) is = (x, refl)
 
-pub node-still : (d e : DocState) (o : Owner) (k : ℕ) → HasStillAll d e → IsNodeOf d o k → IsNodeOf e o k
-node-still d e o k s n = record { node = s.nodes.nodes k n.node; owner = ap (λ (x : NodeName). x.owner) (s.nodes.names k n.node) ∙ n.owner }
+pub node-still : {d e : DocState} {o : Owner} {k : ℕ} → HasStillAll d e → IsNodeOf d o k → IsNodeOf e o k
+node-still {k = k} s n = record { node = s.nodes.nodes k n.node; owner = ap (λ (x : NodeName). x.owner) (s.nodes.names k n.node) ∙ n.owner }
 
-pub text-still : (d e : DocState) (o : Owner) (k : ℕ) → HasStillAll d e → IsTextOf d o k → IsTextOf e o k
-text-still d e o k s t = record { node = node-still d e o k s t.node; kind = s.nodes.kinds k t.node.node ∙ t.kind }
+pub text-still : {d e : DocState} {o : Owner} {k : ℕ} → HasStillAll d e → IsTextOf d o k → IsTextOf e o k
+text-still {k = k} s t = record { node = node-still s t.node; kind = s.nodes.kinds k t.node.node ∙ t.kind }
 
-pub range-still : (d e : DocState) (o : Owner) (number : ℕ) → HasStillAll d e → IsRangeOf d o number → IsRangeOf e o number
-range-still d e o number s r = (s.tables o).ranges number r
+pub range-still : {d e : DocState} (o : Owner) (number : ℕ) → HasStillAll d e → IsRangeOf d o number → IsRangeOf e o number
+range-still o number s r = (s.tables o).ranges number r
 
 -- a Text that a call made has the next key
 pub text-new : {o : Owner} {k n : ℕ} (e : DocState) → k ≡ n → n < length e.names → owner_in e n ≡ o → kind_of (trees_in e n) (name_in e n) ≡ Text →

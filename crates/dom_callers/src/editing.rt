@@ -5,7 +5,7 @@ ghost use Rattle.dom_base.specs.declared.Kind.TheVariants.{Text};
 ghost use Rattle.dom_model.specs.Names.{node_of};
 ghost use Rattle.dom_mutation.specs.Doc.{name_in, HoldsNode};
 ghost use Rattle.dom_mutation.specs.Still.{HasStillAll};
-ghost use Rattle.dom_callers.specs.Editing.{IsNodeOf, IsTextOf, IsRangeOf};
+ghost use Rattle.dom_callers.specs.Editing.{IsNodeOf, IsTextOf, IsTextToAdd, IsRangeOf};
 
 use dom_base::{Fault, Owner};
 use dom_mutation::{Doc, law_new_node, law_newly_there, law_still};
@@ -49,11 +49,26 @@ pub fn rewrite(
 /// A new Text of an owner becomes a paragraph's last child, and is split behind its first code unit: the two Texts.
 fn write(doc: &mut Doc, owner: Owner, paragraph: Key, node: NodeData) -> Result<(Key, Key), Fault>
     requires paragraph { IsNodeOf doc.old owner paragraph }
-    requires is_text { node.kind ≡ Text }
-    requires document_is_node { ForSome node.document (HoldsNode doc.old) }
+    requires node { IsTextToAdd doc.old node }
     ensures still { OnOk result (HasStillAll doc.old doc.new) }
     ensures text { IfOk result (λ r. IsTextOf doc.new owner r.0) }
     ensures tail { IfOk result (λ r. IsTextOf doc.new owner r.1) }
+{
+    law_still();
+    law_new_node();
+    let text = add_last(doc, owner, paragraph, node)?;
+    doc.laws();
+    let tail = doc.split(text, 1)?;
+    doc.laws();
+    Ok((text, tail))
+}
+
+/// A new Text of an owner becomes a paragraph's last child.
+fn add_last(doc: &mut Doc, owner: Owner, paragraph: Key, node: NodeData) -> Result<Key, Fault>
+    requires paragraph { IsNodeOf doc.old owner paragraph }
+    requires node { IsTextToAdd doc.old node }
+    ensures still { OnOk result (HasStillAll doc.old doc.new) }
+    ensures text { IfOk result (λ text. IsTextOf doc.new owner text) }
 {
     doc.laws();
     law_still();
@@ -62,9 +77,7 @@ fn write(doc: &mut Doc, owner: Owner, paragraph: Key, node: NodeData) -> Result<
     doc.laws();
     doc.insert(paragraph, text, None)?;
     doc.laws();
-    let tail = doc.split(text, 1)?;
-    doc.laws();
-    Ok((text, tail))
+    Ok(text)
 }
 
 /// A new live range of an owner, from the beginning of a Text to behind the first code unit of another one. Refused with `IndexSize`

@@ -11,40 +11,34 @@ use Rattle.dom_range_ops.specs.Insertions.{inserting_node}
 use Rattle.dom_callers.proofs.editing.take_and_put_back.Goals as goal
 use Rattle.dom_callers.proofs.InHand.{the_value}
 
--- the fragment is a node of the owner
-pub insert_node-requires-clause-node_is_node : goal.insert_node-requires-clause-node_is_node
-insert_node-requires-clause-node_is_node c =
+-- the fragment is a node of the owner, and the range is still there
+pub insert_node-requires : goal.insert_node-requires
+insert_node-requires c =
     let d = c.args.doc.now in
     let e = c.extract.new.doc in
     let p = part_of d.world c.args.owner in
     let here = the_value (range_at p c.args.range) c.requires.range in
-    subst (λ k. k < length e.names) (sym c.in_ok-taken.ensures.key)
-    (c.law_new_node.ensures.node d e (node_of c.args.owner p.node_count) _ (c.in_ok-taken.ensures.names here.0 here.1))
-
-pub insert_node-requires-clause-own : goal.insert_node-requires-clause-own
-insert_node-requires-clause-own c =
-    let d = c.args.doc.now in
-    let e = c.extract.new.doc in
-    let p = part_of d.world c.args.owner in
-    let here = the_value (range_at p c.args.range) c.requires.range in
-    subst (λ k. owner_in e k ≡ c.args.owner) (sym c.in_ok-taken.ensures.key)
-    (ap (λ (x : NodeName). x.owner)
-    (c.law_new_node.ensures.name d e (node_of c.args.owner p.node_count) _ (c.in_ok-taken.ensures.names here.0 here.1)))
+    let x = node_of c.args.owner p.node_count in
+    let names = c.in_ok-taken.ensures.names here.0 here.1 in
+    record {
+      there = c.in_ok-taken.ensures.there;
+      node_is_node = subst (λ k. k < length e.names) (sym c.in_ok-taken.ensures.key) (c.law_new_node.ensures.node d e x _ names);
+      own = subst (λ k. owner_in e k ≡ c.args.owner) (sym c.in_ok-taken.ensures.key)
+          (ap (λ (y : NodeName). y.owner) (c.law_new_node.ensures.name d e x _ names));
+    }
 
 pub returns-clause-still : goal.returns-clause-still
 returns-clause-still c =
+    let law = c.law_still.ensures in
     let d = c.args.doc.now in
     let e = c.extract.new.doc in
     let f = c.insert_node.new.doc in
-    let o = c.args.owner in
-    let here = the_value (range_at (part_of d.world o) c.args.range) c.requires.range in
-    let d_nodes : HasNodes d = record { parts = c.laws.ensures.parts; stand = c.laws.ensures.stand } in
-    let e_nodes : HasNodes e = record { parts = c.laws-2.ensures.parts; stand = c.laws-2.ensures.stand } in
-    let f_nodes : HasNodes f = record { parts = c.laws-3.ensures.parts; stand = c.laws-3.ensures.stand } in
-    let taken : HasStillAll d e = c.law_still.ensures.plans d e o (λ p. plan_of_range p c.args.range (extracting c.args.range)) _ d_nodes e_nodes
-    (c.in_ok-taken.ensures.names here.0 here.1)
+    let here = the_value (range_at (part_of d.world c.args.owner) c.args.range) c.requires.range in
+    let between : HasNodes e = record { parts = c.laws-2.ensures.parts; stand = c.laws-2.ensures.stand } in
+    let taken : HasStillAll d e = law.plans d e c.args.owner (λ p. plan_of_range p c.args.range (extracting c.args.range)) _
+    record { parts = c.laws.ensures.parts; stand = c.laws.ensures.stand } between (c.in_ok-taken.ensures.names here.0 here.1)
     c.in_ok-taken.ensures.world in
-    let back : HasStillAll e f = c.law_still.ensures.plans e f o (inserting_node c.args.range (name_in e c.in_ok-taken.taken)) _ e_nodes f_nodes
-    c.in_ok-insert_node.ensures.names
+    let back : HasStillAll e f = law.plans e f c.args.owner (inserting_node c.args.range (name_in e c.in_ok-taken.taken)) _ between
+    record { parts = c.laws-3.ensures.parts; stand = c.laws-3.ensures.stand } c.in_ok-insert_node.ensures.names
     c.in_ok-insert_node.ensures.world in
-    c.law_still.ensures.next d e f taken back
+    law.next d e f taken back
