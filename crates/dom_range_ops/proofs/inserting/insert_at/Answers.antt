@@ -1,11 +1,12 @@
-use Rattle.std.proofs.Common.{◌≡◌, List, refl, sym, ap, subst, ◌∙◌}
+use Rattle.std.proofs.Common.{◌≡◌, ◌<◌, ℕ, Bool, false, List, length, refl, sym, ap, subst, ◌∙◌}
 use Rattle.std.proofs.lemmas.Result.{on_ok_weaker}
+use Rattle.dom_base.specs.declared.Kind.{Kind}
 use Rattle.dom_base.specs.declared.NodeName.{NodeName}
 use Rattle.dom_worlds.proofs.PlanLemmas.{leads-removing}
 use Rattle.dom_model.specs.Changes.{observed, remove_plan}
 use Rattle.dom_model.specs.Tree.{has_node, has_data, is_shadow, kind_of}
 use Rattle.dom_model.specs.World.{part_of}
-use Rattle.dom_mutation.specs.Doc.{DocState, name_in, owner_in, planned}
+use Rattle.dom_mutation.specs.Doc.{DocState, name_in, owner_in, planned, trees_in}
 use Rattle.dom_mutation.specs.Hosting.{IsAlone}
 use Rattle.dom_mutation.specs.Ready.{AreReady}
 use Rattle.dom_mutation.proofs.Turns.{Stays, may_now, child_now}
@@ -14,10 +15,10 @@ use Rattle.dom_tree.specs.Forest.{name_at}
 use Rattle.dom_range_ops.proofs.InsertedParts.{kind-kept}
 use Rattle.dom_range_ops.proofs.InsertedPlans.{state-is, stays-left, inserted-at}
 use Rattle.dom_range_ops.proofs.inserting.insert_at.Goals as goal
-use Rattle.dom_range_ops.proofs.inserting.insert_at.Goals.{After-laws, In_ok-remove}
+use Rattle.dom_range_ops.proofs.inserting.insert_at.Goals.{In_ok-remove}
 
 -- the owner is alone in its part
-alone : (c : After-laws) → IsAlone c.args.doc.now.world c.args.owner
+alone : (c : In_ok-remove) → IsAlone c.args.doc.now.world c.args.owner
 alone c = subst (IsAlone c.args.doc.now.world) c.requires.parent_own (c.laws.ensures.alone c.args.parent c.requires.parent_is_node)
 
 -- the node left its parent
@@ -33,33 +34,30 @@ stays c =
     (c.laws.ensures.alone c.args.node c.requires.node_is_node) (c.requires.node_own ∙ sym c.requires.parent_own) c.requires.not_above
     c.reference_child-reference.ensures.child c.reference_child-reference.ensures.apart (removed c)
 
-pub insert_before-requires-clause-open : goal.insert_before-requires-clause-open
-insert_before-requires-clause-open c =
+-- a test of kinds that a node of the owner did not pass it does not pass now
+kind_now : (c : In_ok-remove) (is : Kind → Bool) (key : ℕ) → key < length c.args.doc.now.names → owner_in c.args.doc.now key ≡ c.args.owner →
+    is (kind_of (trees_in c.args.doc.now key) (name_in c.args.doc.now key)) ≡ false →
+    is (kind_of (trees_in c.remove.new.self key) (name_in c.remove.new.self key)) ≡ false
+kind_now c is key there own plain =
     let d = c.args.doc.now in
     let o = c.args.owner in
     let x = name_in d c.args.node in
-    let k = goal.at.insert_before-requires-clause-open c in
-    let own = c.requires.parent_own in
-    kind-kept d c.remove.new.self o (remove_plan observed x) (alone k.After-laws) (plans_removing o observed x)
-    (ap (λ s. s.world) (removed k.In_ok-remove ∙ ap (λ w. planned w (remove_plan observed x) d) c.requires.node_own)) has_data
-    (leads-removing observed x (part_of d.world o) (c.laws.ensures.parts o)).changed c.args.parent
-    (ap (λ (ns : List NodeName). name_at ns c.args.parent) c.in_ok-remove.ensures.names, own)
-    (ap (λ w. has_node (part_of d.world w).trees (name_in d c.args.parent)) (sym own) ∙ c.laws.ensures.stand c.args.parent c.requires.parent_is_node)
-    (ap (λ w. has_data (kind_of (part_of d.world w).trees (name_in d c.args.parent))) (sym own) ∙ c.requires.open)
+    kind-kept d c.remove.new.self o (remove_plan observed x) (alone c) (plans_removing o observed x)
+    (ap (λ s. s.world) (removed c ∙ ap (λ w. planned w (remove_plan observed x) d) c.requires.node_own)) is
+    (leads-removing observed x (part_of d.world o) (c.laws.ensures.parts o)).changed key
+    (ap (λ (ns : List NodeName). name_at ns key) c.in_ok-remove.ensures.names, own)
+    (ap (λ w. has_node (part_of d.world w).trees (name_in d key)) (sym own) ∙ c.laws.ensures.stand key there)
+    (ap (λ w. is (kind_of (part_of d.world w).trees (name_in d key))) (sym own) ∙ plain)
+
+pub insert_before-requires-clause-open : goal.insert_before-requires-clause-open
+insert_before-requires-clause-open c =
+    kind_now (goal.at.insert_before-requires-clause-open c).In_ok-remove has_data c.args.parent c.requires.parent_is_node c.requires.parent_own
+    c.requires.open
 
 pub insert_before-requires-clause-no_shadow : goal.insert_before-requires-clause-no_shadow
 insert_before-requires-clause-no_shadow c =
-    let d = c.args.doc.now in
-    let o = c.args.owner in
-    let x = name_in d c.args.node in
-    let k = goal.at.insert_before-requires-clause-no_shadow c in
-    let own = c.requires.node_own in
-    kind-kept d c.remove.new.self o (remove_plan observed x) (alone k.After-laws) (plans_removing o observed x)
-    (ap (λ s. s.world) (removed k.In_ok-remove ∙ ap (λ w. planned w (remove_plan observed x) d) own)) is_shadow
-    (leads-removing observed x (part_of d.world o) (c.laws.ensures.parts o)).changed c.args.node
-    (ap (λ (ns : List NodeName). name_at ns c.args.node) c.in_ok-remove.ensures.names, own)
-    (ap (λ w. has_node (part_of d.world w).trees x) (sym own) ∙ c.laws.ensures.stand c.args.node c.requires.node_is_node)
-    (ap (λ w. is_shadow (kind_of (part_of d.world w).trees x)) (sym own) ∙ c.requires.no_shadow)
+    kind_now (goal.at.insert_before-requires-clause-no_shadow c).In_ok-remove is_shadow c.args.node c.requires.node_is_node c.requires.node_own
+    c.requires.no_shadow
 
 pub insert_before-requires-clause-may_move : goal.insert_before-requires-clause-may_move
 insert_before-requires-clause-may_move c =
@@ -80,13 +78,13 @@ pub insert_before-requires-clause-ready : goal.insert_before-requires-clause-rea
 insert_before-requires-clause-ready c =
     let k = goal.at.insert_before-requires-clause-ready c in
     subst (λ (s : DocState). AreReady s.world) (sym (inserted-at c.args.doc.now c.args.owner c.args.number c.args.parent c.args.node
-    (alone k.After-laws) c.requires.parent_own c.requires.node_own c.args.child c.reference_child-reference.result
+    (alone k.In_ok-remove) c.requires.parent_own c.requires.node_own c.args.child c.reference_child-reference.result
     c.reference_child-reference.ensures.value (removed k.In_ok-remove) refl)) c.requires.ready
 
 pub returns : goal.returns
 returns c =
     let k = goal.at.returns c in
     on_ok_weaker c.insert_before.result
-    (inserted-at c.args.doc.now c.args.owner c.args.number c.args.parent c.args.node (alone k.After-laws) c.requires.parent_own
+    (inserted-at c.args.doc.now c.args.owner c.args.number c.args.parent c.args.node (alone k.In_ok-remove) c.requires.parent_own
     c.requires.node_own c.args.child c.reference_child-reference.result c.reference_child-reference.ensures.value (removed k.In_ok-remove))
     c.insert_before.ensures
