@@ -74,7 +74,7 @@ fn take_piece(
     let top = top_of(clones.as_slice(), into);
     match piece {
         Piece::Whole(node) => doc.insert_unchecked(top, node, None)?,
-        Piece::Cut(node, from, to) => take_units(alloc, doc, top, node, from, to)?,
+        Piece::Cut(node, from, to) => take_units(alloc, doc, top, (node, from, to))?,
         Piece::Clone(node) => {
             let clone = take_clone(alloc, doc, top, node)?;
             clones.push(clone)?;
@@ -97,24 +97,18 @@ fn top_of(clones: &[Key], into: Key) -> Key
 }
 
 /// A clone of a Text or Comment with the code units between two offsets goes below a node, and the units leave the first.
-fn take_units(
-    alloc: Global,
-    doc: &mut Doc,
-    top: Key,
-    node: Key,
-    from: usize,
-    to: usize,
-) -> Result<(), Fault>
+fn take_units(alloc: Global, doc: &mut Doc, top: Key, cut: (Key, usize, usize)) -> Result<(), Fault>
     requires top { TakesNew doc.old top }
-    requires node_is_node { HoldsNode doc.old node }
-    requires node_owner { owner_in doc.old node ≡ owner_in doc.old top }
-    requires units { has_data (kind_of (trees_in doc.old top) (name_in doc.old node)) ≡ true }
+    requires node_is_node { HoldsNode doc.old cut.0 }
+    requires node_owner { owner_in doc.old cut.0 ≡ owner_in doc.old top }
+    requires units { has_data (kind_of (trees_in doc.old top) (name_in doc.old cut.0)) ≡ true }
     ensures names { OnOk result (doc.new.names ≡ doc.old.names ++ next_name (part_of doc.old.world (owner_in doc.old top)) ∷ []) }
     ensures world { OnOk result (doc.new.world ≡ made (owner_in doc.old top)
-        (taking_item (name_in doc.old top) (cut_item (name_in doc.old node) from to)) doc.old.world) }
+        (taking_item (name_in doc.old top) (cut_item (name_in doc.old cut.0) cut.1 cut.2)) doc.old.world) }
     ensures other { IfErr result (λ fault. fault ≡ Fault.Memory) }
 {
     doc.laws();
+    let (node, from, to) = cut;
     let forest = doc.forest();
     let copy = clone_units(alloc, forest, node, from, to)?;
     add_below(doc, top, node, copy)?;

@@ -14,9 +14,8 @@ use Rattle.dom_range_ops.proofs.taking.take_clone.Goals as goal
 pub add_below-requires-clause-copy : goal.add_below-requires-clause-copy
 add_below-requires-clause-copy c =
     let d = c.args.doc.now in
-    let o = owner_in d c.args.top in
     let g = c.forest-forest.ensures in
-    copy-read d c.forest-forest.result.now o c.args.node record { owned = g.owned; names = g.names; trees = g.trees o } c.requires.node_owner
+    copy-read d _ _ c.args.node record { owned = g.owned; names = g.names; trees = g.trees _ } c.requires.node_owner
     c.in_ok-copy.ensures.kind (c.in_ok-copy.ensures.value (name_in d c.args.node)) refl c.requires.no_shadow c.in_ok-copy.ensures.document
 
 pub returns-clause-world : goal.returns-clause-world
