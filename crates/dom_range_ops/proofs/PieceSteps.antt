@@ -63,21 +63,20 @@ module _ (ts : Trees) (names : List NodeName) (path : List ℕ) where
       tails-step behind i l ∙ (ap (all (suc i)) (sym child_is) ∙ ap (λ k. all k child) up)
 
   -- of the last node, or none, there are none
-  pub heads-last : (before : Bool) (i : ℕ) → length path ≤ suc i → heads ts before (from i) ≡ []
-  heads-last before i l = by (drop i path) (let long = length-drop i path in omega (arith, l, long))
+  none-last : (items : List NodeName → List Item) → items [] ≡ [] → ((x : NodeName) → items (x ∷ []) ≡ []) →
+      (i : ℕ) → length path ≤ suc i → items (from i) ≡ []
+  none-last items none one i l = by (drop i path) (let long = length-drop i path in omega (arith, l, long))
     where
-      by : (ks : List ℕ) → length ks ≤ 1 → heads ts before (map (name_at names) ks) ≡ []
-      by [] few = refl
-      by (k ∷ []) few = refl
+      by : (ks : List ℕ) → length ks ≤ 1 → items (map (name_at names) ks) ≡ []
+      by [] few = none
+      by (k ∷ []) few = one (name_at names k)
       by (k ∷ j ∷ ks) few = absurd (omega (arith, few))
 
+  pub heads-last : (before : Bool) (i : ℕ) → length path ≤ suc i → heads ts before (from i) ≡ []
+  heads-last before = none-last (heads ts before) refl (λ x. refl)
+
   pub tails-last : (behind : Bool) (i : ℕ) → length path ≤ suc i → tails ts behind (from i) ≡ []
-  tails-last behind i l = by (drop i path) (let long = length-drop i path in omega (arith, l, long))
-    where
-      by : (ks : List ℕ) → length ks ≤ 1 → tails ts behind (map (name_at names) ks) ≡ []
-      by [] few = refl
-      by (k ∷ []) few = refl
-      by (k ∷ j ∷ ks) few = absurd (omega (arith, few))
+  tails-last behind = none-last (tails ts behind) refl (λ x. refl)
 
 -- what is taken along a path that is not empty
 pub side-some : (ts : Trees) (b : Boundary NodeName) (behind : Bool) (names : List NodeName) (ks : List ℕ) → 0 < length ks

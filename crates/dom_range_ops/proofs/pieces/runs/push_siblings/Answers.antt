@@ -15,17 +15,13 @@ loop-at-init c =
 
 pub loop-at-smaller : goal.loop-at-smaller
 loop-at-smaller c =
-    let f = c.args.forest.now in
     let e = c.law_nodes_stand_once.ensures in
-    passes-fewer f e.once e.only e.distinct c.args.from c.args.until c.args.pieces.now.items c.loop-at.at c.next-at.result c.in-Some.key
-    c.loop-at.pieces.items c.loop-at.invariant c.in-Some.is c.next-at.ensures.value
+    passes-fewer c.args.forest.now e.once e.only e.distinct _ _ _ _ _ _ _ c.loop-at.invariant c.in-Some.is c.next-at.ensures.value
 
 pub loop-at-preserved : goal.loop-at-preserved
 loop-at-preserved c =
-    let f = c.args.forest.now in
     let e = c.law_nodes_stand_once.ensures in
-    passes-more f e.once e.only e.distinct c.args.from c.args.until c.args.pieces.now.items c.loop-at.at c.next-at.result c.in-Some.key
-    c.loop-at.pieces.items c.loop-at.invariant c.in-Some.is c.next-at.ensures.value
+    passes-more c.args.forest.now e.once e.only e.distinct _ _ _ _ _ _ _ c.loop-at.invariant c.in-Some.is c.next-at.ensures.value
     (λ found. true≢false (sym (c.is_node.ensures.1 found) ∙ c.if-is_node.false)) c.requires.until_is_node c.next-at.ensures.node _ c.in_ok-push.ensures.items
 
 pub returns-then-is_node : goal.returns-then-is_node
