@@ -124,12 +124,28 @@ module _ (f : NamedTrees) (once : StandOnce f) (only : StandAlone f) (points : P
     leaves = λ x i e. spanned.leaves x (is_in-from x (nodes_around f.trees (range_at_points f.names points)) i) e;
   }
 
-  pub part-at : (start_path end_path : List ℕ) (w : ArePaths f points start_path end_path) →
-      PartAt f.trees (range_at_points f.names points) w.top w.above (map (name_at f.names) start_path) (map (name_at f.names) end_path)
-  part-at start_path end_path w = record {
-    there = Has-above f.trees w.top (name_at f.names points.start.0) is-range.once is-range.start
-        (subst (In w.top) (sym w.start) (In-right w.top (map (name_at f.names) start_path) (w.top ∷ w.above) (inl refl)));
-    start = w.start;
-    end = w.end;
-    apart = w.apart;
-  }
+  module _ (start_path end_path : List ℕ) (w : ArePaths f points start_path end_path) where
+    abbrev r : Range NodeName
+    r = range_at_points f.names points
+
+    pub part-at : PartAt f.trees r w.top w.above (map (name_at f.names) start_path) (map (name_at f.names) end_path)
+    part-at = record {
+      there = Has-above f.trees w.top (name_at f.names points.start.0) is-range.once is-range.start
+          (subst (In w.top) (sym w.start) (In-right w.top (map (name_at f.names) start_path) (w.top ∷ w.above) (inl refl)));
+      start = w.start;
+      end = w.end;
+      apart = w.apart;
+    }
+
+    -- the run between the two paths is what is contained of the children of the lowest common inclusive ancestor
+    pub run-between : is_before f.trees r.end r.start ≡ false →
+        up_to (first_from f.trees r.end (map (name_at f.names) end_path))
+        (from_sibling f.trees (first_behind f.trees r.start (map (name_at f.names) start_path)))
+        ≡ filter (is_contained f.trees r) (children_of f.trees (common_ancestor f.trees r))
+    run-between = run-is f.trees r is-range w.top w.above _ _ part-at
+
+    -- and the items are those of the two sides with it between
+    pub items-between : items_of (pieces_apart f.trees r) ≡ side_items f.trees r.start true (map (name_at f.names) start_path) ++
+        (map whole_item (filter (is_contained f.trees r) (children_of f.trees (common_ancestor f.trees r))) ++
+        side_items f.trees r.end false (map (name_at f.names) end_path))
+    items-between = items-apart f.trees r is-range w.top w.above _ _ part-at

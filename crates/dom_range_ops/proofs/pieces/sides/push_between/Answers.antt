@@ -8,7 +8,7 @@ use Rattle.dom_laws.proofs.Lists.{filter-none}
 use Rattle.dom_tree.specs.Forest.{name_at}
 use Rattle.dom_range_ops.specs.Pieces.{Adds, whole_item, from_sibling, up_to, first_from}
 use Rattle.dom_range_ops.specs.Texts.{range_at_points}
-use Rattle.dom_range_ops.proofs.PieceLaws.{is-range, part-at, run-is}
+use Rattle.dom_range_ops.proofs.PieceLaws.{run-between}
 use Rattle.dom_range_ops.proofs.PieceMiddle.{none-contained}
 use Rattle.dom_range_ops.proofs.PieceRuns.{adds-none}
 use Rattle.dom_range_ops.proofs.pieces.sides.push_between.Goals as goal
@@ -26,16 +26,10 @@ pub returns : goal.returns
 returns c =
     let f = c.args.forest.now in
     let e = c.law_nodes_stand_once.ensures in
-    let points = c.args.points.now in
-    let r = range_at_points f.names points in
-    let w = c.requires.paths in
-    let start_path = map (name_at f.names) c.args.start_path.now in
-    let end_path = map (name_at f.names) c.args.end_path.now in
-    let old = c.args.pieces.now.items in
+    let r = range_at_points f.names c.args.points.now in
     let from = option_map (name_at f.names) c.first_behind-from.result in
     let run = ap (λ o. map whole_item (up_to o (from_sibling f.trees from))) c.first_from-until.ensures.value
-    ∙ (ap (λ o. map whole_item (up_to (first_from f.trees r.end end_path) (from_sibling f.trees o))) c.first_behind-from.ensures.value
-    ∙ ap (map whole_item)
-    (run-is f.trees r (is-range f e.once e.only points c.requires.spanned) w.top w.above start_path end_path
-    (part-at f e.once e.only points c.requires.spanned c.args.start_path.now c.args.end_path.now w) (sym c.if-is_before.ensures))) in
-    on_ok_weaker c.push_siblings.result (subst (Adds f.names old c.push_siblings.new.pieces.items) run) c.push_siblings.ensures
+    ∙ (ap (λ o. map whole_item (up_to (first_from f.trees r.end (map (name_at f.names) c.args.end_path.now)) (from_sibling f.trees o)))
+    c.first_behind-from.ensures.value
+    ∙ ap (map whole_item) (run-between f e.once e.only c.args.points.now c.requires.spanned _ _ c.requires.paths (sym c.if-is_before.ensures))) in
+    on_ok_weaker c.push_siblings.result (subst (Adds f.names c.args.pieces.now.items c.push_siblings.new.pieces.items) run) c.push_siblings.ensures
