@@ -28,7 +28,7 @@ use Rattle.dom_tree.proofs.Standing.{StandOnce, StandAlone}
 use Rattle.dom_tree.specs.Forest.{NamedTrees, name_at}
 use Rattle.dom_range_ops.specs.declared.pieces.Piece.{Piece}
 use Rattle.dom_range_ops.specs.declared.pieces.Piece.TheVariants.{Whole, Cut, Clone, End}
-use Rattle.dom_range_ops.specs.Pieces.{whole_item, item_in, items_of, wholes, whole_keys, side_items, AreSpanned, HasPaths, IsPieceIn}
+use Rattle.dom_range_ops.specs.Pieces.{whole_item, item_in, items_of, wholes, whole_key, whole_keys, side_items, AreSpanned, HasPaths, IsPieceIn}
 use Rattle.dom_range_ops.specs.Texts.{range_at_points, nodes_around}
 use Rattle.dom_range_ops.proofs.Between.{IsBounded, member-within, start-out, end-out}
 use Rattle.dom_range_ops.proofs.DeletionOrder.{HasLeaves, IsClear, is_outermost, above-in, start-in, end-in, start-above-out, outermost-not}
@@ -195,10 +195,7 @@ module _ (ts : Trees) (r : Range NodeName) (bounded : IsBounded ts r) (leaves : 
 
 pub keys-append : (ps qs : List Piece) → whole_keys (ps ++ qs) ≡ whole_keys ps ++ whole_keys qs
 keys-append [] qs = refl
-keys-append (Whole x ∷ ps) qs = ap (λ ks. x ∷ ks) (keys-append ps qs)
-keys-append (Cut x from to ∷ ps) qs = keys-append ps qs
-keys-append (Clone x ∷ ps) qs = keys-append ps qs
-keys-append (End ∷ ps) qs = keys-append ps qs
+keys-append (p ∷ ps) qs = ap (λ ks. whole_key p ++ ks) (keys-append ps qs) ∙ sym (append_assoc (whole_key p) (whole_keys ps) (whole_keys qs))
 
 pub keys-named : (names : List NodeName) (ps : List Piece) → map (name_at names) (whole_keys ps) ≡ wholes (map (item_in names) ps)
 keys-named names [] = refl

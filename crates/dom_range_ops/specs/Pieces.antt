@@ -66,12 +66,13 @@ wholes (clone_item x ∷ items) = wholes items
 wholes (end_item ∷ items) = wholes items
 
 -- and their keys
+abbrev pub whole_key : Piece → List ℕ
+whole_key (Whole x) = x ∷ []
+whole_key other = []
+
 abbrev pub whole_keys : List Piece → List ℕ
 whole_keys [] = []
-whole_keys (Whole x ∷ pieces) = x ∷ whole_keys pieces
-whole_keys (Cut x from to ∷ pieces) = whole_keys pieces
-whole_keys (Clone x ∷ pieces) = whole_keys pieces
-whole_keys (End ∷ pieces) = whole_keys pieces
+whole_keys (piece ∷ pieces) = whole_key piece ++ whole_keys pieces
 
 -- pieces to which others were added, of which these are the items
 abbrev pub Adds : List NodeName → List Piece → List Piece → List Item → Type 0
