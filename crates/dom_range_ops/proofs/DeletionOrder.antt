@@ -1,18 +1,18 @@
 -- What a range contains, by how its nodes stand above and below one another.
 use Rattle.std.proofs.Common.{◌≡◌, ◌⊎◌, inl, inr, ℕ, ◌<◌, Bool, true, false, not, ◌&&◌, List, [], ◌∷◌, ◌++◌, length, Option, Some, None, refl, sym}
-use Rattle.std.proofs.Common.{ap, subst, ◌∙◌, arith, true≢false, length-append}
+use Rattle.std.proofs.Common.{ap, subst, ◌∙◌, arith, true≢false}
 use Rattle.std.specs.Prelude.{filter}
 use Rattle.std.specs.Option.{option_map_or}
 use Rattle.std.proofs.lemmas.Bool.{cases_Bool, and_parts, false_from_ne_true, le-ltb, lt-ltb, lt-leb, cond-false}
+use Rattle.std.proofs.lemmas.List.{append-nil}
 use Rattle.dom_base.specs.declared.NodeName.{NodeName}
-use Rattle.dom_model.specs.Names.{name_eq, items_before, items_after}
 use Rattle.dom_model.specs.Place.{boundary_place, is_before, place_of}
 use Rattle.dom_model.specs.Ranges.{Range, at, is_contained}
 use Rattle.dom_model.specs.Tree.{Trees, node_in, kind_of, has_data, children_of, inclusive_descendants, inclusive_ancestors, is_inclusive_ancestor}
 use Rattle.dom_model.specs.Tree.{root_of, length_of, parent_of}
 use Rattle.dom_ranges.proofs.Before.{before-same, before-up, before-down}
 use Rattle.dom_laws.proofs.Children.{In-names, Has-names}
-use Rattle.dom_laws.proofs.Lists.{In, In-from, split_at, filter-none, Single, Single-apart}
+use Rattle.dom_laws.proofs.Lists.{In, In-from, filter-none, Single, Single-apart}
 use Rattle.dom_laws.proofs.Steps.{within-itself}
 use Rattle.dom_laws.proofs.Order.{IsWithin, stands_in, all_single, below, here}
 use Rattle.dom_laws.proofs.Shapes.{Has-above, Has-subtree, above-parent, above-root, above-from_below, below-from_above}
@@ -20,7 +20,7 @@ use Rattle.dom_model.proofs.ListOrder.{before-less, before-turned}
 use Rattle.dom_range_ops.specs.Texts.{nodes_around}
 use Rattle.dom_range_ops.proofs.OneTree.{root-above, root-path}
 use Rattle.dom_range_ops.proofs.OwnTexts.{around-root}
-use Rattle.dom_range_ops.proofs.Parting.{joined-in, under-kid}
+use Rattle.dom_range_ops.proofs.Parting.{among-kids}
 use Rattle.dom_range_ops.proofs.Between.{IsBounded, member-within, end-within, start-within, start-out, end-node-out}
 
 -- no Text and no Comment of a range's tree has children
@@ -48,13 +48,9 @@ same-or-under ts top x y w i = elim (subst (In y) (here ts top x w) i) [
   | inl same ↦ inl same
   | inr j ↦
       let kids = children_of ts x in
-      let s = joined-in ts kids y j in
-      let front = items_before name_eq s.0 kids in
-      let back = items_after name_eq s.0 kids in
-      let whole = split_at s.0 kids s.1 in
-      let u = under-kid ts w.once x s.0 y front {back = back} record { there = stands_in ts top x w; kids = whole } s.2 in
-      let long = ap (length {A = NodeName}) whole ∙ length-append front (s.0 ∷ back) in
-      inr record { child = length front; rest = u.0; place = u.1; few = omega (arith, long) }
+      let u = among-kids ts w.once x y [] kids {back = []} record { there = stands_in ts top x w; all = sym (append-nil kids) } j in
+      let less = u.2 in
+      inr record { child = u.0.child; rest = u.0.rest; place = u.0.place; few = omega (arith, less) }
 ]
 
 module _ (ts : Trees) (r : Range NodeName) (bounded : IsBounded ts r) where

@@ -1,5 +1,5 @@
 -- Where the places of two nodes of a tree part: by which stands before the other in tree order.
-use Rattle.std.proofs.Common.{◌≡◌, ◌⊎◌, inl, inr, ℕ, zero, suc, ◌<◌, ◌≤◌, List, [], ◌∷◌, ◌++◌, length, Option, Some, None, refl, sym, ap, subst, ◌∙◌}
+use Rattle.std.proofs.Common.{◌≡◌, ◌⊎◌, inl, inr, ℕ, zero, suc, ◌+◌, ◌<◌, ◌≤◌, List, [], ◌∷◌, ◌++◌, length, Option, Some, None, refl, sym, ap, subst, ◌∙◌}
 use Rattle.std.proofs.Common.{arith, append_assoc, length-append}
 use Rattle.std.specs.Option.{option_map_or}
 use Rattle.std.proofs.lemmas.List.{append-nil}
@@ -34,10 +34,29 @@ pub record Under (ts : Trees) (x y : NodeName) : Type 0 where
   pub rest : List ℕ
   pub place : place_of ts y ≡ place_of ts x ++ child ∷ rest
 
+-- the places of nodes below two whose places part
+parted-below : {ts : Trees} {x y a b : NodeName} (m n : List ℕ) → Parted ts x y → place_of ts a ≡ place_of ts x ++ m → place_of ts b ≡ place_of ts y ++ n →
+    Parted ts a b
+parted-below m n k first second = record {
+  common = k.common;
+  first = k.first;
+  second = k.second;
+  first_rest = k.first_rest ++ m;
+  second_rest = k.second_rest ++ n;
+  first_place = first ∙ (ap (λ path. path ++ m) k.first_place ∙ append_assoc k.common (k.first ∷ k.first_rest) m);
+  second_place = second ∙ (ap (λ path. path ++ n) k.second_place ∙ append_assoc k.common (k.second ∷ k.second_rest) n);
+  less = k.less;
+}
+
 -- s is a child of p, between these
 pub record IsKidOf (ts : Trees) (p s : NodeName) (front back : List NodeName) : Type 0 where
   pub there : Has ts p
   pub kids : children_of ts p ≡ front ++ s ∷ back
+
+-- and so are these
+pub record AreKidsOf (ts : Trees) (p : NodeName) (front kids back : List NodeName) : Type 0 where
+  pub there : Has ts p
+  pub all : children_of ts p ≡ front ++ (kids ++ back)
 
 -- a node of some trees is in one of them
 pub joined-in : (ts : Trees) (xs : List NodeName) (y : NodeName) → In y (joined ts xs) → (s : NodeName) × In s xs × In y (inclusive_descendants ts s)
@@ -117,6 +136,35 @@ module _ (ts : Trees) (once : Once ts) where
       let r = place-in (length (inclusive_ancestors ts y)) s y (record { once = once; top_stands = at; stands = Has-names (subtree ts s) y i }) (omega arith) in
       (r.0, r.1 ∙ (ap (λ path. path ++ r.0) (kid-place p s h front back e) ∙ append_assoc (place_of ts p) (length front ∷ []) r.0))
 
+  -- so does one of the tree of a child among others, whose number is then among theirs
+  pub among-kids : (p y : NodeName) (front kids : List NodeName) {back : List NodeName} → AreKidsOf ts p front kids back → In y (joined ts kids) →
+      (u : Under ts p y) × length front ≤ u.child × u.child < length front + length kids
+  among-kids p y front kids {back} are i =
+      let s = joined-in ts kids y i in
+      let first = items_before name_eq s.0 kids in
+      let later = items_after name_eq s.0 kids in
+      let parts = split_at s.0 kids s.1 in
+      let whole : children_of ts p ≡ (front ++ first) ++ s.0 ∷ (later ++ back) =
+      are.all ∙ (ap (λ xs. front ++ (xs ++ back)) parts ∙ (ap (λ xs. front ++ xs) (append_assoc first (s.0 ∷ later) back) ∙
+      sym (append_assoc front first (s.0 ∷ (later ++ back))))) in
+      let r = under-kid p s.0 y (front ++ first) {back = later ++ back} record { there = are.there; kids = whole } s.2 in
+      let both = length-append front first in
+      let longer = ap (length {A = NodeName}) parts ∙ length-append first (s.0 ∷ later) in
+      (record { child = length (front ++ first); rest = r.0; place = r.1 }, omega (arith, both), omega (arith, both, longer))
+
+  -- the places of two nodes under one part there
+  beside : {p x y : NodeName} (u : Under ts p x) (v : Under ts p y) → u.child < v.child → Parted ts x y
+  beside {p} u v less = record {
+    common = place_of ts p;
+    first = u.child;
+    second = v.child;
+    first_rest = u.rest;
+    second_rest = v.rest;
+    first_place = u.place;
+    second_place = v.place;
+    less = less;
+  }
+
   -- beyond a node stands what is behind it
   beyond-parted : (n : ℕ) {top x : NodeName} (y : NodeName) → IsWithin ts top x → length (inclusive_ancestors ts x) ≤ n → In y (beyond ts top x) → Parted ts x y
   beyond-parted zero {top} {x} y w le i = absurd (deep top x w le)
@@ -128,37 +176,12 @@ module _ (ts : Trees) (once : Once ts) where
         let mine = kid-place h.parent x at h.front h.back h.kids in
         elim (In-parts y (joined ts h.back) (beyond ts top h.parent) (subst (In y) (child_places ts top h.parent x h.front h.back h.within h.kids).2 i)) [
           | inl j ↦
-              let s = joined-in ts h.back y j in
-              let first = items_before name_eq s.0 h.back in
-              let front = h.front ++ x ∷ first in
-              let kids : children_of ts h.parent ≡ front ++ s.0 ∷ items_after name_eq s.0 h.back =
-              h.kids ∙ (ap (λ xs. h.front ++ x ∷ xs) (split_at s.0 h.back s.1) ∙
-              sym (append_assoc h.front (x ∷ first) (s.0 ∷ items_after name_eq s.0 h.back))) in
-              let r = under-kid h.parent s.0 y front {back = items_after name_eq s.0 h.back} record { there = at; kids = kids } s.2 in
-              let longer = length-append h.front (x ∷ first) in
-              record {
-                common = place_of ts h.parent;
-                first = length h.front;
-                second = length front;
-                first_rest = [];
-                second_rest = r.0;
-                first_place = mine;
-                second_place = r.1;
-                less = omega (arith, longer);
-              }
-          | inr j ↦
-              let k = beyond-parted n y h.within (shallower n top x h le) j in
-              record {
-                common = k.common;
-                first = k.first;
-                second = k.second;
-                first_rest = k.first_rest ++ length h.front ∷ [];
-                second_rest = k.second_rest;
-                first_place = mine ∙ (ap (λ path. path ++ length h.front ∷ []) k.first_place ∙ append_assoc k.common (k.first ∷ k.first_rest)
-                    (length h.front ∷ []));
-                second_place = k.second_place;
-                less = k.less;
-              }
+              let kids = h.kids ∙ (ap (λ xs. h.front ++ x ∷ xs) (sym (append-nil h.back)) ∙ sym (append_assoc h.front (x ∷ []) (h.back ++ []))) in
+              let u = among-kids h.parent y (h.front ++ x ∷ []) h.back {back = []} record { there = at; all = kids } j in
+              let few = u.1 in
+              let longer = length-append h.front (x ∷ []) in
+              beside record { child = length h.front; rest = []; place = mine } u.0 (omega (arith, few, longer))
+          | inr j ↦ parted-below (length h.front ∷ []) [] (beyond-parted n y h.within (shallower n top x h le) j) mine (sym (append-nil (place_of ts y)))
         ]
   ]
 
@@ -175,17 +198,7 @@ module _ (ts : Trees) (once : Once ts) where
         elim (In-parts y (ahead_of ts top h.parent) (h.parent ∷ joined ts h.front)
         (subst (In y) (child_places ts top h.parent x h.front h.back h.within h.kids).1 i)) [
           | inl j ↦ elim (ahead-parted n y h.within (shallower n top x h le) j) [
-            | inl k ↦ inl record {
-              common = k.common;
-              first = k.first;
-              second = k.second;
-              first_rest = k.first_rest;
-              second_rest = k.second_rest ++ length h.front ∷ [];
-              first_place = k.first_place;
-              second_place = mine ∙ (ap (λ path. path ++ length h.front ∷ []) k.second_place ∙ append_assoc k.common (k.second ∷ k.second_rest)
-                  (length h.front ∷ []));
-              less = k.less;
-            }
+            | inl k ↦ inl (parted-below [] (length h.front ∷ []) k (sym (append-nil (place_of ts y))) mine)
             | inr k ↦ inr record {
               child = k.child;
               rest = k.rest ++ length h.front ∷ [];
@@ -195,23 +208,9 @@ module _ (ts : Trees) (once : Once ts) where
           | inr j ↦ elim j [
             | inl same ↦ inr record { child = length h.front; rest = []; place = mine ∙ ap (λ z. place_of ts z ++ length h.front ∷ []) (sym same) }
             | inr g ↦
-                let s = joined-in ts h.front y g in
-                let first = items_before name_eq s.0 h.front in
-                let later = items_after name_eq s.0 h.front in
-                let kids : children_of ts h.parent ≡ first ++ s.0 ∷ (later ++ x ∷ h.back) =
-                h.kids ∙ (ap (λ xs. xs ++ x ∷ h.back) (split_at s.0 h.front s.1) ∙ append_assoc first (s.0 ∷ later) (x ∷ h.back)) in
-                let r = under-kid h.parent s.0 y first {back = later ++ x ∷ h.back} record { there = at; kids = kids } s.2 in
-                let longer = ap (length {A = NodeName}) (split_at s.0 h.front s.1) ∙ length-append first (s.0 ∷ later) in
-                inl record {
-                  common = place_of ts h.parent;
-                  first = length first;
-                  second = length h.front;
-                  first_rest = r.0;
-                  second_rest = [];
-                  first_place = r.1;
-                  second_place = mine;
-                  less = omega (arith, longer);
-                }
+                let u = among-kids h.parent y [] h.front {back = x ∷ h.back} record { there = at; all = h.kids } g in
+                let less = u.2 in
+                inl (beside u.0 record { child = length h.front; rest = []; place = mine } (omega (arith, less)))
           ]
         ]
   ]

@@ -2,6 +2,7 @@
 use Rattle.std.proofs.Common.{◌≡◌, ◌⊎◌, inl, inr, ℕ, ◌<◌, ◌≤◌, suc, true, false, List, [], ◌∷◌, ◌++◌, length, take, drop, refl, sym, ap, subst, ◌∙◌}
 use Rattle.std.proofs.Common.{arith, append_assoc, length-append, length-take, true≢false}
 use Rattle.std.proofs.lemmas.Bool.{cases_Bool, cond-false, lt-ltb, le-ltb, le-leb, lt-leb}
+use Rattle.std.proofs.lemmas.List.{append-nil}
 use Rattle.dom_base.specs.declared.NodeName.{NodeName}
 use Rattle.dom_model.specs.Names.{name_eq, items_before, items_after}
 use Rattle.dom_model.specs.Place.{Boundary, place_of, is_before}
@@ -14,7 +15,7 @@ use Rattle.dom_laws.proofs.Lists.{In, is_in-not, split_at}
 use Rattle.dom_laws.proofs.Order.{IsWithin, here}
 use Rattle.dom_laws.proofs.Shapes.{Has, above-present, below-from_above}
 use Rattle.dom_laws.proofs.Counts.{Once}
-use Rattle.dom_range_ops.proofs.Parting.{joined-in, under-kid}
+use Rattle.dom_range_ops.proofs.Parting.{under-kid, among-kids}
 
 module _ (ts : Trees) (once : Once ts) where
   -- ---- a node of the tree of a node
@@ -38,13 +39,9 @@ module _ (ts : Trees) (once : Once ts) where
   descend z y h i = elim (subst (In y) (here ts z z (self-within z h)) i) [
     | inl same ↦ inl same
     | inr j ↦
-        let s = joined-in ts (children_of ts z) y j in
-        let first = items_before name_eq s.0 (children_of ts z) in
-        let later = items_after name_eq s.0 (children_of ts z) in
-        let parts = split_at s.0 (children_of ts z) s.1 in
-        let r = under-kid ts once z s.0 y first {back = later} record { there = h; kids = parts } s.2 in
-        let longer = ap (length {A = NodeName}) parts ∙ length-append first (s.0 ∷ later) in
-        inr record { child = length first; rest = r.0; place = r.1; fits = omega (arith, longer) }
+        let u = among-kids ts once z y [] (children_of ts z) {back = []} record { there = h; all = sym (append-nil (children_of ts z)) } j in
+        let less = u.2 in
+        inr record { child = u.0.child; rest = u.0.rest; place = u.0.place; fits = omega (arith, less) }
   ]
 
   -- ---- nodes behind a point, and in front of it

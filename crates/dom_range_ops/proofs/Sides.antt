@@ -1,20 +1,19 @@
 -- Which nodes of a tree stand before a boundary point of it, and which behind.
-use Rattle.std.proofs.Common.{◌≡◌, inl, inr, true, false, List, ◌∷◌, ◌++◌, length, take, drop, sym, ap, ◌∙◌, arith}
-use Rattle.std.proofs.Common.{append_assoc, length-append, length-take, length-drop}
+use Rattle.std.proofs.Common.{◌≡◌, inl, inr, true, false, List, [], ◌∷◌, ◌++◌, take, drop, sym, ap, ◌∙◌, arith}
+use Rattle.std.proofs.Common.{append_assoc, length-take, length-drop}
 use Rattle.std.proofs.lemmas.Bool.{lt-ltb, le-ltb, le-leb, lt-leb}
 use Rattle.std.proofs.lemmas.Grind.{flat_map-append}
-use Rattle.std.proofs.lemmas.List.{take-append-drop}
+use Rattle.std.proofs.lemmas.List.{append-nil, take-append-drop}
 use Rattle.dom_base.specs.declared.NodeName.{NodeName}
-use Rattle.dom_model.specs.Names.{name_eq, items_before, items_after}
 use Rattle.dom_model.specs.Place.{Boundary, is_before}
 use Rattle.dom_model.specs.Ranges.{at}
 use Rattle.dom_model.specs.Tree.{Trees, children_of, inclusive_descendants}
 use Rattle.dom_ranges.proofs.Before.{before-same, before-up, before-down, before-beside}
-use Rattle.dom_laws.proofs.Lists.{In, In-parts, split_at}
+use Rattle.dom_laws.proofs.Lists.{In, In-parts}
 use Rattle.dom_laws.proofs.Order.{IsWithin, stands_in, joined, here, splits}
 use Rattle.dom_laws.specs.Within.{ahead_of, beyond}
 use Rattle.dom_range_ops.specs.Points.{nodes_after}
-use Rattle.dom_range_ops.proofs.Parting.{joined-in, under-kid, behind-apart, ahead-apart}
+use Rattle.dom_range_ops.proofs.Parting.{among-kids, behind-apart, ahead-apart}
 
 -- ---- a point of a tree
 
@@ -52,17 +51,11 @@ module _ (ts : Trees) (top : NodeName) (b : Boundary NodeName) (w : IsWithin ts 
       | inl same ↦ before-same ts b.node y b.offset 0 (sym same) ∙ le-ltb b.offset 0 (omega arith)
       | inr g ↦
           let kids = children_of ts b.node in
-          let s = joined-in ts (take b.offset kids) y g in
-          let first = items_before name_eq s.0 (take b.offset kids) in
-          let later = items_after name_eq s.0 (take b.offset kids) in
-          let parts = split_at s.0 (take b.offset kids) s.1 in
-          let whole : kids ≡ first ++ s.0 ∷ (later ++ drop b.offset kids) =
-          sym (take-append-drop b.offset kids) ∙
-          (ap (λ xs. xs ++ drop b.offset kids) parts ∙ append_assoc first (s.0 ∷ later) (drop b.offset kids)) in
-          let r = under-kid ts w.once b.node s.0 y first {back = later ++ drop b.offset kids} record { there = stands_in ts top b.node w; kids = whole } s.2 in
-          let longer = ap (length {A = NodeName}) parts ∙ length-append first (s.0 ∷ later) in
+          let u = among-kids ts w.once b.node y [] (take b.offset kids) {back = drop b.offset kids}
+          record { there = stands_in ts top b.node w; all = sym (take-append-drop b.offset kids) } g in
+          let less = u.2 in
           let few = length-take b.offset kids in
-          before-down ts b.node y b.offset 0 (length first) r.0 r.1 ∙ lt-leb b.offset (length first) (omega (arith, longer, few))
+          before-down ts b.node y b.offset 0 u.0.child u.0.rest u.0.place ∙ lt-leb b.offset u.0.child (omega (arith, less, few))
     ]
   ]
 
@@ -71,20 +64,14 @@ module _ (ts : Trees) (top : NodeName) (b : Boundary NodeName) (w : IsWithin ts 
   after-yes y i = elim (In-parts y (joined ts (drop b.offset (children_of ts b.node))) (beyond ts top b.node) i) [
     | inl g ↦
         let kids = children_of ts b.node in
-        let s = joined-in ts (drop b.offset kids) y g in
-        let first = items_before name_eq s.0 (drop b.offset kids) in
-        let later = items_after name_eq s.0 (drop b.offset kids) in
-        let parts = split_at s.0 (drop b.offset kids) s.1 in
-        let front = take b.offset kids ++ first in
-        let whole : kids ≡ front ++ s.0 ∷ later =
-        sym (take-append-drop b.offset kids) ∙
-        (ap (λ xs. take b.offset kids ++ xs) parts ∙ sym (append_assoc (take b.offset kids) first (s.0 ∷ later))) in
-        let r = under-kid ts w.once b.node s.0 y front {back = later} record { there = stands_in ts top b.node w; kids = whole } s.2 in
-        let longer = ap (length {A = NodeName}) parts ∙ length-append first (s.0 ∷ later) in
+        let whole = sym (take-append-drop b.offset kids) ∙ ap (λ xs. take b.offset kids ++ xs) (sym (append-nil (drop b.offset kids))) in
+        let u = among-kids ts w.once b.node y (take b.offset kids) (drop b.offset kids) {back = []}
+        record { there = stands_in ts top b.node w; all = whole } g in
+        let least = u.1 in
+        let less = u.2 in
         let left = length-drop b.offset kids in
         let few = length-take b.offset kids in
-        let both = length-append (take b.offset kids) first in
-        before-down ts b.node y b.offset 0 (length front) r.0 r.1 ∙ le-leb b.offset (length front) (omega (arith, longer, left, few, both))
+        before-down ts b.node y b.offset 0 u.0.child u.0.rest u.0.place ∙ le-leb b.offset u.0.child (omega (arith, least, less, left, few))
     | inr j ↦
         let k = behind-apart ts w.once top b.node y w j in
         before-beside ts b.node y b.offset 0 k.common k.first k.second
