@@ -87,20 +87,29 @@ module _ (ts : Trees) (once : Once ts) where
     kids : children_of ts parent ≡ front ++ x ∷ back
     within : IsWithin ts top parent
     higher : inclusive_ancestors ts x ≡ x ∷ inclusive_ancestors ts parent
+    place : place_of ts x ≡ place_of ts parent ++ length front ∷ []
+
+  -- it stands under that
+  abbrev under-parent : {top x : NodeName} (h : HasPlace top x) → Under ts h.parent x
+  under-parent h = record { child = length h.front; rest = []; place = h.place }
 
   has-place : (top x : NodeName) → IsWithin ts top x → (x ≡ top → ⊥) → HasPlace top x
   has-place top x w other = by (parent_of ts x) refl
     where
       by : (o : Option NodeName) → parent_of ts x ≡ o → HasPlace top x
       by None e = absurd (within-root ts top x w other e)
-      by (Some p) e = record {
-        parent = p;
-        front = items_before name_eq x (children_of ts p);
-        back = items_after name_eq x (children_of ts p);
-        kids = split_at x (children_of ts p) (child-of_parent ts x p once (stands_in ts top x w) e).1;
-        within = within-parent ts top x p w other e;
-        higher = (above-parent ts x p once (stands_in ts top x w) e).0;
-      }
+      by (Some p) e =
+          let kids = split_at x (children_of ts p) (child-of_parent ts x p once (stands_in ts top x w) e).1 in
+          let within = within-parent ts top x p w other e in
+          record {
+            parent = p;
+            front = items_before name_eq x (children_of ts p);
+            back = items_after name_eq x (children_of ts p);
+            kids = kids;
+            within = within;
+            higher = (above-parent ts x p once (stands_in ts top x w) e).0;
+            place = kid-place p x (stands_in ts top p within) (items_before name_eq x (children_of ts p)) (items_after name_eq x (children_of ts p)) kids;
+          }
 
   -- a parent is less deep
   shallower : (n : ℕ) (top x : NodeName) (h : HasPlace top x) → length (inclusive_ancestors ts x) ≤ suc n → length (inclusive_ancestors ts h.parent) ≤ n
@@ -118,11 +127,9 @@ module _ (ts : Trees) (once : Once ts) where
     | inl same ↦ ([], ap (place_of ts) same ∙ sym (append-nil (place_of ts top)))
     | inr other ↦
         let h = has-place top x w other in
-        let r = place-in n top h.parent h.within (shallower n top x h le) in
-        let at = stands_in ts top h.parent h.within in (
+        let r = place-in n top h.parent h.within (shallower n top x h le) in (
           r.0 ++ length h.front ∷ [],
-          kid-place h.parent x at h.front h.back h.kids ∙
-              (ap (λ path. path ++ length h.front ∷ []) r.1 ∙ append_assoc (place_of ts top) r.0 (length h.front ∷ [])),
+          h.place ∙ (ap (λ path. path ++ length h.front ∷ []) r.1 ∙ append_assoc (place_of ts top) r.0 (length h.front ∷ [])),
         )
   ]
 
@@ -172,16 +179,14 @@ module _ (ts : Trees) (once : Once ts) where
     | inl same ↦ absurd (subst (In y) (ap (beyond ts top) same ∙ (top_places ts top (subst (IsWithin ts top) same w)).1) i)
     | inr other ↦
         let h = has-place top x w other in
-        let at = stands_in ts top h.parent h.within in
-        let mine = kid-place h.parent x at h.front h.back h.kids in
         elim (In-parts y (joined ts h.back) (beyond ts top h.parent) (subst (In y) (child_places ts top h.parent x h.front h.back h.within h.kids).2 i)) [
           | inl j ↦
               let kids = h.kids ∙ (ap (λ xs. h.front ++ x ∷ xs) (sym (append-nil h.back)) ∙ sym (append_assoc h.front (x ∷ []) (h.back ++ []))) in
-              let u = among-kids h.parent y (h.front ++ x ∷ []) h.back {back = []} record { there = at; all = kids } j in
+              let u = among-kids h.parent y (h.front ++ x ∷ []) h.back {back = []} record { there = stands_in ts top h.parent h.within; all = kids } j in
               let few = u.1 in
               let longer = length-append h.front (x ∷ []) in
-              beside record { child = length h.front; rest = []; place = mine } u.0 (omega (arith, few, longer))
-          | inr j ↦ parted-below (length h.front ∷ []) [] (beyond-parted n y h.within (shallower n top x h le) j) mine (sym (append-nil (place_of ts y)))
+              beside (under-parent h) u.0 (omega (arith, few, longer))
+          | inr j ↦ parted-below (length h.front ∷ []) [] (beyond-parted n y h.within (shallower n top x h le) j) h.place (sym (append-nil (place_of ts y)))
         ]
   ]
 
@@ -193,24 +198,22 @@ module _ (ts : Trees) (once : Once ts) where
     | inl same ↦ absurd (subst (In y) (ap (ahead_of ts top) same ∙ (top_places ts top (subst (IsWithin ts top) same w)).0) i)
     | inr other ↦
         let h = has-place top x w other in
-        let at = stands_in ts top h.parent h.within in
-        let mine = kid-place h.parent x at h.front h.back h.kids in
         elim (In-parts y (ahead_of ts top h.parent) (h.parent ∷ joined ts h.front)
         (subst (In y) (child_places ts top h.parent x h.front h.back h.within h.kids).1 i)) [
           | inl j ↦ elim (ahead-parted n y h.within (shallower n top x h le) j) [
-            | inl k ↦ inl (parted-below [] (length h.front ∷ []) k (sym (append-nil (place_of ts y))) mine)
+            | inl k ↦ inl (parted-below [] (length h.front ∷ []) k (sym (append-nil (place_of ts y))) h.place)
             | inr k ↦ inr record {
               child = k.child;
               rest = k.rest ++ length h.front ∷ [];
-              place = mine ∙ (ap (λ path. path ++ length h.front ∷ []) k.place ∙ append_assoc (place_of ts y) (k.child ∷ k.rest) (length h.front ∷ []));
+              place = h.place ∙ (ap (λ path. path ++ length h.front ∷ []) k.place ∙ append_assoc (place_of ts y) (k.child ∷ k.rest) (length h.front ∷ []));
             }
           ]
           | inr j ↦ elim j [
-            | inl same ↦ inr record { child = length h.front; rest = []; place = mine ∙ ap (λ z. place_of ts z ++ length h.front ∷ []) (sym same) }
+            | inl same ↦ inr record { child = length h.front; rest = []; place = h.place ∙ ap (λ z. place_of ts z ++ length h.front ∷ []) (sym same) }
             | inr g ↦
-                let u = among-kids h.parent y [] h.front {back = x ∷ h.back} record { there = at; all = h.kids } g in
+                let u = among-kids h.parent y [] h.front {back = x ∷ h.back} record { there = stands_in ts top h.parent h.within; all = h.kids } g in
                 let less = u.2 in
-                inl (beside u.0 record { child = length h.front; rest = []; place = mine } (omega (arith, less)))
+                inl (beside u.0 (under-parent h) (omega (arith, less)))
           ]
         ]
   ]
