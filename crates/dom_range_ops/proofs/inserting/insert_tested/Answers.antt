@@ -1,7 +1,8 @@
-use Rattle.std.proofs.Common.{◌≡◌, ◌++◌, ◌∷◌, [], false, List, Some, None, option_map, sym, ap, subst, ◌∙◌}
+use Rattle.std.proofs.Common.{◌≡◌, ◌++◌, ◌∷◌, [], false, List, Some, None, option_map, refl, sym, ap, subst, ◌∙◌}
 use Rattle.std.proofs.lemmas.Bool.{cond-true}
 use Rattle.std.proofs.lemmas.Result.{on_ok_weaker}
 use Rattle.dom_base.specs.declared.NodeName.{NodeName}
+use Rattle.dom_base.specs.declared.Owner.{Owner as OwnerOf}
 use Rattle.dom_worlds.proofs.RangeLemmas.{insertion-open}
 use Rattle.dom_worlds.proofs.CommandLemmas.{insertion-apart}
 use Rattle.dom_model.specs.CommandRefusals.{limit_on}
@@ -30,17 +31,23 @@ valid c =
     (ap (pre_insert_refusal ts _ x) c.requires.child ∙ place-valid ts (range_at_points d.names c.args.points.now) x c.requires.tested)
 
 -- so the node is not above the parent, which takes nodes
-apart : (c : After-laws) → is_inclusive_ancestor (part_of c.args.doc.now.world c.args.owner).trees (name_in c.args.doc.now c.args.node)
-    (name_in c.args.doc.now c.args.parent) ≡ false
-apart c = insertion-apart (part_of c.args.doc.now.world c.args.owner).trees (name_in c.args.doc.now c.args.parent) (name_in c.args.doc.now c.args.node)
+apart : (c : After-laws) {w : OwnerOf} → w ≡ c.args.owner → is_inclusive_ancestor (part_of c.args.doc.now.world w).trees
+    (name_in c.args.doc.now c.args.node) (name_in c.args.doc.now c.args.parent) ≡ false
+apart c own =
+    ap (λ w. is_inclusive_ancestor (part_of c.args.doc.now.world w).trees (name_in c.args.doc.now c.args.node) (name_in c.args.doc.now c.args.parent)) own
+    ∙ insertion-apart (part_of c.args.doc.now.world c.args.owner).trees (name_in c.args.doc.now c.args.parent) (name_in c.args.doc.now c.args.node)
     (option_map (name_in c.args.doc.now) c.args.child) (valid c)
 
-plain : (c : After-laws) → is_shadow (kind_of (part_of c.args.doc.now.world c.args.owner).trees (name_in c.args.doc.now c.args.node)) ≡ false
-plain c = (insertion-tested (part_of c.args.doc.now.world c.args.owner).trees (name_in c.args.doc.now c.args.parent) (name_in c.args.doc.now c.args.node)
+plain : (c : After-laws) {w : OwnerOf} → w ≡ c.args.owner →
+    is_shadow (kind_of (part_of c.args.doc.now.world w).trees (name_in c.args.doc.now c.args.node)) ≡ false
+plain c own = ap (λ w. is_shadow (kind_of (part_of c.args.doc.now.world w).trees (name_in c.args.doc.now c.args.node))) own
+    ∙ (insertion-tested (part_of c.args.doc.now.world c.args.owner).trees (name_in c.args.doc.now c.args.parent) (name_in c.args.doc.now c.args.node)
     (option_map (name_in c.args.doc.now) c.args.child) (valid c)).plain
 
-opened : (c : After-laws) → has_data (kind_of (part_of c.args.doc.now.world c.args.owner).trees (name_in c.args.doc.now c.args.parent)) ≡ false
-opened c = insertion-open (part_of c.args.doc.now.world c.args.owner).trees (name_in c.args.doc.now c.args.parent) (name_in c.args.doc.now c.args.node)
+opened : (c : After-laws) {w : OwnerOf} → w ≡ c.args.owner →
+    has_data (kind_of (part_of c.args.doc.now.world w).trees (name_in c.args.doc.now c.args.parent)) ≡ false
+opened c own = ap (λ w. has_data (kind_of (part_of c.args.doc.now.world w).trees (name_in c.args.doc.now c.args.parent))) own
+    ∙ insertion-open (part_of c.args.doc.now.world c.args.owner).trees (name_in c.args.doc.now c.args.parent) (name_in c.args.doc.now c.args.node)
     (option_map (name_in c.args.doc.now) c.args.child) (valid c)
 
 -- whether the start is a Text
@@ -53,10 +60,10 @@ kind c =
 -- ---- it is one
 
 pub insert_before_tail-requires-clause-not_above : goal.insert_before_tail-requires-clause-not_above
-insert_before_tail-requires-clause-not_above c = apart (goal.at.insert_before_tail-requires-clause-not_above c).After-laws
+insert_before_tail-requires-clause-not_above c = apart (goal.at.insert_before_tail-requires-clause-not_above c).After-laws refl
 
 pub insert_before_tail-requires-clause-open : goal.insert_before_tail-requires-clause-open
-insert_before_tail-requires-clause-open c = opened (goal.at.insert_before_tail-requires-clause-open c).After-laws
+insert_before_tail-requires-clause-open c = opened (goal.at.insert_before_tail-requires-clause-open c).After-laws refl
 
 pub insert_before_tail-requires-clause-text : goal.insert_before_tail-requires-clause-text
 insert_before_tail-requires-clause-text c = kind (goal.at.insert_before_tail-requires-clause-text c).After-is_text ∙ c.if-is_text.true
@@ -74,7 +81,7 @@ insert_before_tail-requires-clause-start_is_child c =
     }
 
 pub insert_before_tail-requires-clause-no_shadow : goal.insert_before_tail-requires-clause-no_shadow
-insert_before_tail-requires-clause-no_shadow c = plain (goal.at.insert_before_tail-requires-clause-no_shadow c).After-laws
+insert_before_tail-requires-clause-no_shadow c = plain (goal.at.insert_before_tail-requires-clause-no_shadow c).After-laws refl
 
 pub insert_before_tail-requires-clause-ready : goal.insert_before_tail-requires-clause-ready
 insert_before_tail-requires-clause-ready c =
@@ -115,16 +122,10 @@ returns-then-is_text-clause-stopped c q e =
 -- ---- it is none
 
 pub insert_at-requires-clause-not_above : goal.insert_at-requires-clause-not_above
-insert_at-requires-clause-not_above c =
-    let d = c.args.doc.now in
-    ap (λ w. is_inclusive_ancestor (part_of d.world w).trees (name_in d c.args.node) (name_in d c.args.parent)) c.requires.parent_own ∙
-    apart (goal.at.insert_at-requires-clause-not_above c).After-laws
+insert_at-requires-clause-not_above c = apart (goal.at.insert_at-requires-clause-not_above c).After-laws c.requires.parent_own
 
 pub insert_at-requires-clause-open : goal.insert_at-requires-clause-open
-insert_at-requires-clause-open c =
-    let d = c.args.doc.now in
-    ap (λ w. has_data (kind_of (part_of d.world w).trees (name_in d c.args.parent))) c.requires.parent_own ∙
-    opened (goal.at.insert_at-requires-clause-open c).After-laws
+insert_at-requires-clause-open c = opened (goal.at.insert_at-requires-clause-open c).After-laws c.requires.parent_own
 
 pub insert_at-requires-clause-child_is_child : goal.insert_at-requires-clause-child_is_child
 insert_at-requires-clause-child_is_child c b is =
@@ -141,10 +142,7 @@ insert_at-requires-clause-child_is_child c b is =
     }
 
 pub insert_at-requires-clause-no_shadow : goal.insert_at-requires-clause-no_shadow
-insert_at-requires-clause-no_shadow c =
-    let d = c.args.doc.now in
-    ap (λ w. is_shadow (kind_of (part_of d.world w).trees (name_in d c.args.node))) c.requires.node_own ∙
-    plain (goal.at.insert_at-requires-clause-no_shadow c).After-laws
+insert_at-requires-clause-no_shadow c = plain (goal.at.insert_at-requires-clause-no_shadow c).After-laws c.requires.node_own
 
 pub insert_at-requires-clause-ready : goal.insert_at-requires-clause-ready
 insert_at-requires-clause-ready c =
