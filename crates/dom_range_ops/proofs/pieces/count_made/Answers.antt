@@ -1,4 +1,4 @@
-use Rattle.std.proofs.Common.{ℕ, ◌+◌, List, [], ◌∷◌, map, take, get_or, sym, ap, ◌∙◌, arith}
+use Rattle.std.proofs.Common.{◌≡◌, ◌≤◌, ℕ, ◌+◌, List, [], ◌∷◌, map, take, get_or, sym, ap, ◌∙◌, arith}
 use Rattle.std.specs.Prelude.{if◌then◌else◌}
 use Rattle.std.proofs.lemmas.List.{take_more, map_push}
 use Rattle.dom_base.specs.declared.NodeName.{NodeName}
@@ -19,24 +19,24 @@ loop-piece-preserved c =
     ∙ (made-append (map (item_in names) (take i all)) (item_in names (get_or all i c.piece-item.result) ∷ [])
     ∙ (ap (λ p. made_by (map (item_in names) (take i all)) + made_by (item_in names p ∷ [])) (sym c.piece-item.is)
     ∙ ap (λ n. made_by (map (item_in names) (take i all)) + n) (c.is_made.ensures names)))) in
+    let step : (c.if-is_made.count ≡ c.loop-piece.count + (if c.is_made.result then 1 else 0)) × (c.if-is_made.count ≤ c.loop-piece.count + 1) =
     elim c.if-is_made.branch [
       | then-is_made w ↦
           let one = w.count-is in
-          let few = inv.few in
-          record {
-            few = omega (arith, one, few);
-            value = λ names. let g = grown names in let v = inv.value names in let yes =
-                ap {B = ℕ} (λ b. if b then 1 else 0) w.if-is_made.true in omega (arith, one, g, v, yes);
-          }
+          let yes = ap {B = ℕ} (λ b. if b then 1 else 0) w.if-is_made.true in
+          (omega (arith, one, yes), omega (arith, one))
       | else-is_made w ↦
           let one = w.count-is in
-          let few = inv.few in
-          record {
-            few = omega (arith, one, few);
-            value = λ names. let g = grown names in let v = inv.value names in let no =
-                ap {B = ℕ} (λ b. if b then 1 else 0) w.if-is_made.false in omega (arith, one, g, v, no);
-          }
-    ]
+          let no = ap {B = ℕ} (λ b. if b then 1 else 0) w.if-is_made.false in
+          (omega (arith, one, no), omega (arith, one))
+    ] in
+    let more = step.0 in
+    let most = step.1 in
+    let few = inv.few in
+    record {
+      few = omega (arith, most, few);
+      value = λ names. let g = grown names in let v = inv.value names in omega (arith, g, v, more);
+    }
 
 pub returns : goal.returns
 returns c names = c.loop-piece.invariant.value names ∙ ap (λ ps. made_by (map (item_in names) ps))
