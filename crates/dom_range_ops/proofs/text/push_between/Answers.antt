@@ -54,11 +54,10 @@ following-at-requires-clause-within c = (c.loop-at.invariant.stands c.in-Some.ke
 
 pub loop-at-smaller : goal.loop-at-smaller
 loop-at-smaller c =
-    let f = c.args.forest.now in
     let e = c.law_nodes_stand_once.ensures in
-    let step = following_step f e.once e.only c.root-top.result c.in-Some.key c.following-at.result
-    (c.loop-at.invariant.stands c.in-Some.key c.in-Some.is) c.following-at.ensures.value c.following-at.ensures.node in
-    length-behind f c.root-top.result c.in-Some.key c.loop-at.at c.following-at.result c.in-Some.is step.0
+    length-behind c.args.forest.now c.root-top.result c.in-Some.key c.loop-at.at c.following-at.result c.in-Some.is
+    (following_step c.args.forest.now e.once e.only _ _ _ (c.loop-at.invariant.stands c.in-Some.key c.in-Some.is) c.following-at.ensures.value
+    c.following-at.ensures.node).0
 
 pub loop-at-preserved : goal.loop-at-preserved
 loop-at-preserved c =
