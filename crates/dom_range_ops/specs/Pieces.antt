@@ -65,11 +65,12 @@ wholes (cut_item x from to ∷ items) = wholes items
 wholes (clone_item x ∷ items) = wholes items
 wholes (end_item ∷ items) = wholes items
 
--- and their keys
+-- the key of a piece that is one
 abbrev pub whole_key : Piece → List ℕ
 whole_key (Whole x) = x ∷ []
 whole_key other = []
 
+-- and their keys
 abbrev pub whole_keys : List Piece → List ℕ
 whole_keys [] = []
 whole_keys (piece ∷ pieces) = whole_key piece ++ whole_keys pieces
