@@ -1,32 +1,24 @@
--- The lines of a dispatch name nodes, and lines of one owner that show one path show one text of it.
-use Rattle.std.proofs.Common.{◌≡◌, ℕ, ◌<◌, Bool, true, false, List, [], ◌∷◌, ◌++◌, filter, fold, length, map, reverse, arith, refl, sym, ap, ◌∙◌}
+-- The lines of a dispatch name nodes, and are printed by names.
+use Rattle.std.proofs.Common.{◌≡◌, ℕ, ◌<◌, Bool, true, false, List, [], ◌∷◌, ◌++◌, filter, fold, length, map, reverse, arith, refl, ap}
 use Rattle.std.specs.Prelude.{nat_eq, ◌||◌, All}
 use Rattle.std.specs.List.{AllByRecursion}
 use Rattle.std.proofs.lemmas.List.Elements.{All-cons}
-use Rattle.std.proofs.lemmas.Slice.Eq.{bytes_eq-Decides}
 use Rattle.std.specs.Option.{ForSome}
-use Rattle.std.specs.Str.{bytes_eq}
 use Rattle.dom_base.specs.declared.Action.{Action}
 use Rattle.dom_base.specs.declared.Action.TheVariants.{Log, Stop, StopNow, Cancel}
-use Rattle.dom_base.specs.contracts.OwnerPartialEq.TheImpl as OwnerImpl
 use Rattle.dom_base.specs.declared.NodeName.{NodeName}
-use Rattle.dom_base.specs.declared.Owner.{Owner}
 use Rattle.dom_model.specs.Command.{EventWords}
 use Rattle.dom_model.specs.Dispatch.{visit_of, visits_of, is_at_target, event_output}
 use Rattle.dom_model.specs.Listeners.{Listener, Visit, Dispatching, after_action, may_cancel, line_of, kept_after, after_inner_invoke, hears, after_invoke}
 use Rattle.dom_model.specs.Listeners.{begun}
 use Rattle.dom_model.specs.Output.{Output}
 use Rattle.dom_model.specs.Paths.{View}
-use Rattle.dom_model.proofs.OwnerLaws.{owner_eq-true}
-use Rattle.dom_model.proofs.OwnerTests.{same_owner}
-use Rattle.dom_text.specs.Text.{list_text}
 use Rattle.dom_worlds.proofs.ListLemmas.{all-append, all-filter, all-map, all-reverse, all-then, either_way}
-use Rattle.dom_tree.specs.Forest.{name_at}
 use Rattle.dom_path.specs.Items.{ShowsNodes}
 use Rattle.dom_dispatch.specs.declared.event.LogLine.{LogLine}
 use Rattle.dom_dispatch.specs.Dispatches.{line_in}
 use Rattle.dom_dispatch.specs.ListenersByName.{line_named}
-use Rattle.dom_commands.specs.Machine.{NamesNodes, line_shown, path_shown}
+use Rattle.dom_commands.specs.Machine.{NamesNodes, line_shown}
 
 -- what holds of each item
 pub every : {X : Type 0} (P : X → Type 0) (xs : List X) → AllByRecursion P xs → All P xs
@@ -101,11 +93,3 @@ line_nodes names (l ∷ ls) h = (h.0, line_nodes names ls h.1)
 pub lines_shown : (names : List NodeName) (ls : List LogLine) → map (line_shown names) ls ≡ map event_output (map (line_named names) (map line_in ls))
 lines_shown names [] = refl
 lines_shown names (l ∷ ls) = ap (λ (os : List Output). line_shown names l ∷ os) (lines_shown names ls)
-
--- lines of one owner that show one path show one text of it
-pub one_path : (names : List NodeName) (l m : LogLine) → OwnerImpl.ghosts.eq l.owner m.owner ≡ true → bytes_eq l.path.value.items m.path.value.items ≡ true
-    → path_shown names m ≡ path_shown names l
-one_path names l m owners keys =
-    let owner : l.owner ≡ m.owner = owner_eq-true l.owner m.owner (sym (same_owner l.owner m.owner) ∙ owners) in
-    let path : l.path.value.items ≡ m.path.value.items = (bytes_eq-Decides l.path.value.items m.path.value.items).0 keys in
-    sym (ap (λ (o : Owner). list_text o (map (name_at names) l.path.value.items)) owner ∙ ap (λ ks. list_text m.owner (map (name_at names) ks)) path)

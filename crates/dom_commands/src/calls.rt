@@ -1,11 +1,11 @@
 //! Dispatches of events, and the lines that tell of them.
-ghost use Rattle.std.specs.Prelude.{◌≡◌, ◌<◌, ◌++◌, ◌∷◌, [], true, All, List, length, map, IfOk, OnOk};
+ghost use Rattle.std.specs.Prelude.{◌≡◌, ℕ, ◌<◌, ◌++◌, ◌∷◌, [], true, All, List, length, map, IfOk, OnOk};
 ghost use Rattle.std.specs.Option.{option_map, ForSome};
 ghost use Rattle.dom_base.specs.declared.NodeName.{NodeName};
 ghost use Rattle.dom_model.specs.Dispatch.{dispatch_in};
 ghost use Rattle.dom_text.specs.Text.{output_text};
 ghost use Rattle.dom_tree.specs.Forest.{name_at};
-ghost use Rattle.dom_dispatch.specs.Dispatches.{event_words, line_in, IsOwnLine};
+ghost use Rattle.dom_dispatch.specs.Dispatches.{event_words, line_in, IsOwnLine, AreNumbered, HasPathOf};
 ghost use Rattle.dom_commands.specs.Machine.{AreAtNodes, IsAtRest, NamesNodes, line_shown, path_shown};
 
 use crate::machine::Machine;
@@ -58,6 +58,7 @@ fn put_lines(
 ) -> Result<(), AllocError>
     requires nodes { All (λ l. NamesNodes forest.now.names (line_in l)) lines.now }
     requires owners { All (IsOwnLine forest.now.names) lines.now }
+    requires numbered { AreNumbered lines.now }
     ensures { OnOk result (out.new.items ≡ out.old.items ++ output_text (map (line_shown forest.now.names) lines.now)) }
 {
     let [first, ..] = lines else {
@@ -88,9 +89,10 @@ fn path_text(alloc: Global, forest: &Forest, line: &LogLine) -> Result<Vec<u8>, 
 
 /// Whether a line shows the owner of another one the same path.
 fn has_path_of(line: &LogLine, other: &LogLine) -> bool
-    ensures { result ≡ true → (names : List NodeName) → path_shown names other.now ≡ path_shown names line.now }
+    ensures { result ≡ true → (names : List NodeName) (paths : ℕ → List ℕ) → HasPathOf paths line.now → HasPathOf paths other.now →
+        path_shown names other.now ≡ path_shown names line.now }
 {
-    line.owner == other.owner && line.path.as_slice() == other.path.as_slice()
+    line.owner == other.owner && line.path_at == other.path_at
 }
 
 /// Puts the line of the call of a listener, as its owner sees it, with the text of its path.

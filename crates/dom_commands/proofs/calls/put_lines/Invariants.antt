@@ -1,6 +1,8 @@
--- The buffer has the lines so far, and the text is that of the path of the line that it was made for.
-use Rattle.std.proofs.Common.{◌≡◌, map, take, ◌++◌}
+-- The buffer has the lines so far, and the text is that of the path of the line that it was made for, which is one of the lines.
+use Rattle.std.proofs.Common.{◌≡◌, ℕ, List, map, take, ◌++◌}
+use Rattle.std.specs.List.{AllByRecursion}
 use Rattle.dom_text.specs.Text.{output_text}
+use Rattle.dom_dispatch.specs.Dispatches.{HasPathOf}
 use Rattle.dom_commands.specs.Machine.{line_shown, path_shown}
 use Rattle.dom_commands.proofs.calls.put_lines.Given as goal
 
@@ -8,3 +10,4 @@ abbrev pub invariant-loop-line : goal.invariant-loop-line
 invariant-loop-line l =
     (l.out.items ≡ l.initial.out.items ++ output_text (map (line_shown l.forest.names) (take l.line-index l.lines)))
     × (l.path.items ≡ path_shown l.forest.names l.shown)
+    × ((paths : ℕ → List ℕ) → AllByRecursion (HasPathOf paths) l.lines → HasPathOf paths l.shown)

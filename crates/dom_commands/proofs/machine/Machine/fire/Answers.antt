@@ -2,7 +2,7 @@ use Rattle.std.proofs.Common.{List, ◌++◌, All, map, rules, sym, ap, subst, �
 use Rattle.std.specs.List.{AllByRecursion}
 use Rattle.dom_text.specs.Text.{output_text}
 use Rattle.dom_dispatch.specs.declared.event.LogLine.{LogLine}
-use Rattle.dom_dispatch.specs.Dispatches.{event_words, line_in}
+use Rattle.dom_dispatch.specs.Dispatches.{event_words, line_in, AreNumbered}
 use Rattle.dom_commands.specs.Machine.{NamesNodes, line_shown}
 use Rattle.dom_commands.proofs.EventLines.{dispatch-lines, line_nodes, every}
 use Rattle.dom_commands.proofs.Firing.{fired}
@@ -20,6 +20,9 @@ put_lines-requires-clause-nodes c =
     (line_nodes names c.in_ok-outcome.outcome.lines.items
     (subst (AllByRecursion (NamesNodes names)) (sym keys.lines)
     (dispatch-lines names (event_words c.args.event) c.self.inside.listeners keys.shown keys.nodes))))
+
+pub put_lines-requires-clause-numbered : goal.put_lines-requires-clause-numbered
+put_lines-requires-clause-numbered c = subst AreNumbered (sym c.as_slice.ensures.value) c.in_ok-outcome.ensures.numbered
 
 pub returns : goal.returns
 returns c =
