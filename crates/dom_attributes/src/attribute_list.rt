@@ -129,9 +129,15 @@ impl Attributes {
 }
 
 /// The attributes of a node, in a box. A node that never had one has no box.
-#[derive(Drop)]
 pub struct AttributeList {
     boxed: Option<Box<Attributes>>,
+}
+
+impl Drop for AttributeList {
+    // Written out, so that the crates above cite it, and do not prove again how each field is let go.
+    fn drop(self) {
+        let Self { boxed } = self;
+    }
 }
 
 impl Model for AttributeList {

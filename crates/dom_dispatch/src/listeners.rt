@@ -66,11 +66,21 @@ impl Entry {
 /// The listeners of all nodes, in the order of adding (DOM Standard, concept: event listener list). A node's own are found by one
 /// look. The types for which there was a listener are kept, so that an event of another type visits no node, and one that no capturing
 /// listener was for visits none while it is capturing.
-#[derive(Drop)]
 pub struct Listeners {
     pub(crate) table: Table,
     types: Types,
     pub(crate) alloc: Global,
+}
+
+impl Drop for Listeners {
+    // Written out, so that the crates above cite it, and do not prove again how each field is let go.
+    fn drop(self) {
+        let Self {
+            table,
+            types,
+            alloc,
+        } = self;
+    }
 }
 
 impl Model for Listeners {

@@ -13,12 +13,23 @@ use std::marker::Model;
 /// All that were signalled are logged, and an owner's are taken without a look at others': those of it that stand in the log
 /// up to then do not count any more. Where none is left that counts, the log is empty again, if it is as long as the list of
 /// owners that is then made anew: so both cost no more than the signals did.
-#[derive(Drop)]
 pub struct Signals {
     log: Vec<NodeName>,
     own: ByOwner,
     count: usize,
     alloc: Global,
+}
+
+impl Drop for Signals {
+    // Written out, so that the crates above cite it, and do not prove again how each field is let go.
+    fn drop(self) {
+        let Self {
+            log,
+            own,
+            count,
+            alloc,
+        } = self;
+    }
 }
 
 impl Model for Signals {

@@ -24,10 +24,16 @@ use std::marker::Model;
 
 /// The mutation observers of all owners (DOM Standard, 4.3 Mutation observers): each owner's registrations, record queues
 /// and pending observers. An owner's observers have the numbers 0, 1, .. in the order of their making.
-#[derive(Drop)]
 pub struct Observers {
     tables: HashMap<Owner, Table>,
     alloc: Global,
+}
+
+impl Drop for Observers {
+    // Written out, so that the crates above cite it, and do not prove again how each field is let go.
+    fn drop(self) {
+        let Self { tables, alloc } = self;
+    }
 }
 
 impl Model for Observers {

@@ -37,11 +37,21 @@ pub struct Points {
 
 /// The live ranges of all owners (DOM Standard, interface Range). An owner's ranges are numbered in the order in which
 /// it made them. Changes of the trees are told to the table step by step.
-#[derive(Drop)]
 pub struct RangeTable {
     live: Slab<Points>,
     ends: Vec<RangeEnd>,
     numbers: Numbers,
+}
+
+impl Drop for RangeTable {
+    // Written out, so that the crates above cite it, and do not prove again how each field is let go.
+    fn drop(self) {
+        let Self {
+            live,
+            ends,
+            numbers,
+        } = self;
+    }
 }
 
 impl Model for RangeTable {

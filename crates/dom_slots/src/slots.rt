@@ -29,13 +29,25 @@ struct Attached {
 }
 
 /// The hosts of shadow trees, in the order of attaching, and the nodes assigned to the slots of their trees.
-#[derive(Drop)]
 pub struct Slots {
     hosts: Vec<Attached>,
     by_host: KeyMap,
     by_root: KeyMap,
     table: Table,
     alloc: Global,
+}
+
+impl Drop for Slots {
+    // Written out, so that the crates above cite it, and do not prove again how each field is let go.
+    fn drop(self) {
+        let Self {
+            hosts,
+            by_host,
+            by_root,
+            table,
+            alloc,
+        } = self;
+    }
 }
 
 impl Model for Slots {

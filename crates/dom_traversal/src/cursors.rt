@@ -24,10 +24,16 @@ use std::collections::HashMap;
 use std::marker::Model;
 
 /// The iterators and walkers of all owners. An owner's have the numbers 0, 1, .. in the order of their making.
-#[derive(Drop)]
 pub struct Cursors {
     tables: HashMap<Owner, OwnTables>,
     alloc: Global,
+}
+
+impl Drop for Cursors {
+    // Written out, so that the crates above cite it, and do not prove again how each field is let go.
+    fn drop(self) {
+        let Self { tables, alloc } = self;
+    }
 }
 
 impl Model for Cursors {

@@ -26,13 +26,25 @@ use std::alloc::Global;
 use std::marker::Model;
 
 /// The nodes of all owners, and the trees in which they stand. Nodes are never taken away.
-#[derive(Drop)]
 pub struct Forest {
     arena: Arena<StoredNode>,
     keys: KeyTable,
     shared: SharedTable,
     attribute_names: SharedNames,
     alloc: Global,
+}
+
+impl Drop for Forest {
+    // Written out, so that the crates above cite it, and do not prove again how each field is let go.
+    fn drop(self) {
+        let Self {
+            arena,
+            keys,
+            shared,
+            attribute_names,
+            alloc,
+        } = self;
+    }
 }
 
 impl Model for Forest {
