@@ -1,25 +1,12 @@
 -- What a look-up of a name in a forest says of an owner's own trees.
-use Rattle.std.proofs.Common.{◌≡◌, ℕ, ◌<◌, Bool, true, false, ◌||◌, List, [], ◌∷◌, length, Option, Some, None, cond, refl, sym, ap, subst, ◌∙◌, arith, zero-add}
-use Rattle.std.specs.Prelude.{is_some, slice_get, count_by, find}
-use Rattle.std.specs.Option.{option_map, ForSome}
-use Rattle.std.proofs.lemmas.List.Sums.{sum_by-cons}
-use Rattle.std.proofs.lemmas.Option.{slice_get_within, get_or_from_slice_get}
-use Rattle.dom_base.specs.declared.Owner.{Owner}
-use Rattle.dom_base.specs.declared.Owner.TheVariants.{Page}
-use Rattle.dom_base.specs.declared.NodeName.{NodeName}
-use Rattle.dom_model.specs.Names.{name_eq, is_in, node_of}
-use Rattle.dom_model.specs.Command.{NodeWord, own, foreign}
-use Rattle.dom_model.specs.CommandNames.{named}
-use Rattle.dom_model.specs.Part.{Part}
+use Rattle.dom_base.proofs.Std.{◌≡◌, ℕ, ◌<◌, Bool, true, false, ◌||◌, List, [], ◌∷◌, length, Option, Some, None, cond, refl, sym, ap, subst, ◌∙◌, arith}
+use Rattle.dom_base.proofs.Std.{zero-add, is_some, slice_get, count_by, find, option_map, ForSome, sum_by-cons, slice_get_within, get_or_from_slice_get}
+use Rattle.dom_model.proofs.Model.{Owner, Page, NodeName, name_eq, is_in, node_of, NodeWord, own, foreign, named, Part, World, part_of, owner-part_of, Trees}
+use Rattle.dom_model.proofs.Model.{Node, nodes, names_of, has_node, node_in, no_node, is_document, name_eq-turned}
 use Rattle.dom_admission.specs.Refusals.{number_in}
-use Rattle.dom_model.specs.World.{World, part_of}
-use Rattle.dom_model.proofs.PartLaws.{owner-part_of}
-use Rattle.dom_model.specs.Tree.{Trees, Node, nodes, names_of, has_node, node_in, no_node, is_document}
-use Rattle.dom_model.proofs.OwnerLaws.{name_eq-turned}
-use Rattle.dom_tree.specs.Forest.{name_at}
-use Rattle.dom_tree.specs.Owners.{trees_of_owner, AreOwned, IsReadOwn}
+use Rattle.dom_tree.specs.Definitions.{name_at, trees_of_owner, AreOwned, IsReadOwn}
 use Rattle.dom_tree.proofs.Owned.{read_own}
-use Rattle.dom_mutation.specs.Doc.{DocState, name_in, owner_in, trees_in}
+use Rattle.dom_mutation.specs.Definitions.{DocState, name_in, owner_in, trees_in}
 use Rattle.dom_admission.specs.Turned.{turned}
 
 -- a node that is counted once is there

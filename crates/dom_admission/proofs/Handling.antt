@@ -1,38 +1,18 @@
 -- How a command is handled: it passes the tests that all commands share, then it changes its owner's part and answers, or only answers.
-use Rattle.std.proofs.Common.{◌≡◌, ℕ, Bool, true, false, not, ◌&&◌, unwrap_or, List, [], ◌∷◌, ◌++◌, map, Option, Some, None, Result, Ok, Err, refl}
-use Rattle.std.proofs.Common.{sym, ap, subst, ◌∙◌, append_assoc}
-use Rattle.std.specs.Prelude.{is_some, if◌then◌else◌, IsErrAnd}
-use Rattle.std.proofs.lemmas.List.{append-nil}
-use Rattle.std.specs.Option.{option_or}
-use Rattle.dom_base.specs.declared.Fault.{Fault}
-use Rattle.dom_base.specs.declared.Fault.TheVariants.{Refused, Memory}
-use Rattle.dom_base.specs.declared.Refusal.{Refusal}
-use Rattle.dom_base.specs.declared.Refusal.TheVariants.{Busy, Foreign, Unknown, WrongKind}
-use Rattle.dom_base.specs.declared.NodeName.{NodeName}
-use Rattle.dom_base.specs.declared.Owner.{Owner}
-use Rattle.dom_model.specs.Changes.{Plan}
-use Rattle.dom_model.specs.CommandNames.{named}
-use Rattle.dom_model.specs.Names.{owner_eq}
-use Rattle.dom_model.specs.Effects.{Effect, answers, changes}
-use Rattle.dom_model.specs.Output.{Output, says, replied, Said, Value}
-use Rattle.dom_model.specs.Part.{Part, empty_part}
-use Rattle.dom_model.specs.Validity.{first_refusal}
-use Rattle.dom_model.specs.Runs.{Run}
-use Rattle.dom_model.specs.Steps.{Step}
-use Rattle.dom_model.specs.Turns.{opening_turn}
-use Rattle.dom_model.specs.World.{World, part_of, find_part, put_part, with_part, is_there}
-use Rattle.dom_model.specs.WorldSteps.{world_after}
-use Rattle.dom_model.specs.Command.{Command, NodeWord, effect, own_refusal}
-use Rattle.dom_model.specs.DocumentMachine.{effect_in, refusal, accepted, is_busy}
-use Rattle.dom_model.proofs.OwnerLaws.{owner_eq-same, owner_eq-true}
-use Rattle.dom_text.specs.Text.{output_text}
+use Rattle.dom_base.proofs.Std.{◌≡◌, ℕ, Bool, true, false, not, ◌&&◌, unwrap_or, List, [], ◌∷◌, ◌++◌, map, Option, Some, None, Result, Ok, Err, refl, sym, ap}
+use Rattle.dom_base.proofs.Std.{subst, ◌∙◌, append_assoc, is_some, if◌then◌else◌, IsErrAnd, append-nil, option_or}
+use Rattle.dom_model.proofs.Model.{Fault, Refused, Memory, Refusal, Busy, Foreign, Unknown, WrongKind, NodeName, Owner, Plan, named, owner_eq, Effect, answers}
+use Rattle.dom_model.proofs.Model.{changes, Output, says, replied, Said, Value, Part, empty_part, first_refusal, Run, Step, opening_turn, World, part_of}
+use Rattle.dom_model.proofs.Model.{find_part, put_part, with_part, is_there, world_after, Command, NodeWord, effect, own_refusal, effect_in, refusal, accepted}
+use Rattle.dom_model.proofs.Model.{is_busy, owner_eq-same, owner_eq-true}
+use Rattle.dom_text.specs.Definitions.{output_text}
 use Rattle.dom_text.proofs.OutputLaws.{output_text-append}
-use Rattle.dom_mutation.specs.Doc.{DocState, MakesSaying, made, name_in, owner_in}
+use Rattle.dom_mutation.specs.Definitions.{DocState, MakesSaying, made, name_in, owner_in}
 use Rattle.dom_admission.specs.declared.admission.Operand.{Operand}
 use Rattle.dom_admission.specs.Handled.{IsDone, IsHandled, let_pass}
 use Rattle.dom_admission.specs.Refusals.{is_there_as, is_fit, has_foreign, are_there, are_fitting, early_refusal}
 use Rattle.dom_admission.specs.Turned.{with_turn, turned, opened_turn}
-use Rattle.dom_tree.specs.Forest.{name_at}
+use Rattle.dom_tree.specs.Definitions.{name_at}
 use Rattle.dom_admission.proofs.Finding.{key_of}
 use Rattle.dom_admission.proofs.Refusing.{IsNaming, and_true, refusal-naming}
 use Rattle.dom_admission.proofs.Turned.{after_turned}

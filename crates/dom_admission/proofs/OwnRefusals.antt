@@ -1,9 +1,6 @@
 -- A command's own tests: what they refuse, and what was not refused.
-use Rattle.std.proofs.Common.{◌≡◌, ◌⊎◌, ◌↔◌, inl, inr, Bool, true, false, not, [], ◌∷◌, Option, Some, None, Result, Ok, Err, refl, sym, ap, ◌∙◌}
-use Rattle.dom_base.specs.declared.Fault.{Fault}
-use Rattle.dom_base.specs.declared.Fault.TheVariants.{Refused, Memory}
-use Rattle.dom_base.specs.declared.Refusal.{Refusal}
-use Rattle.dom_model.specs.Validity.{first_refusal}
+use Rattle.dom_base.proofs.Std.{◌≡◌, ◌⊎◌, ◌↔◌, inl, inr, Bool, true, false, not, [], ◌∷◌, Option, Some, None, Result, Ok, Err, refl, sym, ap, ◌∙◌}
+use Rattle.dom_model.proofs.Model.{Fault, Refused, Memory, Refusal, first_refusal}
 
 -- a call that was done, and one that was not
 abbrev pub ended : {X : Type 0} → X → Result X Fault

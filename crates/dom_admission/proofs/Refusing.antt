@@ -1,16 +1,7 @@
 -- The refusal of a command is that of its names, or else its own.
-use Rattle.std.proofs.Common.{◌≡◌, Bool, true, false, ◌&&◌, List, [], ◌∷◌, Option, not, refl, sym}
-use Rattle.std.specs.Option.{option_or}
-use Rattle.dom_base.specs.declared.Owner.{Owner}
-use Rattle.dom_base.specs.declared.Owner.TheVariants.{Page, Component}
-use Rattle.dom_base.specs.declared.Refusal.{Refusal}
-use Rattle.dom_base.specs.declared.Refusal.TheVariants.{Syntax, Busy, Foreign, Unknown, WrongKind}
-use Rattle.dom_model.specs.Command.{Command, names_foreign, nodes_exist, nodes_fit, thing_exists, is_command_of, own_refusal}
-use Rattle.dom_model.specs.Part.{Part}
-use Rattle.dom_model.specs.Validity.{first_refusal}
-use Rattle.dom_model.specs.World.{World, part_of, is_there}
-use Rattle.dom_model.specs.DocumentMachine.{is_busy, refusal}
-use Rattle.dom_model.specs.Trace.{is_page}
+use Rattle.dom_base.proofs.Std.{◌≡◌, Bool, true, false, ◌&&◌, List, [], ◌∷◌, Option, not, refl, sym, option_or}
+use Rattle.dom_model.proofs.Model.{Owner, Page, Component, Refusal, Syntax, Busy, Foreign, Unknown, WrongKind, Command, names_foreign, nodes_exist, nodes_fit}
+use Rattle.dom_model.proofs.Model.{thing_exists, is_command_of, own_refusal, Part, first_refusal, World, part_of, is_there, is_busy, refusal, is_page}
 use Rattle.dom_admission.specs.declared.admission.Operand.{Operand}
 use Rattle.dom_admission.specs.Refusals.{has_foreign, are_there, are_fitting, early_refusal}
 use Rattle.dom_admission.specs.declared.admission.Operand.TheVariants.{Slot}

@@ -1,14 +1,9 @@
 -- Steps do in a world with an open turn what they do in the world alone.
-use Rattle.std.proofs.Common.{◌≡◌, ℕ, zero, suc, Bool, true, false, List, [], ◌∷◌, Option, Some, None, fold, flat_map, filter_map, refl, ap, ◌∙◌}
-use Rattle.dom_base.specs.declared.Owner.{Owner}
-use Rattle.dom_base.specs.declared.NodeName.{NodeName}
-use Rattle.dom_model.specs.Names.{max_depth}
-use Rattle.dom_model.specs.Tree.{parent_of, inclusive_descendants}
-use Rattle.dom_model.specs.Steps.{Step, make, make_room, place, take_out, set_document, set_attribute, replace_data, split_at, join_at, set_range}
-use Rattle.dom_model.specs.Steps.{queue_record, is_taken}
-use Rattle.dom_model.specs.Slots.{signals, with_signal}
-use Rattle.dom_model.specs.World.{World, part_of, component_at, components_below, shadow_root_of, trees_with}
-use Rattle.dom_model.specs.WorldSteps.{world_step, world_after, stepped, with_removal_signals, with_notify_if, with_shadow_document}
+use Rattle.dom_base.proofs.Std.{◌≡◌, ℕ, zero, suc, Bool, true, false, List, [], ◌∷◌, Option, Some, None, fold, flat_map, filter_map, refl, ap, ◌∙◌}
+use Rattle.dom_model.proofs.Model.{Owner, NodeName, max_depth, parent_of, inclusive_descendants, Step, make, make_room, place, take_out, set_document}
+use Rattle.dom_model.proofs.Model.{set_attribute, replace_data, split_at, join_at, set_range, queue_record, is_taken, signals, with_signal, World, part_of}
+use Rattle.dom_model.proofs.Model.{component_at, components_below, shadow_root_of, trees_with, world_step, world_after, stepped, with_removal_signals}
+use Rattle.dom_model.proofs.Model.{with_notify_if, with_shadow_document}
 use Rattle.dom_admission.specs.Turned.{with_turn}
 
 module _ (t : Option Owner) where

@@ -1,14 +1,8 @@
 -- Attributes in the code's map, and the code's test of their names.
-use Rattle.std.proofs.Common.{◌≡◌, inl, inr, ℕ, Bool, ◌&&◌, List, [], ◌∷◌, map, refl, ap, ◌∙◌}
-use Rattle.std.specs.Prelude.{find, nat_eq}
-use Rattle.std.specs.Option.{option_map}
-use Rattle.std.specs.Str.{bytes_eq}
-use Rattle.std.specs.Map.{lookup, remove_entry}
-use Rattle.std.proofs.lemmas.Bool.{cases_Bool}
+use Rattle.dom_base.proofs.Std.{◌≡◌, inl, inr, ℕ, Bool, ◌&&◌, List, [], ◌∷◌, map, refl, ap, ◌∙◌, find, nat_eq, option_map, bytes_eq, lookup, remove_entry}
+use Rattle.dom_base.proofs.Std.{cases_Bool}
 use Rattle.indexmap.specs.IndexMap.{insert_entry}
-use Rattle.dom_model.specs.Names.{text_eq}
-use Rattle.dom_model.specs.Tree.{Attribute}
-use Rattle.dom_model.specs.TreeChanges.{attributes_with, attributes_without}
+use Rattle.dom_model.proofs.Model.{text_eq, Attribute, attributes_with, attributes_without}
 
 -- the code's test of texts is that of the definitions
 pub text_test : (x y : List ℕ) → bytes_eq x y ≡ text_eq x y

@@ -1,6 +1,5 @@
 -- What is read of a part that is boxed, or not there.
-use Rattle.std.proofs.Common.{◌≡◌, Option, Some, sym, ap, subst, ◌∙◌}
-use Rattle.std.specs.Option.{option_map_or}
+use Rattle.dom_base.proofs.Std.{◌≡◌, Option, Some, sym, ap, subst, ◌∙◌, option_map_or}
 
 -- what a box shows, where there is one and its value is read by a reference
 pub boxed_shows : {B X Y : Type 0} (inside : B → X) (show : X → Y) {boxed : Option B} (none : Y) {shown : Y} {b : B} {read : X} →

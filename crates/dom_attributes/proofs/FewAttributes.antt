@@ -1,15 +1,8 @@
 -- Attributes of which the first few stand in a list of the code: what is found among them, set there and taken from there.
-use Rattle.std.proofs.Common.{◌≡◌, ℕ, zero, suc, ◌+◌, ◌<◌, ◌≤◌, Bool, true, false, cond, not, List, [], ◌∷◌, ◌++◌, set, length}
-use Rattle.std.proofs.Common.{Option, Some, None, Result, Ok, Err, ◌⊎◌, inl, inr, refl, sym, ap, subst, ◌∙◌}
-use Rattle.std.proofs.Common.{arith}
-use Rattle.std.specs.Prelude.{slice_index_or, nat_lt, if◌then◌else◌, OnOk, OnErr}
-use Rattle.std.specs.List.{AllByRecursion, position, position_or_len, remove}
-use Rattle.std.specs.Str.{bytes_eq}
-use Rattle.std.proofs.lemmas.Bool.{ltb-true, ltb-false}
-use Rattle.std.proofs.lemmas.Option.{same_Some, none-some}
-use Rattle.dom_model.specs.Names.{text_eq}
-use Rattle.dom_model.specs.Tree.{Attribute}
-use Rattle.dom_model.specs.TreeChanges.{attributes_with, attributes_without}
+use Rattle.dom_base.proofs.Std.{◌≡◌, ℕ, zero, suc, ◌+◌, ◌<◌, ◌≤◌, Bool, true, false, cond, not, List, [], ◌∷◌, ◌++◌, set, length, Option, Some, None, Result}
+use Rattle.dom_base.proofs.Std.{Ok, Err, ◌⊎◌, inl, inr, refl, sym, ap, subst, ◌∙◌, arith, slice_index_or, nat_lt, if◌then◌else◌, OnOk, OnErr, AllByRecursion}
+use Rattle.dom_base.proofs.Std.{position, position_or_len, remove, bytes_eq, ltb-true, ltb-false, same_Some, none-some}
+use Rattle.dom_model.proofs.Model.{text_eq, Attribute, attributes_with, attributes_without}
 use Rattle.dom_attributes.specs.Attributes.{HaveOwnNames, value_among}
 use Rattle.dom_attributes.proofs.Attributes.{text_test, attributes_in}
 

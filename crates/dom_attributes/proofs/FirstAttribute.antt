@@ -1,8 +1,6 @@
 -- Attributes of which the first stands apart from the later ones: what is found there, and when it is another one.
-use Rattle.std.proofs.Common.{◌≡◌, ℕ, true, false, List, [], ◌∷◌, ◌++◌, Option, Some, None, option_to_list, refl, sym, subst}
-use Rattle.std.specs.List.{AllByRecursion}
-use Rattle.std.specs.Str.{bytes_eq}
-use Rattle.dom_model.specs.Tree.{Attribute}
+use Rattle.dom_base.proofs.Std.{◌≡◌, ℕ, true, false, List, [], ◌∷◌, ◌++◌, Option, Some, None, option_to_list, refl, sym, subst, AllByRecursion, bytes_eq}
+use Rattle.dom_model.proofs.Model.{Attribute}
 use Rattle.dom_attributes.specs.Attributes.{value_among}
 use Rattle.dom_attributes.proofs.Attributes.{attributes_in}
 use Rattle.dom_attributes.proofs.FewAttributes.{named, found-value}

@@ -1,10 +1,6 @@
 -- The names of attributes in the code's map, which has each key once.
-use Rattle.std.proofs.Common.{◌≡◌, ℕ, Bool, false, ◌&&◌, List, [], ◌∷◌, map, refl, sym, ap, ◌∙◌, arith}
-use Rattle.std.specs.Prelude.{nat_eq}
-use Rattle.std.specs.List.{AllByRecursion, IsDistinct}
-use Rattle.std.specs.Str.{bytes_eq}
-use Rattle.dom_model.specs.Names.{text_eq}
-use Rattle.dom_model.specs.Tree.{Attribute}
+use Rattle.dom_base.proofs.Std.{◌≡◌, ℕ, Bool, false, ◌&&◌, List, [], ◌∷◌, map, refl, sym, ap, ◌∙◌, arith, nat_eq, AllByRecursion, IsDistinct, bytes_eq}
+use Rattle.dom_model.proofs.Model.{text_eq, Attribute}
 use Rattle.dom_attributes.specs.Attributes.{HaveOwnNames}
 use Rattle.dom_attributes.proofs.Attributes.{text_test, attributes_in}
 

@@ -1,15 +1,11 @@
 -- The widgets' hosts and shadow roots are as a path asks.
-use Rattle.std.proofs.Common.{◌≡◌, ℕ, suc, false, ◌&&◌, List, [], ◌∷◌, length, Option, Some, refl, sym, ap, subst, arith}
-use Rattle.std.specs.Prelude.{◌==◌}
+use Rattle.std.proofs.Common.{◌≡◌, ℕ, suc, false, ◌&&◌, List, [], ◌∷◌, length, Option, Some, refl, sym, ap, subst, arith, ◌==◌}
 use Rattle.std.specs.List.{AllByRecursion}
 use Rattle.dom_base.specs.declared.NodeName.{NodeName}
 use Rattle.dom_model.specs.Names.{name_eq, owner_eq, owner_depth}
-use Rattle.dom_tree.specs.Forest.{NamedTrees, name_at}
-use Rattle.dom_tree.specs.Owners.{AreInOrder}
-use Rattle.dom_slots.specs.Hosts.{ShadowHost}
-use Rattle.dom_slots.specs.Shadows.{ShadowTrees}
-use Rattle.dom_path.specs.Hosted.{AreApart, AreAttached, IsAttached}
-use Rattle.dom_path.specs.Paths.{items_at}
+use Rattle.dom_tree.specs.Definitions.{NamedTrees, name_at, AreInOrder}
+use Rattle.dom_slots.specs.Definitions.{ShadowHost, ShadowTrees}
+use Rattle.dom_path.specs.Definitions.{AreApart, AreAttached, IsAttached, items_at}
 use Rattle.dom_callers.specs.Widgets.{AreWidgets}
 
 pub widgets-attached : (f : NamedTrees) (hosts : List ShadowHost) → AreInOrder f.trees → AreWidgets f hosts → AreAttached f hosts 1

@@ -1,14 +1,12 @@
 -- What the caller of a `Doc` has in hand is still there after a call.
-use Rattle.std.proofs.Common.{◌≡◌, ◌<◌, ℕ, true, List, [], ◌++◌, length, Option, Some, None, is_some, refl, ap, sym, subst, ◌∙◌, true≢false}
-use Rattle.std.proofs.lemmas.List.{append-nil}
+use Rattle.std.proofs.Common.{◌≡◌, ◌<◌, ℕ, true, List, [], ◌++◌, length, Option, Some, None, is_some, refl, ap, sym, subst, ◌∙◌, true≢false, append-nil}
 use Rattle.dom_base.specs.declared.Kind.TheVariants.{Text}
 use Rattle.dom_base.specs.declared.NodeName.{NodeName}
 use Rattle.dom_base.specs.declared.Owner.{Owner}
 use Rattle.dom_callers.specs.Editing.{IsNodeOf, IsTextOf, IsRangeOf}
 use Rattle.dom_model.specs.Changes.{Plan}
 use Rattle.dom_model.specs.Tree.{kind_of}
-use Rattle.dom_mutation.specs.Doc.{DocState, made, name_in, owner_in, trees_in}
-use Rattle.dom_mutation.specs.Still.{HasNodes, HasStillAll}
+use Rattle.dom_mutation.specs.Definitions.{DocState, made, name_in, owner_in, trees_in, HasNodes, HasStillAll}
 
 -- an option that has a value is that value
 pub the_value : {X : Type 0} (o : Option X) → is_some o ≡ true → (x : X) × (o ≡ Some x)

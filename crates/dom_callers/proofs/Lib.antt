@@ -1,5 +1,4 @@
 mod Groups
-mod Moves
 mod Selections
 mod Hosting
 mod InHand

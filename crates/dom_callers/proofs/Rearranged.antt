@@ -4,7 +4,7 @@ use Rattle.dom_base.specs.declared.Owner.TheVariants.{Page}
 use Rattle.dom_model.specs.Names.{node_of}
 use Rattle.dom_model.specs.Tree.{children_of}
 use Rattle.dom_model.specs.TreeChanges.{placed, taken_out}
-use Rattle.dom_tree.specs.Forest.{NamedTrees, name_at}
+use Rattle.dom_tree.specs.Definitions.{NamedTrees, name_at}
 use Rattle.dom_callers.specs.Notes.{written_note}
 
 -- the children of its article

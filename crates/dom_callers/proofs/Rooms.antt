@@ -1,19 +1,14 @@
 -- Live ranges keep their ends at nodes, and their offsets below a bound, while nodes leave and come.
-use Rattle.std.proofs.Common.{◌≡◌, ℕ, suc, ◌+◌, ◌<◌, ◌≤◌, List, length, Option, Some, None, refl, sym, ap, subst, ◌∙◌, arith}
-use Rattle.std.specs.Prelude.{nat_eq, option_map}
+use Rattle.std.proofs.Common.{◌≡◌, ℕ, suc, ◌+◌, ◌<◌, ◌≤◌, List, length, Option, Some, None, refl, sym, ap, subst, ◌∙◌, arith, nat_eq, option_map}
 use Rattle.std.specs.Option.{ForSome}
 use Rattle.dom_base.specs.declared.NodeName.{NodeName}
 use Rattle.dom_base.specs.declared.Owner.{Owner}
 use Rattle.dom_model.specs.Names.{name_eq}
 use Rattle.dom_model.specs.Ranges.{after_insert, after_removal}
 use Rattle.dom_model.specs.Tree.{parent_of, index_of}
-use Rattle.dom_tree.specs.Forest.{NamedTrees, name_at}
-use Rattle.dom_ranges.specs.Rules.{is_inside}
-use Rattle.dom_ranges.specs.Naming.{InsertNamed, named_ends_by}
-use Rattle.dom_tree.specs.Apart.{TellApart}
-use Rattle.dom_ranges.specs.Settings.{named_ranges}
-use Rattle.dom_ranges.specs.Staying.{AreWithin, SameWithin, RemovalWithin, InsertWithin, WithinAtNodes, HasMoved, FitBy}
-use Rattle.dom_ranges.specs.Tables.{RangeLists, ranges_of}
+use Rattle.dom_tree.specs.Definitions.{NamedTrees, name_at, TellApart}
+use Rattle.dom_ranges.specs.Definitions.{is_inside, InsertNamed, named_ends_by, named_ranges, AreWithin, SameWithin, RemovalWithin, InsertWithin, WithinAtNodes}
+use Rattle.dom_ranges.specs.Definitions.{HasMoved, FitBy, RangeLists, ranges_of}
 use Rattle.dom_callers.specs.Moving.{HasRoom, shown_ranges, with_coming}
 
 -- ---- a node leaves its parent, or has none

@@ -1,6 +1,6 @@
 -- The range that is made at the start of a node, and then ends behind all that is in the node.
-use Rattle.std.proofs.Common.{◌≡◌, inl, inr, ℕ, true, List, [], ◌∷◌, ◌++◌, length, Some, refl, arith}
-use Rattle.std.specs.Prelude.{nat_lt, option_map, slice_get, slice_set}
+use Rattle.std.proofs.Common.{◌≡◌, inl, inr, ℕ, true, List, [], ◌∷◌, ◌++◌, length, Some, refl, arith, nat_lt, option_map, slice_set}
+use Rattle.std.specs.Prelude.{slice_get}
 use Rattle.std.proofs.lemmas.Bool.{cases_Bool, false_from_ne_true, ltb-true}
 use Rattle.std.proofs.lemmas.List.{set_at}
 use Rattle.dom_base.specs.declared.Owner.{Owner}
@@ -8,9 +8,8 @@ use Rattle.dom_base.specs.declared.NodeName.{NodeName}
 use Rattle.dom_model.specs.Names.{owner_eq}
 use Rattle.dom_model.specs.Place.{is_before, same_root}
 use Rattle.dom_model.specs.Ranges.{at, from_to}
-use Rattle.dom_tree.specs.Forest.{NamedTrees, name_at}
-use Rattle.dom_ranges.specs.Settings.{end_set}
-use Rattle.dom_ranges.specs.Tables.{RangeLists, ranges_of, range_in, with_ranges}
+use Rattle.dom_tree.specs.Definitions.{NamedTrees, name_at}
+use Rattle.dom_ranges.specs.Definitions.{end_set, RangeLists, ranges_of, range_in, with_ranges}
 
 -- the item at the end
 last-item : {X : Type 0} (xs : List X) (x : X) → slice_get (xs ++ x ∷ []) (length xs) ≡ Some x

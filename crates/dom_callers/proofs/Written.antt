@@ -1,6 +1,5 @@
 -- What is written into a forest, call by call.
-use Rattle.std.proofs.Common.{◌≡◌, ℕ, List, [], ◌∷◌, ◌++◌, length, Some, None, ap, ◌∙◌}
-use Rattle.std.specs.Prelude.{codes}
+use Rattle.std.proofs.Common.{◌≡◌, ℕ, List, [], ◌∷◌, ◌++◌, length, Some, None, ap, ◌∙◌, codes}
 use Rattle.std.proofs.Math.Seq.{get_or-append_seam}
 use Rattle.dom_base.specs.declared.Kind.TheVariants.{Document, Element}
 use Rattle.dom_base.specs.declared.NodeName.{NodeName}
@@ -8,7 +7,7 @@ use Rattle.dom_base.specs.declared.Owner.TheVariants.{Page}
 use Rattle.dom_model.specs.Names.{Word, node_of}
 use Rattle.dom_model.specs.Tree.{Trees, none, Node}
 use Rattle.dom_model.specs.TreeChanges.{with_node, placed}
-use Rattle.dom_tree.specs.Forest.{NamedTrees, name_at, next_name}
+use Rattle.dom_tree.specs.Definitions.{NamedTrees, name_at, next_name}
 use Rattle.dom_callers.specs.Notes.{node_with, with_document, appended, written_note}
 
 -- a forest with these names and trees

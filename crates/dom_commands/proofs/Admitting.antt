@@ -1,22 +1,8 @@
 -- How the line of a dispatch is let pass.
-use Rattle.std.proofs.Common.{◌≡◌, ℕ, Bool, true, false, not, List, [], ◌∷◌, Option, Some, None, Result, Ok, Err, refl, sym, ap, ◌∙◌}
-use Rattle.std.specs.Prelude.{IsErrAnd}
-use Rattle.std.specs.Option.{option_or}
-use Rattle.dom_base.specs.declared.Fault.{Fault}
-use Rattle.dom_base.specs.declared.Fault.TheVariants.{Refused, Memory}
-use Rattle.dom_base.specs.declared.NodeName.{NodeName}
-use Rattle.dom_base.specs.declared.Owner.{Owner}
-use Rattle.dom_base.specs.declared.Owner.TheVariants.{Page, Component}
-use Rattle.dom_base.specs.declared.Refusal.{Refusal}
-use Rattle.dom_base.specs.declared.Refusal.TheVariants.{Syntax, Busy, Foreign, Unknown}
-use Rattle.dom_model.specs.Command.{Command, EventWords, names_foreign, is_command_of, own_refusal, part_refusal}
-use Rattle.dom_model.specs.CommandNames.{named}
-use Rattle.dom_model.specs.CommandRefusals.{related_refusal}
-use Rattle.dom_model.specs.DocumentMachine.{is_busy, refusal}
-use Rattle.dom_model.specs.Part.{Part}
-use Rattle.dom_model.specs.Validity.{first_refusal}
-use Rattle.dom_model.specs.World.{World, part_of, is_there}
-use Rattle.dom_model.proofs.PartLaws.{owner-part_of}
+use Rattle.dom_base.proofs.Std.{◌≡◌, ℕ, Bool, true, false, not, List, [], ◌∷◌, Option, Some, None, Result, Ok, Err, refl, sym, ap, ◌∙◌, IsErrAnd, option_or}
+use Rattle.dom_model.proofs.Model.{Fault, Refused, Memory, NodeName, Owner, Page, Component, Refusal, Syntax, Busy, Foreign, Unknown, Command, EventWords}
+use Rattle.dom_model.proofs.Model.{names_foreign, is_command_of, own_refusal, part_refusal, named, related_refusal, is_busy, refusal, Part, first_refusal}
+use Rattle.dom_model.proofs.Model.{World, part_of, is_there, owner-part_of}
 use Rattle.dom_reader.specs.declared.line.NodeWord.{NodeWord}
 use Rattle.dom_reader.specs.Views.{word_view}
 use Rattle.dom_admission.specs.declared.admission.Operand.{Operand}

@@ -1,20 +1,9 @@
 -- The ends of ranges are within their nodes also in the worlds on the way through a line, and in a world without its listeners;
 -- there too each owner has its first node.
-use Rattle.std.proofs.Common.{◌≡◌, List, [], Option, Some, sym, ◌∙◌, subst}
-use Rattle.std.specs.Prelude.{is_some}
-use Rattle.dom_base.specs.declared.NodeName.{NodeName}
-use Rattle.dom_base.specs.declared.Owner.{Owner}
-use Rattle.dom_model.specs.Command.{EventWords}
-use Rattle.dom_model.specs.Dispatch.{dispatch_in, visits_of}
-use Rattle.dom_model.specs.Listeners.{Listener, begun}
-use Rattle.dom_model.specs.Names.{name_eq}
-use Rattle.dom_model.specs.Part.{Part, first_node}
-use Rattle.dom_model.specs.Paths.{views}
-use Rattle.dom_model.specs.Turns.{opening_turn, notified, without_signals}
-use Rattle.dom_model.specs.World.{World, part_of, with_part}
-use Rattle.dom_model.proofs.PartLaws.{owner-part_of}
-use Rattle.dom_worlds.specs.Bounds.{HasBounds, IsBounded}
-use Rattle.dom_worlds.specs.Tables.{IsNodeIn}
+use Rattle.dom_base.proofs.Std.{◌≡◌, List, [], Option, Some, sym, ◌∙◌, subst, is_some}
+use Rattle.dom_model.proofs.Model.{NodeName, Owner, EventWords, dispatch_in, visits_of, Listener, begun, name_eq, Part, first_node, views, opening_turn}
+use Rattle.dom_model.proofs.Model.{notified, without_signals, World, part_of, with_part, owner-part_of}
+use Rattle.dom_worlds.specs.Definitions.{HasBounds, IsBounded, IsNodeIn}
 use Rattle.dom_worlds.proofs.TurnLemmas.{part_of-visits}
 use Rattle.dom_worlds.proofs.WorldLemmas.{each-part}
 use Rattle.dom_worlds.proofs.ListLemmas.{either_way}

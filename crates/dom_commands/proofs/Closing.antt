@@ -1,27 +1,16 @@
 -- The end of a turn: the tasks run, one after another, and their lines are put.
-use Rattle.std.specs.Prelude.{OnOk}
-use Rattle.std.specs.List.{AllByRecursion}
-use Rattle.std.proofs.Common.{true, false, ◌≡◌, ℕ, ◌<◌, length, arith, List, [], ◌∷◌, ◌++◌, drop, map, filter, Some, None, Result, Ok, Err}
-use Rattle.std.proofs.Common.{append_assoc, append-nil, sym, ap, ◌∙◌, refl, subst}
-use Rattle.std.proofs.lemmas.Option.{none-some, same_Some}
-use Rattle.dom_base.specs.declared.Owner.{Owner}
-use Rattle.dom_base.specs.declared.NodeName.{NodeName}
-use Rattle.dom_model.specs.Listeners.{Listener}
-use Rattle.dom_model.specs.Names.{Word, first_of}
-use Rattle.dom_model.specs.Command.{EventWords}
-use Rattle.dom_model.specs.Part.{Part}
-use Rattle.dom_model.specs.Runs.{Run, run_each}
-use Rattle.dom_model.specs.Turns.{ending_turn, running_task, notifying, notified, notified_lines, is_owned_by, without_signals, slotchange, firing_slotchange}
-use Rattle.dom_model.specs.World.{World, Task, part_of, with_part, is_there}
-use Rattle.dom_model.specs.Dispatch.{dispatch_in}
-use Rattle.dom_worlds.specs.Bounds.{IsBounded}
-use Rattle.dom_worlds.specs.Worlds.{IsThere, task_owner}
+use Rattle.dom_base.proofs.Std.{OnOk, AllByRecursion, true, false, ◌≡◌, ℕ, ◌<◌, length, arith, List, [], ◌∷◌, ◌++◌, drop, map, filter, Some, None, Result, Ok}
+use Rattle.dom_base.proofs.Std.{Err, append_assoc, append-nil, sym, ap, ◌∙◌, refl, subst, none-some, same_Some}
+use Rattle.dom_model.proofs.Model.{Owner, NodeName, Listener, Word, first_of, EventWords, Part, Run, run_each, ending_turn, running_task, notifying, notified}
+use Rattle.dom_model.proofs.Model.{notified_lines, is_owned_by, without_signals, slotchange, firing_slotchange, World, Task, part_of, with_part, is_there}
+use Rattle.dom_model.proofs.Model.{dispatch_in}
+use Rattle.dom_worlds.specs.Definitions.{IsBounded, IsThere, task_owner}
 use Rattle.dom_worlds.proofs.ListLemmas.{all-then}
 use Rattle.dom_worlds.proofs.TurnLemmas.{stays-running, Stands, at_end-stands, told-stands, dispatch-stands}
-use Rattle.dom_text.specs.Text.{output_text}
-use Rattle.dom_tree.specs.Forest.{name_at}
-use Rattle.dom_mutation.specs.Doc.{DocState}
-use Rattle.dom_dispatch.specs.ListenersByName.{IsListenerAt}
+use Rattle.dom_text.specs.Definitions.{output_text}
+use Rattle.dom_tree.specs.Definitions.{name_at}
+use Rattle.dom_mutation.specs.Definitions.{DocState}
+use Rattle.dom_dispatch.specs.Definitions.{IsListenerAt}
 use Rattle.dom_commands.specs.WithListeners.{heard, own_listeners}
 use Rattle.dom_commands.specs.Machine.{MachineNow, machine_now, IsAtRest, AreAtNodes, AreThere}
 use Rattle.dom_commands.proofs.Bounded.{bounded-dispatch, bounded-told}

@@ -1,28 +1,17 @@
 -- Plans don't ask for listeners: they are the same in a part with other ones.
-use Rattle.std.proofs.Common.{◌≡◌, ℕ, ◌+◌, ◌-◌, Bool, true, false, not, ◌&&◌, List, [], ◌∷◌, ◌++◌, drop, filter, flat_map, length, map, Option, Some}
-use Rattle.std.proofs.Common.{None, refl, ap, ◌∙◌}
-use Rattle.std.specs.Prelude.{◌==◌, if◌then◌else◌}
-use Rattle.std.specs.Option.{option_map_or}
-use Rattle.dom_base.specs.declared.Owner.{Owner}
-use Rattle.dom_base.specs.declared.NodeName.{NodeName}
-use Rattle.dom_model.specs.Changes.{Plan, Observing, observed, suppressed, ◌and_then◌, in_turn, doing, steps_of, only_if, telling, remove_plan}
-use Rattle.dom_model.specs.Changes.{document_below, changing_document, adopt_plan, placed_nodes, emptying, making_room, placing, sibling_before}
-use Rattle.dom_model.specs.Changes.{inserting_nodes, insert_plan, reference_child, pre_insert_plan, replace_plan}
-use Rattle.dom_model.specs.Extract.{Pieces, nothing, whole, cut, clone, clone_part, making_below, taking, pieces_of, cut_start, cut_end, new_place}
-use Rattle.dom_model.specs.Extract.{both_at, own_document, new_fragment_node, extracting, is_in_one_data}
-use Rattle.dom_model.specs.Listeners.{Listener}
-use Rattle.dom_model.specs.Names.{DomString, name_eq, is_empty}
-use Rattle.dom_model.specs.Output.{child_list}
-use Rattle.dom_model.specs.Part.{Part, next_name}
-use Rattle.dom_model.specs.RangeOps.{cutting_data, outermost_contained, deleting_contents, deleting, insertion_parent, start_reference, ending_at}
-use Rattle.dom_model.specs.RangeOps.{inserting_before, inserting_at, inserting_into_range}
-use Rattle.dom_model.specs.Ranges.{Range, at, is_collapsed}
-use Rattle.dom_model.specs.Steps.{Step, make, place, split_at, set_range, queue_record, part_step, after}
-use Rattle.dom_model.specs.TextChanges.{replacing_data, replacing_all_data, new_text_node, placing_tail, splitting, contiguous_texts_after, joins, joining}
-use Rattle.dom_model.specs.TextChanges.{normalizing_text, normalizing, replacing_children, setting_text}
-use Rattle.dom_model.specs.Tree.{Trees, node_in, kind_of, is_fragment, is_text, is_document, has_data, children_of, parent_of, next_sibling}
-use Rattle.dom_model.specs.Tree.{previous_sibling, index_of, length_of, descendants}
-use Rattle.dom_model.specs.TreeChanges.{with_name}
+use Rattle.dom_base.proofs.Std.{◌≡◌, ℕ, ◌+◌, ◌-◌, Bool, true, false, not, ◌&&◌, List, [], ◌∷◌, ◌++◌, drop, filter, flat_map, length, map, Option, Some, None}
+use Rattle.dom_base.proofs.Std.{refl, ap, ◌∙◌, ◌==◌, if◌then◌else◌, option_map_or}
+use Rattle.dom_model.proofs.Model.{Owner, NodeName, Plan, Observing, observed, suppressed, ◌and_then◌, in_turn, doing, steps_of, only_if, telling, remove_plan}
+use Rattle.dom_model.proofs.Model.{document_below, changing_document, adopt_plan, placed_nodes, emptying, making_room, placing, sibling_before, inserting_nodes}
+use Rattle.dom_model.proofs.Model.{insert_plan, reference_child, pre_insert_plan, replace_plan, Pieces, whole, cut, clone, clone_part, making_below, taking}
+use Rattle.dom_model.proofs.Model.{pieces_of, cut_start, cut_end, new_place, both_at, own_document, new_fragment_node, extracting, is_in_one_data, Listener}
+use Rattle.dom_model.proofs.Model.{DomString, name_eq, is_empty, child_list, Part, next_name, cutting_data, outermost_contained, deleting_contents, deleting}
+use Rattle.dom_model.proofs.Model.{insertion_parent, start_reference, ending_at, inserting_before, inserting_at, inserting_into_range, Range, at, is_collapsed}
+use Rattle.dom_model.proofs.Model.{Step, make, place, split_at, set_range, queue_record, part_step, after, replacing_data, replacing_all_data, new_text_node}
+use Rattle.dom_model.proofs.Model.{placing_tail, splitting, contiguous_texts_after, joins, joining, normalizing_text, normalizing, replacing_children}
+use Rattle.dom_model.proofs.Model.{setting_text, Trees, node_in, kind_of, is_fragment, is_text, is_document, has_data, children_of, parent_of, next_sibling}
+use Rattle.dom_model.proofs.Model.{previous_sibling, index_of, length_of, descendants, with_name}
+use Rattle.dom_model.specs.Extract.{nothing}
 use Rattle.dom_commands.specs.WithListeners.{hearing}
 use Rattle.dom_commands.proofs.ListenerWorlds.{step-hearing}
 

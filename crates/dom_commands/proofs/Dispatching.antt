@@ -1,19 +1,8 @@
 -- What a change of listeners, and a dispatch, leave of a world with listeners.
-use Rattle.std.proofs.Common.{◌≡◌, ◌≢◌, true, false, List, [], Option, refl, sym, ap, subst, ◌∙◌}
-use Rattle.std.specs.Prelude.{is_some}
-use Rattle.dom_base.specs.declared.NodeName.{NodeName}
-use Rattle.dom_base.specs.declared.Owner.{Owner}
-use Rattle.dom_model.specs.Command.{EventWords}
-use Rattle.dom_model.specs.Dispatch.{dispatch_in, visits_of}
-use Rattle.dom_model.specs.Listeners.{Listener, begun}
-use Rattle.dom_model.specs.Names.{owner_eq, name_eq}
-use Rattle.dom_model.specs.Part.{Part}
-use Rattle.dom_model.specs.Paths.{views}
-use Rattle.dom_model.specs.World.{World, find_part, part_of, with_part, is_there}
-use Rattle.dom_model.proofs.OwnerLaws.{owner_eq-true, owner_eq-false}
-use Rattle.dom_model.proofs.PartLaws.{owner-part_of, part_of-with_part, part_of-with_part-other}
-use Rattle.dom_worlds.specs.Reached.{IsReached}
-use Rattle.dom_worlds.specs.Worlds.{owners_in}
+use Rattle.dom_base.proofs.Std.{◌≡◌, ◌≢◌, true, false, List, [], Option, refl, sym, ap, subst, ◌∙◌, is_some}
+use Rattle.dom_model.proofs.Model.{NodeName, Owner, EventWords, dispatch_in, visits_of, Listener, begun, owner_eq, name_eq, Part, views, World, find_part}
+use Rattle.dom_model.proofs.Model.{part_of, with_part, is_there, owner_eq-true, owner_eq-false, owner-part_of, part_of-with_part, part_of-with_part-other}
+use Rattle.dom_worlds.specs.Definitions.{IsReached, owners_in}
 use Rattle.dom_worlds.proofs.OwnerLemmas.{people-dispatch, AreOnce, owners-put, once-in}
 use Rattle.dom_worlds.proofs.ListLemmas.{by_cases}
 use Rattle.dom_worlds.proofs.TurnLemmas.{rest-visits}

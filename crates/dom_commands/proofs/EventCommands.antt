@@ -1,35 +1,18 @@
 -- The commands on listeners, in a world with listeners.
-use Rattle.std.proofs.Common.{◌≡◌, ◌≢◌, ℕ, ◌<◌, Bool, true, false, List, [], ◌∷◌, ◌++◌, length, Option, Some, None, Result, Ok, Err, refl, sym, ap}
-use Rattle.std.proofs.Common.{subst, ◌∙◌, true≢false}
-use Rattle.std.specs.Prelude.{nat_eq, is_some, IsErrAnd}
-use Rattle.std.specs.List.{AllByRecursion}
-use Rattle.dom_base.specs.declared.Fault.{Fault}
-use Rattle.dom_base.specs.declared.Fault.TheVariants.{Refused, Memory}
-use Rattle.dom_base.specs.declared.NodeName.{NodeName}
-use Rattle.dom_base.specs.declared.Owner.{Owner}
-use Rattle.dom_model.specs.Command.{Command, NodeWord, own, foreign, ListenerWords, own_refusal, effect}
-use Rattle.dom_model.specs.CommandNames.{named}
-use Rattle.dom_model.specs.DocumentMachine.{refusal, accepted, effect_in}
-use Rattle.dom_model.specs.Effects.{keeps}
-use Rattle.dom_model.specs.Listeners.{Listener, with_listener_added, with_listener_removed}
-use Rattle.dom_model.specs.Names.{Word, name_eq, node_of}
-use Rattle.dom_model.specs.Output.{says, replied, nothing}
-use Rattle.dom_model.specs.Part.{Part}
-use Rattle.dom_model.specs.Runs.{Run}
-use Rattle.dom_model.specs.Turns.{opening_turn, is_page_turn}
-use Rattle.dom_model.specs.World.{World, part_of, is_there}
-use Rattle.dom_model.proofs.PartLaws.{owner-part_of}
-use Rattle.dom_worlds.specs.Reached.{IsReached}
-use Rattle.dom_worlds.specs.Tables.{IsWhole}
+use Rattle.dom_base.proofs.Std.{◌≡◌, ◌≢◌, ℕ, ◌<◌, Bool, true, false, List, [], ◌∷◌, ◌++◌, length, Option, Some, None, Result, Ok, Err, refl, sym, ap, subst}
+use Rattle.dom_base.proofs.Std.{◌∙◌, true≢false, nat_eq, is_some, IsErrAnd, AllByRecursion}
+use Rattle.dom_model.proofs.Model.{Fault, Refused, Memory, NodeName, Owner, Command, NodeWord, own, foreign, ListenerWords, own_refusal, effect, named, refusal}
+use Rattle.dom_model.proofs.Model.{accepted, effect_in, keeps, Listener, with_listener_added, with_listener_removed, Word, name_eq, node_of, says, replied}
+use Rattle.dom_model.proofs.Model.{nothing, Part, Run, opening_turn, is_page_turn, World, part_of, is_there, owner-part_of}
+use Rattle.dom_worlds.specs.Definitions.{IsReached, IsWhole}
 use Rattle.dom_worlds.proofs.ListLemmas.{which_way, either_way}
-use Rattle.dom_text.specs.Text.{output_text}
-use Rattle.dom_tree.specs.Forest.{name_at}
-use Rattle.dom_tree.specs.Apart.{TellApart}
-use Rattle.dom_dispatch.specs.ListenersByName.{IsListenerAt}
+use Rattle.dom_text.specs.Definitions.{output_text}
+use Rattle.dom_tree.specs.Definitions.{name_at, TellApart}
+use Rattle.dom_dispatch.specs.Definitions.{IsListenerAt}
 use Rattle.dom_admission.specs.Handled.{IsDone, IsHandled}
 use Rattle.dom_commands.specs.WithListeners.{heard, own_listeners}
 use Rattle.dom_commands.specs.Machine.{MachineNow, machine_now, IsAtRest, KeepsListeners}
-use Rattle.dom_mutation.specs.Doc.{DocState}
+use Rattle.dom_mutation.specs.Definitions.{DocState}
 use Rattle.dom_commands.proofs.Dispatching.{written-heard}
 use Rattle.dom_admission.proofs.Finding.{owner-named}
 use Rattle.dom_admission.proofs.Handling.{MayAct, opened-there}

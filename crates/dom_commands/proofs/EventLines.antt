@@ -1,23 +1,12 @@
 -- The lines of a dispatch name nodes, and are printed by names.
-use Rattle.std.proofs.Common.{◌≡◌, ℕ, ◌<◌, Bool, true, false, List, [], ◌∷◌, ◌++◌, filter, fold, length, map, reverse, arith, refl, ap}
-use Rattle.std.specs.Prelude.{nat_eq, ◌||◌, All}
-use Rattle.std.specs.List.{AllByRecursion}
-use Rattle.std.proofs.lemmas.List.Elements.{All-cons}
-use Rattle.std.specs.Option.{ForSome}
-use Rattle.dom_base.specs.declared.Action.{Action}
-use Rattle.dom_base.specs.declared.Action.TheVariants.{Log, Stop, StopNow, Cancel}
-use Rattle.dom_base.specs.declared.NodeName.{NodeName}
-use Rattle.dom_model.specs.Command.{EventWords}
-use Rattle.dom_model.specs.Dispatch.{visit_of, visits_of, is_at_target, event_output}
-use Rattle.dom_model.specs.Listeners.{Listener, Visit, Dispatching, after_action, may_cancel, line_of, kept_after, after_inner_invoke, hears, after_invoke}
-use Rattle.dom_model.specs.Listeners.{begun}
-use Rattle.dom_model.specs.Output.{Output}
-use Rattle.dom_model.specs.Paths.{View}
+use Rattle.dom_base.proofs.Std.{◌≡◌, ℕ, ◌<◌, Bool, true, false, List, [], ◌∷◌, ◌++◌, filter, fold, length, map, reverse, arith, refl, ap, nat_eq, ◌||◌, All}
+use Rattle.dom_base.proofs.Std.{AllByRecursion, All-cons, ForSome}
+use Rattle.dom_model.proofs.Model.{Action, Log, Stop, StopNow, Cancel, NodeName, EventWords, visit_of, visits_of, is_at_target, event_output, Listener, Visit}
+use Rattle.dom_model.proofs.Model.{Dispatching, after_action, may_cancel, line_of, kept_after, after_inner_invoke, hears, after_invoke, begun, Output, View}
 use Rattle.dom_worlds.proofs.ListLemmas.{all-append, all-filter, all-map, all-reverse, all-then, either_way}
-use Rattle.dom_path.specs.Items.{ShowsNodes}
+use Rattle.dom_path.specs.Definitions.{ShowsNodes}
 use Rattle.dom_dispatch.specs.declared.event.LogLine.{LogLine}
-use Rattle.dom_dispatch.specs.Dispatches.{line_in}
-use Rattle.dom_dispatch.specs.ListenersByName.{line_named}
+use Rattle.dom_dispatch.specs.Definitions.{line_in, line_named}
 use Rattle.dom_commands.specs.Machine.{NamesNodes, line_shown}
 
 -- what holds of each item

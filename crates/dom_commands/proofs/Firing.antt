@@ -1,24 +1,14 @@
 -- A dispatch by keys, in a state with listeners, is the dispatch in its world.
-use Rattle.std.proofs.Common.{◌≡◌, ℕ, false, List, map, Option, option_map, sym, ap, subst, ◌∙◌}
-use Rattle.std.specs.List.{AllByRecursion}
-use Rattle.std.specs.Prelude.{nat_eq}
-use Rattle.dom_base.specs.declared.NodeName.{NodeName}
-use Rattle.dom_base.specs.declared.Owner.{Owner}
-use Rattle.dom_model.specs.Command.{EventWords}
-use Rattle.dom_model.specs.Dispatch.{dispatch_in, visits_of}
-use Rattle.dom_model.specs.Listeners.{Listener, begun}
-use Rattle.dom_model.specs.World.{World, shadow_root_of}
-use Rattle.dom_worlds.specs.Reached.{IsReached}
-use Rattle.dom_worlds.specs.Tables.{IsWhole}
+use Rattle.dom_base.proofs.Std.{◌≡◌, ℕ, false, List, map, Option, option_map, sym, ap, subst, ◌∙◌, AllByRecursion, nat_eq}
+use Rattle.dom_model.proofs.Model.{NodeName, Owner, EventWords, dispatch_in, visits_of, Listener, begun, World, shadow_root_of}
+use Rattle.dom_worlds.specs.Definitions.{IsReached, IsWhole}
 use Rattle.dom_worlds.proofs.OwnerLemmas.{host_of-same}
-use Rattle.dom_tree.specs.Forest.{NamedTrees, name_at}
-use Rattle.dom_slots.specs.Hosts.{ShadowHost}
-use Rattle.dom_slots.specs.Shadows.{ShadowTrees, shadows, IsShownBy}
-use Rattle.dom_mutation.specs.Doc.{DocState}
-use Rattle.dom_path.specs.Items.{IsWorldOf}
+use Rattle.dom_tree.specs.Definitions.{NamedTrees, name_at}
+use Rattle.dom_slots.specs.Definitions.{ShadowHost, ShadowTrees, shadows, IsShownBy}
+use Rattle.dom_mutation.specs.Definitions.{DocState}
+use Rattle.dom_path.specs.Definitions.{IsWorldOf}
 use Rattle.dom_dispatch.specs.declared.event.Outcome.{Outcome}
-use Rattle.dom_dispatch.specs.Dispatches.{IsDispatched, IsDispatchedIn}
-use Rattle.dom_dispatch.specs.ListenersByName.{IsListenerAt}
+use Rattle.dom_dispatch.specs.Definitions.{IsDispatched, IsDispatchedIn, IsListenerAt}
 use Rattle.dom_commands.specs.WithListeners.{heard, own_listeners}
 use Rattle.dom_commands.specs.Machine.{MachineNow, machine_now, IsAtRest, line_shown}
 use Rattle.dom_commands.proofs.Dispatching.{dispatched-heard}

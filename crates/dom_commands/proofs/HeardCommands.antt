@@ -1,41 +1,20 @@
 -- Commands do in a world with listeners what they do in the world, but for those that ask for listeners.
-use Rattle.std.proofs.Common.{◌≡◌, ℕ, Bool, true, false, not, ◌&&◌, List, [], ◌∷◌, ◌++◌, length, map, Option, Some, None, Result, Ok, Err, refl, sym, ap, ◌∙◌}
-use Rattle.std.specs.Prelude.{slice_get, is_some, if◌then◌else◌}
-use Rattle.std.specs.Option.{option_or, option_map_or}
-use Rattle.dom_base.specs.declared.Fault.{Fault}
-use Rattle.dom_base.specs.declared.Fault.TheVariants.{Refused, Memory}
-use Rattle.dom_base.specs.declared.Kind.TheVariants.{Shadow}
-use Rattle.dom_base.specs.declared.NodeName.{NodeName}
-use Rattle.dom_base.specs.declared.Owner.{Owner}
-use Rattle.dom_base.specs.declared.Owner.TheVariants.{Page, Component}
-use Rattle.dom_base.specs.declared.Refusal.{Refusal}
-use Rattle.dom_base.specs.declared.Refusal.TheVariants.{Syntax, Busy, Foreign, Unknown, WrongKind}
-use Rattle.dom_model.specs.Command.{Command, NodeWord, names_foreign, nodes_exist, thing_exists, nodes_fit, is_command_of, part_refusal, effect}
-use Rattle.dom_model.specs.CommandNames.{named}
-use Rattle.dom_model.specs.CommandRefusals.{of_range, related_refusal}
-use Rattle.dom_model.specs.DocumentMachine.{is_busy, refusal, effect_in, perform, accepted, part_with_root}
-use Rattle.dom_model.specs.Effects.{Effect, tables, changes, answers, plan_of_range, of_iterator, of_walker, moves_iterator, sets_walker, node_or_null}
-use Rattle.dom_model.specs.Changes.{Plan}
-use Rattle.dom_model.specs.Extract.{extracting}
-use Rattle.dom_model.specs.Listeners.{Listener}
-use Rattle.dom_model.specs.Output.{Value, says, replied, nothing, a_node, a_string, boundaries, reference, a_truth, a_list, a_component}
-use Rattle.dom_model.specs.Part.{Part, next_name, range_at}
-use Rattle.dom_model.specs.RangeOps.{deleting, inserting_into_range, range_text_of}
-use Rattle.dom_model.specs.Ranges.{Range}
-use Rattle.dom_model.specs.Runs.{Run, answering}
-use Rattle.dom_model.specs.Steps.{Step}
-use Rattle.dom_model.specs.Traversal.{Iterator, Walker, iterator_next_node, iterator_previous_node, walker_move}
-use Rattle.dom_model.specs.Tree.{node_in}
-use Rattle.dom_model.specs.Turns.{opening_turn}
-use Rattle.dom_model.specs.Validity.{first_refusal}
-use Rattle.dom_model.specs.World.{World, part_of, with_part, is_there, component_made, is_connected}
-use Rattle.dom_model.specs.Slots.{assigned_nodes}
-use Rattle.dom_text.specs.Text.{output_text}
+use Rattle.dom_base.proofs.Std.{◌≡◌, ℕ, Bool, true, false, not, ◌&&◌, List, [], ◌∷◌, ◌++◌, length, map, Option, Some, None, Result, Ok, Err, refl, sym, ap, ◌∙◌}
+use Rattle.dom_base.proofs.Std.{slice_get, is_some, if◌then◌else◌, option_or, option_map_or}
+use Rattle.dom_model.proofs.Model.{Fault, Refused, Memory, Shadow, NodeName, Owner, Page, Component, Refusal, Syntax, Busy, Foreign, Unknown, WrongKind}
+use Rattle.dom_model.proofs.Model.{Command, NodeWord, names_foreign, nodes_exist, thing_exists, nodes_fit, is_command_of, part_refusal, effect, named, of_range}
+use Rattle.dom_model.proofs.Model.{related_refusal, is_busy, refusal, effect_in, perform, accepted, part_with_root, Effect, tables, changes, answers}
+use Rattle.dom_model.proofs.Model.{plan_of_range, of_iterator, of_walker, moves_iterator, sets_walker, node_or_null, Plan, extracting, Listener, Value, says}
+use Rattle.dom_model.proofs.Model.{replied, nothing, a_node, a_string, boundaries, reference, a_truth, a_list, a_component, Part, next_name, range_at, deleting}
+use Rattle.dom_model.proofs.Model.{inserting_into_range, range_text_of, Range, Run, answering, Step, Iterator, Walker, iterator_next_node}
+use Rattle.dom_model.proofs.Model.{iterator_previous_node, walker_move, node_in, opening_turn, first_refusal, World, part_of, with_part, is_there}
+use Rattle.dom_model.proofs.Model.{component_made, is_connected, assigned_nodes}
+use Rattle.dom_text.specs.Definitions.{output_text}
 use Rattle.dom_admission.specs.Handled.{IsHandled}
 use Rattle.dom_commands.specs.WithListeners.{hearing, heard}
 use Rattle.dom_commands.specs.CommandGroups.{is_plain}
-use Rattle.dom_commands.proofs.DeafPlans.{deaf-pre_inserting, deaf-replacing, deaf-adopting, deaf-splitting, deaf-normalizing, deaf-setting_text}
-use Rattle.dom_commands.proofs.DeafPlans.{deaf-deleting, deaf-into_range, deaf-extracting}
+use Rattle.dom_commands.proofs.DeafPlans.{deaf-pre_inserting, deaf-replacing, deaf-adopting, deaf-splitting, deaf-normalizing, deaf-setting_text, deaf-deleting}
+use Rattle.dom_commands.proofs.DeafPlans.{deaf-into_range, deaf-extracting}
 use Rattle.dom_commands.proofs.ListenerWorlds.{FitsIn, there-heard, part-heard, with_part-heard, assigned-heard, connected-heard, after-heard}
 
 -- an effect with listeners

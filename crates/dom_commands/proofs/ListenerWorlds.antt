@@ -1,21 +1,15 @@
 -- What is read and what is done in a world is read and done in it with listeners, but by what goes to them.
-use Rattle.std.proofs.Common.{◌≡◌, ℕ, zero, suc, Bool, true, false, not, ◌&&◌, List, [], ◌∷◌, ◌++◌, filter, filter_map, flat_map, fold, map, position}
-use Rattle.std.proofs.Common.{Option, Some, None, refl, sym, ap, ◌∙◌, true≢false}
-use Rattle.std.specs.Prelude.{is_some, option_map, option_to_list, unwrap_or, slice_get, if◌then◌else◌}
-use Rattle.std.specs.Option.{option_and_then, option_map_or}
-use Rattle.dom_base.specs.declared.Owner.{Owner}
-use Rattle.dom_base.specs.declared.NodeName.{NodeName}
-use Rattle.dom_model.specs.Listeners.{Listener}
-use Rattle.dom_model.specs.Names.{owner_eq, name_eq, max_depth, owner_depth, is_in, is_empty, distinct, list_eq, last_of}
-use Rattle.dom_model.specs.Part.{Part, empty_part}
-use Rattle.dom_model.specs.Slots.{is_slot_element, slot_in, slots_among, slot_of, assigned_nodes, signals, with_signal}
-use Rattle.dom_model.specs.Steps.{Step, make, make_room, place, take_out, set_document, set_attribute, replace_data, split_at, join_at, set_range}
-use Rattle.dom_model.specs.Steps.{queue_record, part_step, leave, is_taken}
-use Rattle.dom_model.specs.Tree.{Trees, node_in, parent_of, root_of, children_of, subtree, inclusive_ancestors, inclusive_descendants, is_document}
-use Rattle.dom_model.specs.World.{World, find_part, put_part, part_of, with_part, is_there, component_at, component_made, made_by, shadow_root_of}
-use Rattle.dom_model.specs.World.{some_if, host_above, hosts_from, ancestors_at, kind_at, is_connected, components_below}
-use Rattle.dom_model.specs.WorldSteps.{world_step, world_after, stepped, with_signals, with_removal_signals, with_notify_if, with_shadow_document}
-use Rattle.dom_worlds.specs.Worlds.{owners_in}
+use Rattle.dom_base.proofs.Std.{◌≡◌, ℕ, zero, suc, Bool, true, false, not, ◌&&◌, List, [], ◌∷◌, ◌++◌, filter, filter_map, flat_map, fold, map, position, Option}
+use Rattle.dom_base.proofs.Std.{Some, None, refl, sym, ap, ◌∙◌, true≢false, is_some, option_map, option_to_list, unwrap_or, slice_get, if◌then◌else◌}
+use Rattle.dom_base.proofs.Std.{option_and_then, option_map_or}
+use Rattle.dom_model.proofs.Model.{Owner, NodeName, Listener, owner_eq, name_eq, max_depth, owner_depth, is_in, is_empty, distinct, list_eq, last_of, Part}
+use Rattle.dom_model.proofs.Model.{empty_part, is_slot_element, slot_in, slots_among, slot_of, assigned_nodes, signals, with_signal, Step, make, make_room}
+use Rattle.dom_model.proofs.Model.{place, take_out, set_document, set_attribute, replace_data, split_at, join_at, set_range, queue_record, part_step, leave}
+use Rattle.dom_model.proofs.Model.{is_taken, Trees, node_in, parent_of, root_of, children_of, subtree, inclusive_ancestors, inclusive_descendants, is_document}
+use Rattle.dom_model.proofs.Model.{World, find_part, put_part, part_of, with_part, is_there, component_at, component_made, made_by, shadow_root_of, some_if}
+use Rattle.dom_model.proofs.Model.{host_above, hosts_from, ancestors_at, kind_at, is_connected, components_below, world_step, world_after, stepped}
+use Rattle.dom_model.proofs.Model.{with_signals, with_removal_signals, with_notify_if, with_shadow_document}
+use Rattle.dom_worlds.specs.Definitions.{owners_in}
 use Rattle.dom_worlds.proofs.OwnerLemmas.{there-with_part}
 use Rattle.dom_worlds.proofs.ListLemmas.{by_cases}
 use Rattle.dom_commands.specs.WithListeners.{hearing, heard}
@@ -79,17 +73,7 @@ trees_in w o = (part_of w o).trees
 abbrev hosts_in : World → Owner → List NodeName
 hosts_in w o = (part_of w o).attached
 
--- the readings are these
-slot-read : (w : World) (x : NodeName) → slot_of w x ≡ slot_from (trees_in w) (hosts_in w) x
-slot-read w x = refl
-
-assigned-read : (w : World) (x : NodeName) → assigned_nodes w x ≡ assigned_from (trees_in w) (hosts_in w) x
-assigned-read w x = refl
-
-signals-read : (was now : World) (x around : NodeName) (is_move : Bool) →
-    signals was now x around is_move ≡ signals_from (trees_in was) (hosts_in was) (trees_in now) (hosts_in now) x around is_move
-signals-read was now x around is_move = refl
-
+-- hosts are read from these alone
 hosts_up-read : (w : World) (depth : ℕ) (x : NodeName) → hosts_from depth w x ≡ hosts_up (trees_in w) (hosts_in w) depth x
 hosts_up-read w zero x = refl
 hosts_up-read w (suc depth) x = ap (λ (f : NodeName → List NodeName). x ∷ flat_map f (option_to_list (host_above w x))) (λ j y. hosts_up-read w depth y j)

@@ -1,32 +1,14 @@
 -- Each owner's listeners in one list of all: what is done to the list, by keys, is done to its owner's.
-use Rattle.std.proofs.Common.{◌≡◌, ◌≢◌, ℕ, ◌<◌, ◌≤◌, Bool, true, false, not, ◌&&◌, List, [], ◌∷◌, ◌++◌, filter, fold, length, map, append-nil, arith}
-use Rattle.std.proofs.Common.{refl, sym, ap, ◌∙◌, true≢false}
-use Rattle.std.specs.Prelude.{nat_eq, if◌then◌else◌}
-use Rattle.std.specs.Bool.{beq}
-use Rattle.std.specs.List.{AllByRecursion, list_any}
-use Rattle.std.proofs.lemmas.Bool.{cond-true, cond-false, and_parts}
-use Rattle.std.proofs.lemmas.List.{get_or-take, length-take}
-use Rattle.std.proofs.lemmas.List.Elements.{filter-append}
-use Rattle.std.specs.Prelude.{min}
-use Rattle.std.proofs.lemmas.Map.Views.{any-filter_same}
-use Rattle.dom_base.specs.declared.Action.{Action}
-use Rattle.dom_base.specs.declared.Action.TheVariants.{Log, Stop, StopNow, Cancel}
-use Rattle.dom_base.specs.declared.NodeName.{NodeName}
-use Rattle.dom_base.specs.declared.Owner.{Owner}
-use Rattle.dom_base.specs.declared.Owner.TheVariants.{Page}
-use Rattle.dom_model.specs.Command.{EventWords, ListenerWords}
-use Rattle.dom_model.specs.Listeners.{Listener, Visit, Dispatching, after_action, may_cancel, line_of, is_listener, with_listener_removed, with_listener_added}
-use Rattle.dom_model.specs.Listeners.{kept_after}
-use Rattle.dom_model.specs.Listeners.{after_inner_invoke, hears, after_invoke}
-use Rattle.dom_model.specs.Names.{Word, owner_eq, name_eq, text_eq, node_of}
-use Rattle.dom_model.specs.World.{World, is_there}
-use Rattle.dom_model.proofs.OwnerLaws.{owner_eq-true, owner_eq-same, ne-owner_eq, name_eq-true}
-use Rattle.dom_model.proofs.PartLaws.{owner-part_of}
+use Rattle.dom_base.proofs.Std.{◌≡◌, ◌≢◌, ℕ, ◌<◌, ◌≤◌, Bool, true, false, not, ◌&&◌, List, [], ◌∷◌, ◌++◌, filter, fold, length, map, append-nil, arith, refl}
+use Rattle.dom_base.proofs.Std.{sym, ap, ◌∙◌, true≢false, nat_eq, if◌then◌else◌, beq, AllByRecursion, list_any, cond-true, cond-false, and_parts, get_or-take}
+use Rattle.dom_base.proofs.Std.{length-take, filter-append, min, any-filter_same}
+use Rattle.dom_model.proofs.Model.{Action, Log, Stop, StopNow, Cancel, NodeName, Owner, Page, EventWords, ListenerWords, Listener, Visit, Dispatching}
+use Rattle.dom_model.proofs.Model.{after_action, may_cancel, line_of, is_listener, with_listener_removed, with_listener_added, kept_after, after_inner_invoke}
+use Rattle.dom_model.proofs.Model.{hears, after_invoke, Word, owner_eq, name_eq, text_eq, node_of, World, is_there, owner_eq-true, owner_eq-same, ne-owner_eq}
+use Rattle.dom_model.proofs.Model.{name_eq-true, owner-part_of}
 use Rattle.dom_worlds.proofs.ListLemmas.{all-filter, all-append, filter-filter, by_cases, either_way}
-use Rattle.dom_tree.specs.Forest.{name_at}
-use Rattle.dom_tree.specs.Apart.{TellApart}
-use Rattle.dom_dispatch.specs.Kept.{is_of_owner, HasListeners}
-use Rattle.dom_dispatch.specs.ListenersByName.{listener_named, IsListenerAt}
+use Rattle.dom_tree.specs.Definitions.{name_at, TellApart}
+use Rattle.dom_dispatch.specs.Definitions.{is_of_owner, HasListeners, listener_named, IsListenerAt}
 use Rattle.dom_dispatch.proofs.Naming.{listened-named, unlistened-named}
 use Rattle.dom_dispatch.proofs.Narrowing.{filter-wider}
 use Rattle.dom_admission.specs.Handled.{BeginsWith}

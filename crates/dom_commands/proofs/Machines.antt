@@ -1,36 +1,19 @@
 -- What is done in a state is done in the machine around it.
-use Rattle.std.proofs.Common.{◌≡◌, ℕ, true, false, List, [], ◌∷◌, None, Result, Ok, Err, length, arith, sym, ap, subst, ◌∙◌, true≢false}
-use Rattle.std.proofs.Math.Seq.{take-length}
-use Rattle.std.specs.List.{AllByRecursion}
-use Rattle.std.specs.Prelude.{is_some, slice_get}
-use Rattle.std.proofs.lemmas.Option.{slice_get_past}
-use Rattle.dom_base.specs.declared.Fault.{Fault}
-use Rattle.dom_base.specs.declared.Fault.TheVariants.{Refused, Memory}
-use Rattle.dom_base.specs.declared.NodeName.{NodeName}
-use Rattle.dom_base.specs.declared.Owner.{Owner}
-use Rattle.dom_base.specs.declared.Owner.TheVariants.{Page}
-use Rattle.dom_model.specs.Command.{Command, Line}
-use Rattle.dom_model.specs.Listeners.{Listener}
-use Rattle.dom_model.specs.DocumentMachine.{first_world, refusal, step}
-use Rattle.dom_model.specs.Names.{node_of}
-use Rattle.dom_model.specs.Turns.{opening_turn}
-use Rattle.dom_model.specs.Part.{Part}
-use Rattle.dom_model.specs.World.{World, part_of, is_there, component_made, MayAttach}
-use Rattle.dom_model.proofs.OwnerLaws.{component_made-no_page}
-use Rattle.dom_worlds.specs.Bounds.{IsBounded}
-use Rattle.dom_worlds.specs.Reached.{IsReached}
-use Rattle.dom_worlds.specs.Tables.{IsWhole}
+use Rattle.dom_base.proofs.Std.{◌≡◌, ℕ, true, false, List, [], ◌∷◌, None, Result, Ok, Err, length, arith, sym, ap, subst, ◌∙◌, true≢false, take-length}
+use Rattle.dom_base.proofs.Std.{AllByRecursion, is_some, slice_get, slice_get_past}
+use Rattle.dom_model.proofs.Model.{Fault, Refused, Memory, NodeName, Owner, Page, Command, Line, Listener, first_world, refusal, step, node_of, opening_turn}
+use Rattle.dom_model.proofs.Model.{Part, World, part_of, is_there, component_made, MayAttach, component_made-no_page}
+use Rattle.dom_worlds.specs.Definitions.{IsBounded, IsReached, IsWhole}
 use Rattle.dom_worlds.proofs.CommandLemmas.{accepted-facts, attach-may}
 use Rattle.dom_worlds.proofs.WorldLemmas.{first-is_bounded, step-keeps_bounds, first-is_reached, step-keeps_reached, attached-are_there, first-is_whole}
 use Rattle.dom_worlds.proofs.WorldLemmas.{step-keeps_whole}
 use Rattle.dom_worlds.proofs.OwnerLemmas.{host_of-made}
-use Rattle.dom_mutation.specs.Doc.{DocState}
-use Rattle.dom_dispatch.specs.ListenersByName.{IsListenerAt}
-use Rattle.dom_admission.specs.Handled.{IsHandled}
+use Rattle.dom_mutation.specs.Definitions.{DocState}
+use Rattle.dom_dispatch.specs.Definitions.{IsListenerAt}
+use Rattle.dom_admission.specs.Handled.{IsHandled, BeginsWith, KeepsNames}
 use Rattle.dom_commands.specs.WithListeners.{heard, own_listeners}
 use Rattle.dom_commands.specs.Machine.{MachineNow, machine_now, IsAtRest, AreAtNodes, KeepsListeners}
 use Rattle.dom_commands.specs.RangeWorlds.{HasFirstNodes}
-use Rattle.dom_admission.specs.Handled.{BeginsWith, KeepsNames}
 use Rattle.dom_commands.specs.CommandGroups.{is_plain}
 use Rattle.dom_commands.proofs.Bounded.{first_nodes-unheard}
 use Rattle.dom_admission.proofs.Handling.{opened-part}

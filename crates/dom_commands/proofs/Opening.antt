@@ -1,26 +1,14 @@
 -- The turn that a dispatch opens, and what the dispatch is to the document machine.
-use Rattle.std.proofs.Common.{◌≡◌, ℕ, Bool, true, false, List, [], ◌∷◌, ◌++◌, Option, Some, None, Ok, refl, sym, ap, subst, ◌∙◌, append_assoc}
-use Rattle.std.specs.Option.{option_map}
-use Rattle.std.specs.List.{AllByRecursion}
-use Rattle.dom_base.specs.declared.NodeName.{NodeName}
-use Rattle.dom_base.specs.declared.Owner.{Owner}
-use Rattle.dom_model.specs.Command.{Command, NodeWord, EventWords}
-use Rattle.dom_model.specs.CommandNames.{named}
-use Rattle.dom_model.specs.Dispatch.{Dispatched, dispatch_in}
-use Rattle.dom_model.specs.DocumentMachine.{refusal}
-use Rattle.dom_model.specs.Listeners.{Listener}
-use Rattle.dom_model.specs.Output.{says, replied, a_truth}
-use Rattle.dom_model.specs.Turns.{opening_turn}
-use Rattle.dom_model.specs.World.{World, part_of, is_there}
-use Rattle.dom_model.proofs.PartLaws.{owner-part_of}
-use Rattle.dom_worlds.specs.Bounds.{IsBounded}
-use Rattle.dom_worlds.specs.Reached.{IsReached}
-use Rattle.dom_worlds.specs.Tables.{IsWhole}
-use Rattle.dom_text.specs.Text.{output_text}
-use Rattle.dom_mutation.specs.Doc.{DocState}
+use Rattle.dom_base.proofs.Std.{◌≡◌, ℕ, Bool, true, false, List, [], ◌∷◌, ◌++◌, Option, Some, None, Ok, refl, sym, ap, subst, ◌∙◌, append_assoc, option_map}
+use Rattle.dom_base.proofs.Std.{AllByRecursion}
+use Rattle.dom_model.proofs.Model.{NodeName, Owner, Command, NodeWord, EventWords, named, Dispatched, dispatch_in, refusal, Listener, says, replied, a_truth}
+use Rattle.dom_model.proofs.Model.{opening_turn, World, part_of, is_there, owner-part_of}
+use Rattle.dom_worlds.specs.Definitions.{IsBounded, IsReached, IsWhole}
+use Rattle.dom_text.specs.Definitions.{output_text}
+use Rattle.dom_mutation.specs.Definitions.{DocState}
 use Rattle.dom_reader.specs.declared.line.NodeWord as line
 use Rattle.dom_reader.specs.Views.{word_view}
-use Rattle.dom_dispatch.specs.ListenersByName.{IsListenerAt}
+use Rattle.dom_dispatch.specs.Definitions.{IsListenerAt}
 use Rattle.dom_admission.specs.Handled.{IsHandled}
 use Rattle.dom_commands.specs.WithListeners.{heard, own_listeners}
 use Rattle.dom_commands.specs.Machine.{machine_now, IsAtRest}

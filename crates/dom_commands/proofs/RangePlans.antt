@@ -1,26 +1,12 @@
 -- What the operations on live ranges do, from the keys of the nodes that they name.
-use Rattle.std.proofs.Common.{◌≡◌, ℕ, suc, true, List, [], ◌∷◌, ◌++◌, length, Option, Some, None, Result, Ok, Err, is_some, refl, sym, ap, ◌∙◌}
-use Rattle.std.specs.Prelude.{take, unwrap_or}
-use Rattle.std.proofs.Math.Seq.{get_or-append_seam}
-use Rattle.std.specs.Option.{ForSome, option_map_or}
-use Rattle.dom_base.specs.declared.Fault.{Fault}
-use Rattle.dom_base.specs.declared.Fault.TheVariants.{Refused, Memory}
-use Rattle.dom_base.specs.declared.NodeName.{NodeName}
-use Rattle.dom_base.specs.declared.Owner.{Owner}
-use Rattle.dom_base.specs.declared.Owner.TheVariants.{Page}
-use Rattle.dom_model.specs.Command.{Command}
-use Rattle.dom_model.specs.Effects.{answers}
-use Rattle.dom_model.specs.Extract.{clone_count, made_by_extracting, pieces_of}
-use Rattle.dom_model.specs.Names.{DomString, node_of}
-use Rattle.dom_model.specs.Output.{nothing, a_string}
-use Rattle.dom_model.specs.Part.{Part, range_at, next_name, empty_part}
-use Rattle.dom_model.specs.RangeOps.{range_text_of}
-use Rattle.dom_model.specs.Ranges.{Range}
-use Rattle.dom_model.specs.World.{World, part_of, find_part, is_there}
-use Rattle.dom_model.proofs.PartLaws.{owner-part_of}
-use Rattle.dom_mutation.specs.Doc.{Makes}
-use Rattle.dom_range_ops.specs.Takings.{new_names}
-use Rattle.dom_tree.specs.Forest.{name_at}
+use Rattle.dom_base.proofs.Std.{◌≡◌, ℕ, suc, true, List, [], ◌∷◌, ◌++◌, length, Option, Some, None, Result, Ok, Err, is_some, refl, sym, ap, ◌∙◌, take}
+use Rattle.dom_base.proofs.Std.{unwrap_or, get_or-append_seam, ForSome, option_map_or}
+use Rattle.dom_model.proofs.Model.{Fault, Refused, Memory, NodeName, Owner, Page, Command, answers, clone_count, made_by_extracting, pieces_of, DomString}
+use Rattle.dom_model.proofs.Model.{node_of, nothing, a_string, Part, range_at, next_name, empty_part, range_text_of, Range, World, part_of, find_part, is_there}
+use Rattle.dom_model.proofs.Model.{owner-part_of}
+use Rattle.dom_mutation.specs.Definitions.{Makes}
+use Rattle.dom_range_ops.specs.Definitions.{new_names}
+use Rattle.dom_tree.specs.Definitions.{name_at}
 use Rattle.dom_admission.specs.declared.admission.Operand.TheVariants as operands
 use Rattle.dom_admission.specs.Handled.{BeginsWith, KeepsNames}
 use Rattle.dom_admission.proofs.Handling.{with_part-same}

@@ -1,13 +1,8 @@
 -- Worlds in which the same owners have the same parts are the same.
-use Rattle.std.proofs.Common.{◌≡◌, false, List, [], ◌∷◌, map, Option, Some, None, unwrap_or, refl, sym, ap, subst, ◌∙◌, true≢false}
-use Rattle.std.specs.Prelude.{is_some}
-use Rattle.std.proofs.lemmas.Bool.{cond-true, cond-false}
-use Rattle.dom_base.specs.declared.Owner.{Owner}
-use Rattle.dom_model.specs.Names.{owner_eq}
-use Rattle.dom_model.specs.Part.{Part, empty_part}
-use Rattle.dom_model.specs.World.{World, find_part, part_of}
-use Rattle.dom_model.proofs.OwnerLaws.{owner_eq-same, owner_eq-true}
-use Rattle.dom_worlds.specs.Worlds.{owners_in}
+use Rattle.dom_base.proofs.Std.{◌≡◌, false, List, [], ◌∷◌, map, Option, Some, None, unwrap_or, refl, sym, ap, subst, ◌∙◌, true≢false, is_some, cond-true}
+use Rattle.dom_base.proofs.Std.{cond-false}
+use Rattle.dom_model.proofs.Model.{Owner, owner_eq, Part, empty_part, World, find_part, part_of, owner_eq-same, owner_eq-true}
+use Rattle.dom_worlds.specs.Definitions.{owners_in}
 use Rattle.dom_worlds.proofs.OwnerLemmas.{has_owner, there-listed, AreOnce}
 use Rattle.dom_worlds.proofs.ListLemmas.{by_cases}
 

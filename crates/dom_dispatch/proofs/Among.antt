@@ -1,21 +1,10 @@
 -- A dispatch with one list of all owners' listeners is the dispatch in the world.
-use Rattle.std.proofs.Common.{◌≡◌, ◌≢◌, Bool, true, false, not, ◌&&◌, List, [], ◌∷◌, filter, fold, map, refl, sym, ap, subst, ◌∙◌, true≢false}
-use Rattle.std.specs.Prelude.{nat_eq}
-use Rattle.std.specs.Bool.{beq}
-use Rattle.dom_base.specs.declared.Owner.{Owner}
-use Rattle.dom_base.specs.declared.NodeName.{NodeName}
-use Rattle.dom_model.specs.Names.{owner_eq, name_eq, text_eq}
-use Rattle.dom_model.specs.Command.{EventWords}
-use Rattle.dom_model.specs.Listeners.{Listener, Visit, Dispatching, after_invoke, begun, hears, is_listener}
-use Rattle.dom_model.specs.Dispatch.{world_visit, visits_of, event_output}
-use Rattle.dom_model.specs.Part.{Part}
-use Rattle.dom_model.specs.Paths.{views}
-use Rattle.dom_model.specs.World.{World, part_of, with_part}
-use Rattle.dom_model.proofs.OwnerLaws.{owner_eq-true, owner_eq-same, ne-owner_eq}
-use Rattle.dom_model.proofs.PartLaws.{part_of-with_part, part_of-with_part-other, owner-part_of}
+use Rattle.dom_base.proofs.Std.{◌≡◌, ◌≢◌, Bool, true, false, not, ◌&&◌, List, [], ◌∷◌, filter, fold, map, refl, sym, ap, subst, ◌∙◌, true≢false, nat_eq, beq}
+use Rattle.dom_model.proofs.Model.{Owner, NodeName, owner_eq, name_eq, text_eq, EventWords, Listener, Visit, Dispatching, after_invoke, begun, hears}
+use Rattle.dom_model.proofs.Model.{is_listener, world_visit, visits_of, event_output, Part, views, World, part_of, with_part, owner_eq-true, owner_eq-same}
+use Rattle.dom_model.proofs.Model.{ne-owner_eq, part_of-with_part, part_of-with_part-other, owner-part_of}
 use Rattle.dom_worlds.proofs.ListLemmas.{by_cases}
-use Rattle.dom_dispatch.specs.Kept.{is_of_owner, DispatchedAmong, DispatchedAlong, dispatch_along, dispatch_among}
-use Rattle.dom_dispatch.specs.ListenersByName.{listener_named, dispatching_named}
+use Rattle.dom_dispatch.specs.Definitions.{is_of_owner, DispatchedAmong, DispatchedAlong, dispatch_along, dispatch_among, listener_named, dispatching_named}
 use Rattle.dom_dispatch.proofs.Entered.{and-first}
 use Rattle.dom_dispatch.proofs.Naming.{dispatched-named}
 use Rattle.dom_dispatch.proofs.Narrowing.{narrowed, visited-narrow, visited-apart}

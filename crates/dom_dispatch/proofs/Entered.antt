@@ -1,6 +1,5 @@
 -- Tests of the entries of a table, and of the listeners that these are.
-use Rattle.std.proofs.Common.{◌≡◌, Bool, true, false, ◌&&◌, List, [], ◌∷◌, filter, map, refl, ap, ◌∙◌, sym, true≢false}
-use Rattle.std.proofs.lemmas.Bool.{cond-true, cond-false}
+use Rattle.dom_base.proofs.Std.{◌≡◌, Bool, true, false, ◌&&◌, List, [], ◌∷◌, filter, map, refl, ap, ◌∙◌, sym, true≢false, cond-true, cond-false}
 use Rattle.dom_worlds.proofs.ListLemmas.{by_cases}
 
 -- the first of two tests that hold

@@ -1,28 +1,15 @@
 -- What is done to listeners by keys is what is done by names.
-use Rattle.std.proofs.Common.{◌≡◌, ℕ, ◌<◌, Bool, true, false, not, ◌&&◌, ◌||◌, List, [], ◌∷◌, ◌++◌, length, map, filter, fold, reverse, option_map}
-use Rattle.std.proofs.Common.{refl, sym, ap, ◌∙◌}
-use Rattle.std.specs.Prelude.{nat_eq, if◌then◌else◌}
-use Rattle.std.specs.List.{AllByRecursion, list_any}
-use Rattle.std.specs.Bool.{beq}
-use Rattle.std.proofs.lemmas.Bool.{cond-true, cond-false}
-use Rattle.std.proofs.lemmas.List.{reverse-append}
-use Rattle.dom_base.specs.declared.Action.{Action}
-use Rattle.dom_base.specs.declared.Action.TheVariants.{Log, Stop, StopNow, Cancel}
-use Rattle.dom_base.specs.declared.NodeName.{NodeName}
-use Rattle.dom_model.specs.Names.{Word, text_eq, name_eq}
-use Rattle.dom_model.specs.Command.{EventWords, ListenerWords}
-use Rattle.dom_model.specs.Listeners.{Listener, Visit, Dispatching, after_action, may_cancel, line_of, is_listener, with_listener_removed, with_listener_added}
-use Rattle.dom_model.specs.Listeners.{kept_after}
-use Rattle.dom_model.specs.Listeners.{after_inner_invoke, hears, after_invoke, begun}
-use Rattle.dom_model.specs.Paths.{View}
-use Rattle.dom_model.specs.Dispatch.{is_at_target, visit_of, visits_of}
+use Rattle.dom_base.proofs.Std.{◌≡◌, ℕ, ◌<◌, Bool, true, false, not, ◌&&◌, ◌||◌, List, [], ◌∷◌, ◌++◌, length, map, filter, fold, reverse, option_map, refl, sym}
+use Rattle.dom_base.proofs.Std.{ap, ◌∙◌, nat_eq, if◌then◌else◌, AllByRecursion, list_any, beq, cond-true, cond-false, reverse-append}
+use Rattle.dom_model.proofs.Model.{Action, Log, Stop, StopNow, Cancel, NodeName, Word, text_eq, name_eq, EventWords, ListenerWords, Listener, Visit}
+use Rattle.dom_model.proofs.Model.{Dispatching, after_action, may_cancel, line_of, is_listener, with_listener_removed, with_listener_added, kept_after}
+use Rattle.dom_model.proofs.Model.{after_inner_invoke, hears, after_invoke, begun, View, is_at_target, visit_of, visits_of}
 use Rattle.dom_worlds.proofs.ListLemmas.{by_cases, all-reverse}
 use Rattle.dom_slots.proofs.Hosted.{key-test}
-use Rattle.dom_tree.specs.Forest.{name_at}
-use Rattle.dom_tree.specs.Apart.{TellApart}
-use Rattle.dom_path.specs.Items.{view_named}
+use Rattle.dom_tree.specs.Definitions.{name_at, TellApart}
+use Rattle.dom_path.specs.Definitions.{view_named}
 use Rattle.dom_dispatch.proofs.Staying.{all-kept, heard_by, called-at, visited-at}
-use Rattle.dom_dispatch.specs.ListenersByName.{listener_named, visit_named, line_named, dispatching_named, IsListenerAt, IsViewOf}
+use Rattle.dom_dispatch.specs.Definitions.{listener_named, visit_named, line_named, dispatching_named, IsListenerAt, IsViewOf}
 
 -- two lists mapped are both mapped
 map-join : {X Y : Type 0} (f : X → Y) (xs ys : List X) → map f (xs ++ ys) ≡ map f xs ++ map f ys

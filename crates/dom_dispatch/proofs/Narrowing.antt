@@ -1,14 +1,8 @@
 -- A visit among some of the listeners only, where all that hear it are among these.
-use Rattle.std.proofs.Common.{◌≡◌, Bool, true, false, not, List, [], ◌∷◌, ◌++◌, filter, fold, refl, sym, ap, ◌∙◌}
-use Rattle.std.specs.Prelude.{if◌then◌else◌}
-use Rattle.std.specs.List.{AllByRecursion}
-use Rattle.std.proofs.lemmas.Bool.{cond-true, cond-false}
-use Rattle.dom_base.specs.declared.Action.{Action}
-use Rattle.dom_base.specs.declared.Action.TheVariants.{Log, Stop, StopNow, Cancel}
-use Rattle.dom_model.specs.Command.{EventWords}
-use Rattle.dom_model.specs.Listeners.{Listener, Visit, Dispatching, after_action, may_cancel, line_of, is_listener, with_listener_removed, kept_after}
-use Rattle.dom_model.specs.Listeners.{after_inner_invoke}
-use Rattle.dom_model.specs.Listeners.{hears, after_invoke}
+use Rattle.dom_base.proofs.Std.{◌≡◌, Bool, true, false, not, List, [], ◌∷◌, ◌++◌, filter, fold, refl, sym, ap, ◌∙◌, if◌then◌else◌, AllByRecursion, cond-true}
+use Rattle.dom_base.proofs.Std.{cond-false}
+use Rattle.dom_model.proofs.Model.{Action, Log, Stop, StopNow, Cancel, EventWords, Listener, Visit, Dispatching, after_action, may_cancel, line_of, is_listener}
+use Rattle.dom_model.proofs.Model.{with_listener_removed, kept_after, after_inner_invoke, hears, after_invoke}
 use Rattle.dom_worlds.proofs.ListLemmas.{by_cases, filter-filter}
 
 module _ {X : Type 0} where

@@ -1,8 +1,6 @@
 -- What stays of the lists of places where one is opened, or gets room.
-use Rattle.std.proofs.Common.{◌≡◌, ℕ, false, List, [], Option, Some, None, refl, ap, subst, ◌∙◌}
-use Rattle.std.specs.Prelude.{nat_eq, is_some, if◌then◌else◌}
-use Rattle.std.specs.Option.{option_map_or}
-use Rattle.std.proofs.lemmas.Bool.{cond-true, cond-false, eqb-true}
+use Rattle.dom_base.proofs.Std.{◌≡◌, ℕ, false, List, [], Option, Some, None, refl, ap, subst, ◌∙◌, nat_eq, is_some, if◌then◌else◌, option_map_or, cond-true}
+use Rattle.dom_base.proofs.Std.{cond-false, eqb-true}
 use Rattle.dom_worlds.proofs.ListLemmas.{by_cases}
 
 module _ {V : Type 0} (f : V → List ℕ) (n k : ℕ) (was : ℕ → Option V) (now : Option V) (w : V) (is : now ≡ (if nat_eq n k then Some w else was k)) where

@@ -1,23 +1,14 @@
 -- The places of a node's entries in a table, and the entries in them.
-use Rattle.std.proofs.Common.{◌≡◌, ℕ, ◌+◌, ◌<◌, ◌||◌, Bool, true, false, not, List, [], ◌∷◌, ◌++◌, length, get_or, take, filter, Option, Some, None}
-use Rattle.std.proofs.Common.{zero, suc, refl, sym, ap, subst, ◌∙◌, arith, append_assoc, append-nil, length-append}
-use Rattle.std.specs.Prelude.{nat_eq, is_some, filter_map, slice_get, slice_index_or, slice_set, remove, if◌then◌else◌}
-use Rattle.std.specs.List.{list_any, cons_option}
-use Rattle.std.specs.Option.{option_flatten, option_map_or}
-use Rattle.std.proofs.Math.Bool.{or-false, or-true}
-use Rattle.std.proofs.Math.Seq.{set-append_seam}
-use Rattle.std.proofs.lemmas.Bool.{cond-true, cond-false, eqb-true}
-use Rattle.std.proofs.lemmas.List.{map-append, length_push, take_more}
-use Rattle.std.proofs.lemmas.List.Folds.{list_any-append}
-use Rattle.std.proofs.lemmas.Option.{slice_get_within, slice_get-get_or, get_or_from_slice_get}
-use Rattle.std.proofs.lemmas.List.Elements.{filter_map-append, filter-append, filter_more}
-use Rattle.std.proofs.lemmas.Map.Views.{any-filter_same}
+use Rattle.dom_base.proofs.Std.{◌≡◌, ℕ, ◌+◌, ◌<◌, ◌||◌, Bool, true, false, not, List, [], ◌∷◌, ◌++◌, length, get_or, take, filter, Option, Some, None, zero}
+use Rattle.dom_base.proofs.Std.{suc, refl, sym, ap, subst, ◌∙◌, arith, append_assoc, append-nil, length-append, nat_eq, is_some, filter_map, slice_get}
+use Rattle.dom_base.proofs.Std.{slice_index_or, slice_set, remove, if◌then◌else◌, list_any, cons_option, option_flatten, option_map_or, or-false, or-true}
+use Rattle.dom_base.proofs.Std.{set-append_seam, cond-true, cond-false, eqb-true, map-append, length_push, take_more, list_any-append, slice_get_within}
+use Rattle.dom_base.proofs.Std.{slice_get-get_or, get_or_from_slice_get, filter_map-append, filter-append, filter_more, any-filter_same}
 use Rattle.dom_worlds.proofs.ListLemmas.{by_cases}
-use Rattle.dom_model.specs.Listeners.{Listener}
+use Rattle.dom_model.proofs.Model.{Listener}
 use Rattle.dom_dispatch.specs.declared.listeners.Entry.{Entry}
-use Rattle.dom_dispatch.specs.Entries.{listener_of, listeners_in}
+use Rattle.dom_dispatch.specs.Definitions.{listener_of, listeners_in, present, entry_at, is_of_node, places_at, places_from, passes_in, IsIndexed}
 use Rattle.dom_dispatch.specs.declared.places.Places.{Places}
-use Rattle.dom_dispatch.specs.Tables.{present, entry_at, is_of_node, places_at, places_from, passes_in, IsIndexed}
 use Rattle.dom_dispatch.proofs.Entered.{kept-mapped}
 use Rattle.dom_dispatch.proofs.Narrowing.{filter-wider}
 

@@ -1,18 +1,9 @@
 -- Listeners stay at nodes.
-use Rattle.std.proofs.Common.{◌≡◌, ℕ, Bool, true, false, not, List, [], ◌∷◌, ◌++◌, filter, fold, refl, sym, subst, arith}
-use Rattle.std.specs.Prelude.{nat_eq, if◌then◌else◌}
-use Rattle.std.specs.List.{AllByRecursion, list_any}
-use Rattle.std.proofs.lemmas.List.{length-append}
-use Rattle.dom_base.specs.declared.Action.{Action}
-use Rattle.dom_base.specs.declared.Action.TheVariants.{Log, Stop, StopNow, Cancel}
-use Rattle.dom_base.specs.declared.NodeName.{NodeName}
-use Rattle.dom_model.specs.Command.{EventWords}
-use Rattle.dom_model.specs.Dispatch.{visits_of}
-use Rattle.dom_model.specs.Listeners.{Listener, Visit, Dispatching, after_action, may_cancel, line_of, is_listener, with_listener_removed, kept_after}
-use Rattle.dom_model.specs.Listeners.{after_inner_invoke, hears}
-use Rattle.dom_model.specs.Listeners.{after_invoke, begun}
-use Rattle.dom_dispatch.specs.ListenersByName.{IsListenerAt}
-use Rattle.dom_dispatch.specs.Staying.{AreAtNodes, NoneStay, MoreStay, ListenedStay, UnlistenedStay, DispatchedStay}
+use Rattle.dom_base.proofs.Std.{◌≡◌, ℕ, Bool, true, false, not, List, [], ◌∷◌, ◌++◌, filter, fold, refl, sym, subst, arith, nat_eq, if◌then◌else◌}
+use Rattle.dom_base.proofs.Std.{AllByRecursion, list_any, length-append}
+use Rattle.dom_model.proofs.Model.{Action, Log, Stop, StopNow, Cancel, NodeName, EventWords, visits_of, Listener, Visit, Dispatching, after_action, may_cancel}
+use Rattle.dom_model.proofs.Model.{line_of, is_listener, with_listener_removed, kept_after, after_inner_invoke, hears, after_invoke, begun}
+use Rattle.dom_dispatch.specs.Definitions.{IsListenerAt, AreAtNodes, NoneStay, MoreStay, ListenedStay, UnlistenedStay, DispatchedStay}
 
 -- what holds of all holds of those that are kept
 pub all-kept : {X : Type 0} (P : X → Type 0) (p : X → Bool) (xs : List X) → AllByRecursion P xs → AllByRecursion P (filter p xs)

@@ -1,16 +1,11 @@
 -- The types for which there are listeners.
-use Rattle.std.proofs.Common.{◌≡◌, ℕ, Bool, true, false, ◌&&◌, cond, List, [], ◌∷◌, ◌++◌, filter, Result, Ok, Err, refl, sym, ap, subst, ◌∙◌}
-use Rattle.std.proofs.Common.{true≢false}
-use Rattle.std.specs.Prelude.{OnOk, OnErr, if◌then◌else◌}
-use Rattle.std.specs.Bool.{beq}
-use Rattle.std.proofs.lemmas.Slice.Eq.{bytes_eq-Decides}
+use Rattle.dom_base.proofs.Std.{◌≡◌, ℕ, Bool, true, false, ◌&&◌, cond, List, [], ◌∷◌, ◌++◌, filter, Result, Ok, Err, refl, sym, ap, subst, ◌∙◌, true≢false}
+use Rattle.dom_base.proofs.Std.{OnOk, OnErr, if◌then◌else◌, beq, bytes_eq-Decides}
 use Rattle.dom_attributes.proofs.Attributes.{text_test}
-use Rattle.dom_model.specs.Listeners.{Listener}
-use Rattle.dom_model.specs.Names.{Word, text_eq}
+use Rattle.dom_model.proofs.Model.{Listener, Word, text_eq}
 use Rattle.dom_dispatch.specs.declared.listeners.Entry.{Entry}
 use Rattle.dom_dispatch.specs.declared.types.Types.{Types}
-use Rattle.dom_dispatch.specs.Entries.{listener_of, listeners_in, NoneHears}
-use Rattle.dom_dispatch.specs.Tables.{is_noted, HasTypes}
+use Rattle.dom_dispatch.specs.Definitions.{listener_of, listeners_in, NoneHears, is_noted, HasTypes}
 
 module _ (types : Types) where
   -- a listener of a type that is among them doesn't hear one that is not

@@ -1,33 +1,19 @@
 -- The steps of loops over listeners and over the visits of a path, and the dispatch in a world.
-use Rattle.std.proofs.Common.{◌≡◌, ℕ, ◌+◌, ◌<◌, Bool, true, false, cond, List, [], ◌∷◌, ◌++◌, length, get_or, take, drop, filter, fold, map, reverse}
-use Rattle.std.proofs.Common.{Option, Some, option_map, zero, suc, refl, sym, ap, subst, ◌∙◌, arith, drop-cons}
-use Rattle.std.specs.Prelude.{◌&&◌, nat_eq, slice_get, if◌then◌else◌}
-use Rattle.std.specs.List.{AllByRecursion}
-use Rattle.std.proofs.lemmas.Bool.{cond-false}
-use Rattle.std.proofs.lemmas.List.{map-append, reverse-append}
-use Rattle.std.proofs.lemmas.List.Elements.{filter_more}
-use Rattle.std.proofs.lemmas.List.Sums.{fold-append}
-use Rattle.std.proofs.lemmas.Option.{slice_get-map, slice_get-get_or, slice_get_within, get_or_from_slice_get}
-use Rattle.dom_base.specs.declared.NodeName.{NodeName}
-use Rattle.dom_model.specs.Command.{EventWords}
-use Rattle.dom_model.specs.Dispatch.{event_output, visit_of}
-use Rattle.dom_model.specs.Listeners.{Dispatching, Listener, hears, after_inner_invoke, after_invoke}
-use Rattle.dom_model.specs.Output.{EventLine}
-use Rattle.dom_model.specs.Paths.{View}
-use Rattle.dom_model.specs.World.{part_of}
-use Rattle.dom_tree.specs.Forest.{NamedTrees, name_at}
-use Rattle.dom_tree.specs.Apart.{TellApart}
-use Rattle.dom_slots.specs.Hosts.{ShadowHost}
+use Rattle.dom_base.proofs.Std.{◌≡◌, ℕ, ◌+◌, ◌<◌, Bool, true, false, cond, List, [], ◌∷◌, ◌++◌, length, get_or, take, drop, filter, fold, map, reverse, Option}
+use Rattle.dom_base.proofs.Std.{Some, option_map, zero, suc, refl, sym, ap, subst, ◌∙◌, arith, drop-cons, ◌&&◌, nat_eq, slice_get, if◌then◌else◌}
+use Rattle.dom_base.proofs.Std.{AllByRecursion, cond-false, map-append, reverse-append, filter_more, fold-append, slice_get-map, slice_get-get_or}
+use Rattle.dom_base.proofs.Std.{slice_get_within, get_or_from_slice_get}
+use Rattle.dom_model.proofs.Model.{NodeName, EventWords, event_output, visit_of, Dispatching, Listener, hears, after_inner_invoke, after_invoke, EventLine}
+use Rattle.dom_model.proofs.Model.{View, part_of}
+use Rattle.dom_tree.specs.Definitions.{NamedTrees, name_at, TellApart}
+use Rattle.dom_slots.specs.Definitions.{ShadowHost}
 use Rattle.dom_path.specs.declared.item.Item.{Item}
 use Rattle.dom_path.specs.declared.trees.Tree.{Tree}
-use Rattle.dom_path.specs.Items.{ShowsNodes}
-use Rattle.dom_path.specs.PathNodes.{view_in}
+use Rattle.dom_path.specs.Definitions.{ShowsNodes, view_in}
 use Rattle.dom_dispatch.specs.declared.event.LogLine.{LogLine}
 use Rattle.dom_dispatch.specs.declared.event.Outcome.{Outcome}
-use Rattle.dom_dispatch.specs.Dispatches.{HasPathOf, IsDispatched, IsDispatchedIn, IsLineAlong, IsOwnLine}
-use Rattle.dom_dispatch.specs.Entries.{NoneHears}
-use Rattle.dom_dispatch.specs.Kept.{is_of_owner}
-use Rattle.dom_dispatch.specs.ListenersByName.{listener_named, line_named, IsListenerAt, IsViewOf}
+use Rattle.dom_dispatch.specs.Definitions.{HasPathOf, IsDispatched, IsDispatchedIn, IsLineAlong, IsOwnLine, NoneHears, is_of_owner, listener_named, line_named}
+use Rattle.dom_dispatch.specs.Definitions.{IsListenerAt, IsViewOf}
 use Rattle.dom_dispatch.proofs.Among.{dispatched-along}
 
 -- one or none, mapped

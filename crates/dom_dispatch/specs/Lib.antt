@@ -5,3 +5,4 @@ pub mod Entries
 pub mod Dispatches
 pub mod Tables
 pub mod Staying
+pub mod Definitions

@@ -1,23 +1,13 @@
 -- A line whose command names another owner's node is refused, the page's as well as a component's. No turn is open behind the end of input.
-use Rattle.std.proofs.Common.{◌≡◌, Bool, true, false, not, ◌&&◌, [], ◌∷◌, ◌++◌, Some, refl, sym, ap, subst, ◌∙◌, Option, None}
-use Rattle.std.specs.Prelude.{if◌then◌else◌, is_some}
-use Rattle.std.specs.Option.{option_or}
-use Rattle.dom_base.specs.declared.Owner.TheVariants.{Page, Component}
-use Rattle.dom_base.specs.declared.Refusal.TheVariants.{Syntax, Busy, Foreign, Unknown}
-use Rattle.dom_model.specs.Command.{Command, command, assigned, names_foreign, is_command_of, part_refusal}
-use Rattle.dom_model.specs.DocumentMachine.{accepted, is_busy, refusal, step, finish}
-use Rattle.dom_model.specs.Output.{says, refused}
-use Rattle.dom_model.specs.Runs.{run_then, unless_refused, quiet}
-use Rattle.dom_model.specs.Turns.{ending_other_turn, is_page_turn, ending_turn}
-use Rattle.dom_model.specs.Validity.{first_refusal}
-use Rattle.dom_model.specs.World.{World, is_there, part_of}
-use Rattle.dom_model.proofs.StepLaws.{Component-IsNoPage}
-use Rattle.dom_text.specs.Grammar.{MayUse, Says}
+use Rattle.dom_base.proofs.Std.{◌≡◌, Bool, true, false, not, ◌&&◌, [], ◌∷◌, ◌++◌, Some, refl, sym, ap, subst, ◌∙◌, Option, None, if◌then◌else◌, is_some}
+use Rattle.dom_base.proofs.Std.{option_or}
+use Rattle.dom_model.proofs.Model.{Page, Component, Syntax, Busy, Foreign, Unknown, Command, command, assigned, names_foreign, is_command_of, part_refusal}
+use Rattle.dom_model.proofs.Model.{accepted, is_busy, refusal, step, finish, says, refused, run_then, unless_refused, quiet, ending_other_turn, is_page_turn}
+use Rattle.dom_model.proofs.Model.{ending_turn, first_refusal, World, is_there, part_of, Component-IsNoPage, Owner, turn-ending_turn}
+use Rattle.dom_text.specs.Definitions.{MayUse, Says}
 use Rattle.dom_text.proofs.DecodeLaws.{decode_says}
 use Rattle.dom_isolation.proofs.PageTexts.{foreign_line-is_refused}
 use Rattle.dom_engine.specs.Session.{ForeignLinesAreRefused}
-use Rattle.dom_base.specs.declared.Owner.{Owner}
-use Rattle.dom_model.proofs.TurnLaws.{turn-ending_turn}
 
 -- a component's line is busy where the page's turn is open
 busy-component : (b : Bool) → (if b && true then Busy else Foreign) ≡ (if b then Busy else Foreign)

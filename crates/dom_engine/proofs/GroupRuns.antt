@@ -1,12 +1,9 @@
 -- The theorem between components for the text of runs.
-use Rattle.std.proofs.Common.{◌≡◌, ℕ, List, map, Some, sym, ap, ◌∙◌}
-use Rattle.dom_base.specs.declared.Owner.{Owner}
-use Rattle.dom_model.specs.DocumentMachine.{outputs_of}
-use Rattle.dom_text.specs.Decode.{decode}
-use Rattle.dom_text.specs.Lines.{lines_of, lines_from, text_of_lines}
-use Rattle.dom_text.specs.Text.{output_line}
+use Rattle.dom_base.proofs.Std.{◌≡◌, ℕ, List, map, Some, sym, ap, ◌∙◌}
+use Rattle.dom_model.proofs.Model.{Owner, outputs_of}
+use Rattle.dom_text.specs.Definitions.{decode, lines_of, lines_from, text_of_lines, output_line}
 use Rattle.dom_isolation.proofs.PlainLines.{decode-reads_plain_words}
-use Rattle.dom_isolation.specs.GroupTexts.{text_of, GiveTheSame}
+use Rattle.dom_isolation.specs.Definitions.{text_of, GiveTheSame}
 use Rattle.dom_isolation.proofs.GroupTexts.{decode-reads_owners, same-group_text, same-group_text_while_turns_stand, same-family_text}
 use Rattle.dom_isolation.proofs.GroupTexts.{same-family_text_while_turns_stand, same-component_text, same-component_text_while_turns_stand}
 use Rattle.dom_isolation.proofs.GroupTexts.{same-around_text, same-around_text_while_turns_stand}

@@ -1,26 +1,18 @@
 -- The text of lines that are run one after another, and lines that are run behind other lines, as they come to a splitter piece by piece.
-use Rattle.std.proofs.Common.{◌≡◌, ℕ, ◌+◌, ◌<◌, ◌≤◌, List, [], ◌∷◌, ◌++◌, length, take, drop, get_or, map, Option, Result, refl, sym, ap, subst, ◌∙◌, arith}
-use Rattle.std.proofs.Common.{append-nil, length-append, filter, Some, None, append_assoc}
-use Rattle.std.proofs.lemmas.List.{map-append, take_more, take-append-le, take-append-drop}
-use Rattle.std.proofs.Math.Seq.{take-append-add, take-length}
-use Rattle.dom_base.specs.declared.Owner.{Owner}
-use Rattle.dom_model.specs.World.{World}
+use Rattle.dom_base.proofs.Std.{◌≡◌, ℕ, ◌+◌, ◌<◌, ◌≤◌, List, [], ◌∷◌, ◌++◌, length, take, drop, get_or, map, Option, Result, refl, sym, ap, subst, ◌∙◌, arith}
+use Rattle.dom_base.proofs.Std.{append-nil, length-append, filter, Some, None, append_assoc, map-append, take_more, take-append-le, take-append-drop}
+use Rattle.dom_base.proofs.Std.{take-append-add, take-length, filter-append}
+use Rattle.dom_model.proofs.Model.{Owner, World, Line, Run, run_then, run_each, first_world, step, run_lines, finish}
 use Rattle.dom_streams.specs.declared.fault.RunFault.{RunFault}
 use Rattle.dom_engine.specs.Run.{world_after, ending, shown, WritesSome, answers, answers_to_end}
 use Rattle.dom_streams.specs.Views.{viewed}
 use Rattle.dom_streams.specs.Writing.{Taken, Takes, EndsWriting, StopsWriting}
 use Rattle.dom_streams.proofs.WriteLaws.{Takes-nil, Takes-trans, HasWritten, ends_behind, ends_as, stops_between, stops_as}
-use Rattle.std.proofs.lemmas.List.Elements.{filter-append}
-use Rattle.dom_model.specs.Command.{Line}
-use Rattle.dom_model.specs.Runs.{Run, run_then, run_each}
-use Rattle.dom_model.specs.DocumentMachine.{first_world, step, run_lines, finish}
-use Rattle.dom_text.specs.Lines.{line_feed, cut_of, kept_line, text_of_lines, begins_with, owner_prefix}
-use Rattle.dom_text.specs.Text.{output_line, output_text}
+use Rattle.dom_text.specs.Definitions.{line_feed, cut_of, kept_line, text_of_lines, begins_with, owner_prefix, output_line, output_text, decode}
 use Rattle.dom_text.proofs.LineLaws.{cut_of-pieces}
 use Rattle.dom_text.proofs.DecodeLaws.{decode-kept}
 use Rattle.dom_reader.proofs.StreamLaws.{cut_of-front, rest-one_line, fed-pieces}
 use Rattle.dom_text.proofs.OutputLaws.{text_of_lines-append, output_text-append}
-use Rattle.dom_text.specs.Decode.{decode}
 use Rattle.dom_isolation.proofs.PageTexts.{run_each-append}
 use Rattle.dom_reader.specs.Streams.{fed}
 

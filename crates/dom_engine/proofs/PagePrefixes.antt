@@ -1,24 +1,12 @@
 -- The isolation theorem for the text of runs: what the page sees where a run comes to its end, and where a fault stops it.
-use Rattle.std.proofs.Common.{◌≡◌, ℕ, ◌≤◌, ◌⊎◌, List, [], ◌++◌, length, take, drop, map, filter, Option, None, Some, IfSome, IsTrue, refl, sym, ap, subst}
-use Rattle.std.proofs.Common.{◌∙◌, append_assoc, append-nil, inl, inr}
-use Rattle.std.proofs.lemmas.List.{take-append-drop, take-append-le}
-use Rattle.std.proofs.lemmas.List.Elements.{filter-append}
-use Rattle.std.specs.Prelude.{⊤}
-use Rattle.std.specs.Io.KnownBytes.{IsAtEnd}
-use Rattle.std.proofs.KnownBytes.{Consumes-whole}
-use Rattle.dom_base.specs.declared.Owner.{Owner}
-use Rattle.dom_base.specs.declared.Owner.TheVariants.{Page, Component}
-use Rattle.dom_model.specs.DocumentMachine.{first_world, run_lines, outputs_of}
-use Rattle.dom_model.specs.PageMachine.{first_page, PageState, run_page, page_finish, page_outputs_of}
-use Rattle.dom_model.specs.Runs.{Run, run_then}
-use Rattle.dom_model.specs.Trace.{trace_of, no_component_stops}
-use Rattle.dom_text.specs.Lines.{Cut, cut_of, last_line, lines_of, begins_with, owner_prefix, page_lines, text_of_lines}
-use Rattle.dom_text.specs.Text.{output_line, output_text}
-use Rattle.dom_text.specs.Decode.{decode}
+use Rattle.dom_base.proofs.Std.{◌≡◌, ℕ, ◌≤◌, ◌⊎◌, List, [], ◌++◌, length, take, drop, map, filter, Option, None, Some, IfSome, IsTrue, refl, sym, ap, subst}
+use Rattle.dom_base.proofs.Std.{◌∙◌, append_assoc, append-nil, inl, inr, take-append-drop, take-append-le, filter-append, ⊤, IsAtEnd, Consumes-whole}
+use Rattle.dom_model.proofs.Model.{Owner, Page, Component, first_world, run_lines, outputs_of, first_page, PageState, run_page, page_finish, page_outputs_of}
+use Rattle.dom_model.proofs.Model.{Run, run_then, trace_of, no_component_stops}
+use Rattle.dom_text.specs.Definitions.{Cut, cut_of, last_line, lines_of, begins_with, owner_prefix, page_lines, text_of_lines, output_line, output_text, decode}
 use Rattle.dom_text.proofs.LineLaws.{lines_of-cut, cut_of-pieces, cut_of-append}
 use Rattle.dom_text.proofs.OutputLaws.{text_of_lines-append, output_text-append}
-use Rattle.dom_isolation.specs.Interference.{full_trace_of}
-use Rattle.dom_isolation.specs.TouchedMachines.{run_page_under, page_outputs_under}
+use Rattle.dom_isolation.specs.Definitions.{full_trace_of, run_page_under, page_outputs_under}
 use Rattle.dom_isolation.proofs.PageTexts.{page_output-goes_on_in_full, page_output-goes_on, first_lines-stop_nothing, told-nothing}
 use Rattle.dom_isolation.proofs.PageTexts.{picked_lines-agree_so_far_in_full, picked_lines-agree_in_full}
 use Rattle.dom_isolation.proofs.PlainLines.{decode-reads_plain_words}

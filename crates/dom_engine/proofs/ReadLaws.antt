@@ -1,13 +1,9 @@
 -- Laws of what a run has read, and of what stops it: a read, a flush, memory, the limit.
-use Rattle.std.proofs.Common.{◌≡◌, ℕ, ◌<◌, ◌≤◌, ◌⊎◌, List, [], ◌∷◌, ◌++◌, length, length-append, ◌+◌, take, map, Option, refl, sym, ap, subst, ◌∙◌}
-use Rattle.std.proofs.Common.{append_assoc, append-nil, arith, inl, inr, Result, Ok, Err}
-use Rattle.std.proofs.lemmas.List.{length-map, take-map}
-use Rattle.std.specs.Io.KnownBytes.{Consumes, IsAtEnd}
-use Rattle.std.proofs.KnownBytes.{Consumes-nil, Consumes-trans}
-use Rattle.dom_base.specs.declared.Owner.{Owner}
-use Rattle.dom_model.specs.World.{World}
-use Rattle.dom_model.specs.DocumentMachine.{first_world}
-use Rattle.dom_text.specs.Lines.{cut_of, lines_of, last_line, kept_line}
+use Rattle.dom_base.proofs.Std.{◌≡◌, ℕ, ◌<◌, ◌≤◌, ◌⊎◌, List, [], ◌∷◌, ◌++◌, length, length-append, ◌+◌, take, map, Option, refl, sym, ap, subst, ◌∙◌}
+use Rattle.dom_base.proofs.Std.{append_assoc, append-nil, arith, inl, inr, Result, Ok, Err, length-map, take-map, Consumes, IsAtEnd, Consumes-nil}
+use Rattle.dom_base.proofs.Std.{Consumes-trans}
+use Rattle.dom_model.proofs.Model.{Owner, World, first_world}
+use Rattle.dom_text.specs.Definitions.{cut_of, lines_of, last_line, kept_line}
 use Rattle.dom_reader.specs.Streams.{fed, IsKept}
 use Rattle.dom_reader.proofs.StreamLaws.{fed-none, fed-is_kept, lines_of-fed_all}
 use Rattle.dom_streams.specs.declared.fault.RunFault.{RunFault}

@@ -1,37 +1,17 @@
 -- A dispatch and a command of a component, as the page sees it: nothing, or an outward event at its host.
-use Rattle.std.proofs.Common.{◌≡◌, ℕ, Bool, true, false, not, ◌&&◌, ◌||◌, List, [], ◌∷◌, ◌++◌, zero, suc, length, find, flat_map, filter, map, Option, Some}
-use Rattle.std.proofs.Common.{None, option_map, refl, sym, ap, ◌∙◌, true≢false, subst, append-nil, inl, inr}
-use Rattle.std.specs.Prelude.{is_some, is_none, if◌then◌else◌, option_to_list}
-use Rattle.std.proofs.lemmas.List.Elements.{filter-append}
-use Rattle.std.proofs.lemmas.Bool.{cond-true, cond-false}
-use Rattle.dom_base.specs.declared.Owner.{Owner}
-use Rattle.dom_base.specs.declared.Owner.TheVariants.{Page, Component}
-use Rattle.dom_base.specs.declared.NodeName.{NodeName}
-use Rattle.dom_base.specs.declared.Kind.TheVariants.{Shadow}
-use Rattle.dom_base.specs.declared.Refusal.{Refusal}
-use Rattle.dom_base.specs.declared.Refusal.TheVariants.{TypeFault}
-use Rattle.dom_model.specs.Names.{ComponentName, name_eq, owner_depth}
-use Rattle.dom_model.specs.Tree.{node_in, root_of}
-use Rattle.dom_model.specs.Command.{Command, NodeWord, EventWords, part_refusal, effect}
-use Rattle.dom_model.specs.Output.{says, nothing, a_truth}
-use Rattle.dom_model.specs.Part.{Part}
-use Rattle.dom_model.specs.Runs.{Run, quiet, run_then, answering, unless_refused, run_each}
-use Rattle.dom_model.specs.CommandRefusals.{related_refusal, has_other_root}
-use Rattle.dom_model.specs.CommandNames.{named}
-use Rattle.dom_model.specs.Effects.{Effect, tables, changes}
-use Rattle.dom_model.specs.World.{World, hosts_from, host_above, micro_task, part_of, with_part, component_made}
-use Rattle.dom_model.specs.Dispatch.{dispatch_in, Dispatched, visits_of}
-use Rattle.dom_model.specs.Turns.{ending_turn, opening_turn, is_page_turn}
-use Rattle.dom_model.specs.DocumentMachine.{refusal, effect_in, attaching, part_with_root, perform, accepted, run_command}
-use Rattle.dom_model.specs.Trace.{outputs_for, is_page, boundary_host, outward_of, outward_dispatch, outward_command, OutwardEvent}
-use Rattle.dom_model.specs.PageMachine.{PageState, page_of, is_page_task}
-use Rattle.dom_model.proofs.OwnerLaws.{component_made-no_page, name_eq-true, owner_eq-true, ne-owner_eq}
-use Rattle.dom_model.proofs.PartLaws.{part_of-with_part-other, owner-part_of}
-use Rattle.dom_model.proofs.StepLaws.{Component-IsNoPage}
-use Rattle.dom_isolation.specs.Laws.{page_run, PageVisitsAgree, OutwardVisitsAgree}
-use Rattle.dom_worlds.specs.Reached.{Invariant}
-use Rattle.dom_worlds.specs.Worlds.{IsWorld, IsForeignTo}
-use Rattle.dom_isolation.specs.Interference.{Interference, first_record, interference_at, accepted_records, command_records, untouched}
+use Rattle.dom_base.proofs.Std.{◌≡◌, ℕ, Bool, true, false, not, ◌&&◌, ◌||◌, List, [], ◌∷◌, ◌++◌, zero, suc, length, find, flat_map, filter, map, Option, Some}
+use Rattle.dom_base.proofs.Std.{None, option_map, refl, sym, ap, ◌∙◌, true≢false, subst, append-nil, inl, inr, is_some, is_none, if◌then◌else◌, option_to_list}
+use Rattle.dom_base.proofs.Std.{filter-append, cond-true, cond-false}
+use Rattle.dom_model.proofs.Model.{Owner, Page, Component, NodeName, Shadow, Refusal, TypeFault, ComponentName, name_eq, owner_depth, node_in, root_of, Command}
+use Rattle.dom_model.proofs.Model.{NodeWord, EventWords, part_refusal, effect, says, nothing, a_truth, Part, Run, quiet, run_then, answering, unless_refused}
+use Rattle.dom_model.proofs.Model.{run_each, related_refusal, has_other_root, named, Effect, tables, changes, World, hosts_from, host_above, micro_task}
+use Rattle.dom_model.proofs.Model.{part_of, with_part, component_made, dispatch_in, Dispatched, visits_of, ending_turn, opening_turn, is_page_turn, refusal}
+use Rattle.dom_model.proofs.Model.{effect_in, attaching, part_with_root, perform, accepted, run_command, outputs_for, is_page, boundary_host, outward_of}
+use Rattle.dom_model.proofs.Model.{outward_dispatch, outward_command, OutwardEvent, PageState, page_of, is_page_task, component_made-no_page, name_eq-true}
+use Rattle.dom_model.proofs.Model.{owner_eq-true, ne-owner_eq, part_of-with_part-other, owner-part_of, Component-IsNoPage, views}
+use Rattle.dom_isolation.specs.Definitions.{page_run, PageVisitsAgree, OutwardVisitsAgree, Interference, first_record, interference_at, accepted_records}
+use Rattle.dom_isolation.specs.Definitions.{command_records, untouched, page_dispatch_under, page_outward_under}
+use Rattle.dom_worlds.specs.Definitions.{Invariant, IsWorld, IsForeignTo}
 use Rattle.dom_isolation.proofs.PageSteps.{done_to, dispatch-page, run_then-square, same_page_of, outputs_for_page-other, page_of-world_after-other}
 use Rattle.dom_isolation.proofs.PageSteps.{page_run-unseen}
 use Rattle.dom_worlds.proofs.ListLemmas.{by_cases, and-true_false}
@@ -41,8 +21,6 @@ use Rattle.dom_worlds.proofs.OwnerLemmas.{owner-named}
 use Rattle.dom_isolation.proofs.GroupDispatches.{outward_at, HasSameRoot, comes_to, no_dispatch}
 use Rattle.dom_isolation.proofs.PageCommands.{quiet_then, ending-component, opening-component}
 use Rattle.dom_isolation.proofs.PagePaths.{views-page}
-use Rattle.dom_model.specs.Paths.{views}
-use Rattle.dom_isolation.specs.TouchedMachines.{page_dispatch_under, page_outward_under}
 use Rattle.dom_isolation.proofs.Families.{page-is_group}
 use Rattle.dom_isolation.proofs.OwnVisits.{group_visits}
 use Rattle.dom_isolation.proofs.OutsideViews.{has-exit, views-exit}

@@ -1,24 +1,16 @@
 -- Groups that keep makers: the page alone, the page with a family, a component with its makers, and all who are not inside a component. For the
 -- page, and for the page with a family, a boundary host is a node of the page.
-use Rattle.std.proofs.Common.{◌≡◌, ◌≢◌, ◌≤◌, ℕ, zero, suc, Bool, true, false, not, ◌||◌, List, [], ◌∷◌, ◌++◌, flat_map, get_or, Option, Some, None, refl, sym}
-use Rattle.std.proofs.Common.{ap, ◌∙◌, arith, true≢false, append-nil}
-use Rattle.std.specs.Prelude.{nat_le, slice_set, option_to_list}
-use Rattle.std.specs.List.{list_any}
-use Rattle.std.proofs.lemmas.Bool.{and_parts, leb-true}
-use Rattle.dom_base.specs.Owners.{longer_path, no_path, made_by}
-use Rattle.dom_base.specs.declared.Owner.{Owner}
-use Rattle.dom_base.specs.declared.Owner.TheVariants.{Page, Component}
-use Rattle.dom_model.specs.Names.{owner_eq, owner_depth}
-use Rattle.dom_model.specs.World.{component_made, MayAttach, World, host_above, host_chain}
-use Rattle.dom_model.specs.Groups.{is_in_family, family_group, top_owner, makers_from, is_inside, makers_group}
-use Rattle.dom_model.specs.Trace.{is_page, boundary_host}
-use Rattle.dom_model.proofs.OwnerLaws.{owner_eq-true, owner_eq-false, owner_eq-same, ne-owner_eq, component_made-no_page, maker-word, made_by-is, made_by-made}
+use Rattle.dom_base.proofs.Std.{◌≡◌, ◌≢◌, ◌≤◌, ℕ, zero, suc, Bool, true, false, not, ◌||◌, List, [], ◌∷◌, ◌++◌, flat_map, get_or, Option, Some, None, refl, sym}
+use Rattle.dom_base.proofs.Std.{ap, ◌∙◌, arith, true≢false, append-nil, nat_le, slice_set, option_to_list, list_any, and_parts, leb-true}
+use Rattle.dom_model.proofs.Model.{longer_path, no_path, made_by, Owner, Page, Component, owner_eq, owner_depth, component_made, MayAttach, World, host_above}
+use Rattle.dom_model.proofs.Model.{host_chain, is_in_family, family_group, top_owner, makers_from, is_inside, makers_group, is_page, boundary_host}
+use Rattle.dom_model.proofs.Model.{owner_eq-true, owner_eq-false, owner_eq-same, ne-owner_eq, component_made-no_page, maker-word, made_by-is, made_by-made}
+use Rattle.dom_model.proofs.Model.{NodeName}
 use Rattle.dom_worlds.proofs.ListLemmas.{by_cases, or-second, or-later}
 use Rattle.dom_worlds.proofs.ShadowTreeLemmas.{IsBelow, above-host, below-host}
 use Rattle.dom_worlds.proofs.OwnerLemmas.{hosted, hosted-owned, hosted-maker}
-use Rattle.dom_isolation.specs.Groups.{PageIsGroup, FamilyIsGroup, MakersAreGroup, OthersAreGroup, PageHostIsPage, FamilyHostIsPage}
-use Rattle.dom_base.specs.declared.NodeName.{NodeName}
-use Rattle.dom_worlds.specs.Worlds.{IsWorld}
+use Rattle.dom_isolation.specs.Definitions.{PageIsGroup, FamilyIsGroup, MakersAreGroup, OthersAreGroup, PageHostIsPage, FamilyHostIsPage}
+use Rattle.dom_worlds.specs.Definitions.{IsWorld}
 use Rattle.dom_isolation.proofs.OutsideViews.{found-passes, boundary-here, boundary-above, boundary-alone}
 
 -- another number behind the first leaves the first

@@ -1,46 +1,25 @@
 -- Where the listeners of others for an event only log, nobody touches it, and what others do is small. So where no component listener stops or cancels, nothing
 -- is told in a full trace; and in any case it only adds to the trace.
-use Rattle.std.proofs.Common.{◌≡◌, ℕ, Bool, true, false, not, List, [], ◌∷◌, ◌++◌, filter, map, flat_map, Option, Some, None, option_map, refl, sym, ap, ◌∙◌}
-use Rattle.std.proofs.Common.{◌≤◌, suc, ◌&&◌, fold, length, true≢false, subst, arith}
-use Rattle.std.specs.Prelude.{is_none, option_to_list, if◌then◌else◌}
-use Rattle.std.specs.List.{AllByRecursion}
-use Rattle.std.proofs.lemmas.Bool.{cond-true, cond-false, and_parts, not-true}
-use Rattle.std.proofs.lemmas.List.Concat.{flat_map-append}
-use Rattle.dom_base.specs.declared.Owner.{Owner}
-use Rattle.dom_base.specs.declared.Owner.TheVariants.{Page}
-use Rattle.dom_base.specs.declared.NodeName.{NodeName}
-use Rattle.dom_model.specs.Command.{Command, EventWords, Line, no_owner, no_command, command}
-use Rattle.dom_model.specs.CommandNames.{named}
-use Rattle.dom_model.specs.Runs.{Run, run_then}
-use Rattle.dom_model.specs.Turns.{slotchange, firing_slotchange, is_owned_by, running_task, ending_other_turn, opening_turn}
-use Rattle.dom_model.specs.DocumentMachine.{refusal, step}
-use Rattle.dom_model.specs.World.{World, Task, micro_task, notify_task, part_of}
-use Rattle.dom_model.specs.Trace.{line, outward, OutwardEvent, is_of, owner_of_line, outward_event, items_of, line_may_stop, no_component_stops_from}
-use Rattle.dom_model.specs.Groups.{ends_other_turn, ends_group_turn}
-use Rattle.dom_model.specs.PageMachine.{PageState, page_line, run_page}
-use Rattle.dom_worlds.specs.Reached.{IsQuiet}
+use Rattle.dom_base.proofs.Std.{◌≡◌, ℕ, Bool, true, false, not, List, [], ◌∷◌, ◌++◌, filter, map, flat_map, Option, Some, None, option_map, refl, sym, ap, ◌∙◌}
+use Rattle.dom_base.proofs.Std.{◌≤◌, suc, ◌&&◌, fold, length, true≢false, subst, arith, is_none, option_to_list, if◌then◌else◌, AllByRecursion, cond-true}
+use Rattle.dom_base.proofs.Std.{cond-false, and_parts, not-true, flat_map-append, beq}
+use Rattle.dom_model.proofs.Model.{Owner, Page, NodeName, Command, EventWords, Line, no_owner, no_command, command, named, Run, run_then, slotchange}
+use Rattle.dom_model.proofs.Model.{firing_slotchange, is_owned_by, running_task, ending_other_turn, opening_turn, refusal, step, World, Task, micro_task}
+use Rattle.dom_model.proofs.Model.{notify_task, part_of, line, outward, OutwardEvent, is_of, owner_of_line, outward_event, items_of, line_may_stop}
+use Rattle.dom_model.proofs.Model.{no_component_stops_from, ends_other_turn, ends_group_turn, PageState, page_line, run_page, Action, Log, Stop, StopNow}
+use Rattle.dom_model.proofs.Model.{Cancel, Word, text_eq, owner_eq, name_eq, EventLine, Listener, Visit, after_invoke, after_inner_invoke, hears, is_listener}
+use Rattle.dom_model.proofs.Model.{kept_after, after_action, may_cancel, line_of, begun, Part, views, world_visit, visits_of, owner_eq-true, owner_eq-false}
+use Rattle.dom_model.proofs.Model.{part_of-with_part, part_of-with_part-other, owner-part_of}
+use Rattle.dom_worlds.specs.Definitions.{IsQuiet, OnlyLogs, ComponentsOnlyLog}
 use Rattle.dom_worlds.proofs.ListLemmas.{all-append, all-filter, all-then, by_cases, either_way}
 use Rattle.dom_worlds.proofs.TurnLemmas.{quiet-ending_other, quiet-opening, quiet-dispatch, told_in, quiet-told, quiet-running, at_end, quiet-at_end, Going}
 use Rattle.dom_worlds.proofs.TurnLemmas.{InWorld, with_listeners, call, call-of, no_call}
 use Rattle.dom_worlds.proofs.WorldLemmas.{quiet-step}
-use Rattle.dom_isolation.specs.FullLaws.{IsUntouched, FullTraceIsTrace, NothingTouches, OthersOnlyLog, LogsEvent, InterferenceIsSmall}
-use Rattle.dom_isolation.specs.Interference.{Interference, untouched, FullItem, line_with, outward_with, turn_ended, plain_items, records_each, first_record}
-use Rattle.dom_isolation.specs.Interference.{interference_at, slot_record, task_records, ending_records, accepted_records, before_records, own_records}
-use Rattle.dom_isolation.specs.Interference.{others_items, full_items, full_trace_from, touched, one_more, is_own_visit, interference_from}
-use Rattle.dom_isolation.specs.TouchedMachines.{page_line_under, page_outward_under, run_page_under}
-use Rattle.std.specs.Bool.{beq}
-use Rattle.dom_base.specs.declared.Action.{Action}
-use Rattle.dom_base.specs.declared.Action.TheVariants.{Log, Stop, StopNow, Cancel}
-use Rattle.dom_model.specs.Names.{Word, text_eq, owner_eq, name_eq}
-use Rattle.dom_model.specs.Output.{EventLine}
-use Rattle.dom_model.specs.Listeners.{Listener, Visit, after_invoke, after_inner_invoke, hears, is_listener, kept_after, after_action, may_cancel, line_of}
-use Rattle.dom_model.specs.Listeners.{begun}
-use Rattle.dom_model.specs.Part.{Part}
-use Rattle.dom_model.specs.Paths.{views}
-use Rattle.dom_model.specs.Dispatch.{world_visit, visits_of}
-use Rattle.dom_model.proofs.OwnerLaws.{owner_eq-true, owner_eq-false}
-use Rattle.dom_model.proofs.PartLaws.{part_of-with_part, part_of-with_part-other, owner-part_of}
-use Rattle.dom_worlds.specs.Worlds.{OnlyLogs, ComponentsOnlyLog}
+use Rattle.dom_isolation.specs.Definitions.{IsUntouched, FullTraceIsTrace, NothingTouches, OthersOnlyLog, LogsEvent, InterferenceIsSmall, Interference}
+use Rattle.dom_isolation.specs.Definitions.{untouched, FullItem, line_with, outward_with, turn_ended, plain_items, records_each, first_record, interference_at}
+use Rattle.dom_isolation.specs.Definitions.{slot_record, task_records, ending_records, accepted_records, before_records, own_records, others_items, full_items}
+use Rattle.dom_isolation.specs.Definitions.{full_trace_from, touched, one_more, is_own_visit, interference_from, page_line_under, page_outward_under}
+use Rattle.dom_isolation.specs.Definitions.{run_page_under}
 use Rattle.dom_isolation.proofs.GroupSlots.{filter-here, filter-away}
 use Rattle.dom_isolation.proofs.OwnVisits.{kept-visited}
 use Rattle.dom_isolation.proofs.Touches.{untouched-on}

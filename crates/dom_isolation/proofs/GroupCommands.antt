@@ -1,33 +1,14 @@
 -- A command of the group does the same to the group in two worlds of which the group has the same. After each line the group has tasks in a turn of its own
 -- alone.
-use Rattle.std.proofs.Common.{◌≡◌, Bool, true, not, ◌&&◌, List, [], ◌∷◌, ◌++◌, length, map, filter, Option, Some, None, option_map, unwrap_or, sym, ap, ◌∙◌}
-use Rattle.std.proofs.Common.{false, refl, true≢false}
-use Rattle.std.specs.Prelude.{option_to_list}
-use Rattle.std.specs.List.{AllByRecursion, last_or}
-use Rattle.std.specs.Option.{option_or}
-use Rattle.std.proofs.lemmas.List.Elements.{filter-append}
-use Rattle.dom_base.specs.declared.Owner.{Owner}
-use Rattle.dom_base.specs.declared.Owner.TheVariants.{Page}
-use Rattle.dom_base.specs.declared.NodeName.{NodeName}
-use Rattle.dom_base.specs.declared.Kind.TheVariants.{Shadow}
-use Rattle.dom_base.specs.declared.Refusal.{Refusal}
-use Rattle.dom_base.specs.declared.Refusal.TheVariants.{Syntax, Busy, Foreign, Unknown}
-use Rattle.dom_model.specs.Names.{Word, owner_eq, last_of}
-use Rattle.dom_model.specs.Tree.{node_in, is_document, kind_of}
-use Rattle.dom_model.specs.Command.{Command, NodeWord, Line, no_owner, no_command, command, is_command_of, part_refusal, names_foreign, effect}
-use Rattle.dom_model.specs.Output.{Value, says, replied, nothing, a_component, a_list, a_truth}
-use Rattle.dom_model.specs.Part.{Part}
-use Rattle.dom_model.specs.Runs.{Run, answering, unless_refused}
-use Rattle.dom_model.specs.Validity.{first_refusal}
-use Rattle.dom_model.specs.CommandNames.{named}
-use Rattle.dom_model.specs.Effects.{Effect, tables, changes}
-use Rattle.dom_model.specs.World.{World, micro_task, part_of, with_part, is_there, kind_at, is_connected, component_made, shadow_including_ancestors}
-use Rattle.dom_model.specs.WorldSteps.{world_after}
-use Rattle.dom_model.specs.Slots.{assigned_nodes}
-use Rattle.dom_model.specs.Turns.{is_page_turn, has_other_turn, ending_other_turn, opening_turn}
-use Rattle.dom_model.specs.DocumentMachine.{refusal, effect_in, attaching, part_with_root, perform, accepted, step}
-use Rattle.dom_model.specs.Groups.{KeepsMakers, group_world, group_outputs, group_run, is_task_of, group_turn, outward_words}
-use Rattle.dom_model.proofs.PartLaws.{owner-part_of}
+use Rattle.dom_base.proofs.Std.{◌≡◌, Bool, true, not, ◌&&◌, List, [], ◌∷◌, ◌++◌, length, map, filter, Option, Some, None, option_map, unwrap_or, sym, ap, ◌∙◌}
+use Rattle.dom_base.proofs.Std.{false, refl, true≢false, option_to_list, AllByRecursion, last_or, option_or, filter-append}
+use Rattle.dom_model.proofs.Model.{Owner, Page, NodeName, Shadow, Refusal, Syntax, Busy, Foreign, Unknown, Word, owner_eq, last_of, node_in, is_document}
+use Rattle.dom_model.proofs.Model.{kind_of, Command, NodeWord, Line, no_owner, no_command, command, is_command_of, part_refusal, names_foreign, effect, Value}
+use Rattle.dom_model.proofs.Model.{says, replied, nothing, a_component, a_list, a_truth, Part, Run, answering, unless_refused, first_refusal, named, Effect}
+use Rattle.dom_model.proofs.Model.{tables, changes, World, micro_task, part_of, with_part, is_there, kind_at, is_connected, component_made}
+use Rattle.dom_model.proofs.Model.{shadow_including_ancestors, world_after, assigned_nodes, is_page_turn, has_other_turn, ending_other_turn, opening_turn}
+use Rattle.dom_model.proofs.Model.{refusal, effect_in, attaching, part_with_root, perform, accepted, step, KeepsMakers, group_world, group_outputs, group_run}
+use Rattle.dom_model.proofs.Model.{is_task_of, group_turn, outward_words, owner-part_of, OutwardEvent, is_of, owner_of_line, outward_event, turn-dispatch_in}
 use Rattle.dom_worlds.proofs.OwnerLemmas.{owner-named}
 use Rattle.dom_worlds.proofs.CommandLemmas.{KeepsBase, base-effect, accepted-facts, Holds, holds-effect}
 use Rattle.dom_worlds.proofs.ListLemmas.{by_cases}
@@ -37,11 +18,8 @@ use Rattle.dom_isolation.proofs.GroupSteps.{IsSameGround, steps-in}
 use Rattle.dom_isolation.proofs.GroupPaths.{In, including-in, including-inside}
 use Rattle.dom_isolation.proofs.GroupDispatches.{same-ground, runs-then, outward_run, IsSameWorld}
 use Rattle.dom_isolation.proofs.GroupTurns.{same-part, same-page_turn, tasks-dispatch, tasks-ending_turn, no_other-ended, calm-ended, opening-own, turn-kept}
-use Rattle.dom_model.specs.Trace.{OutwardEvent, is_of, owner_of_line, outward_event}
-use Rattle.dom_model.proofs.TurnLaws.{turn-dispatch_in}
-use Rattle.dom_worlds.specs.Reached.{IsReached}
-use Rattle.dom_worlds.specs.Tables.{IsWhole}
-use Rattle.dom_isolation.specs.GroupLaws.{IsCalm}
+use Rattle.dom_worlds.specs.Definitions.{IsReached, IsWhole}
+use Rattle.dom_isolation.specs.Definitions.{IsCalm}
 use Rattle.dom_isolation.proofs.OutsideCommands.{command_event-inside}
 
 -- what holds of all holds of the last, or of another

@@ -1,25 +1,14 @@
 -- A dispatch as a group has it, whatever others' listeners do: it is that of the silent run, as far as others let the event come; without a view at a node of
 -- the group it is nothing, and of another node it is the outward event at its host.
-use Rattle.std.proofs.Common.{◌≡◌, ℕ, Bool, true, false, [], ◌∷◌, ◌++◌, filter, Option, Some, None, option_map, refl, sym, ap, ◌∙◌, subst, append-nil, ◌⊎◌}
-use Rattle.std.proofs.Common.{inl, inr, not, ◌||◌, List, fold, map, true≢false}
-use Rattle.std.specs.Prelude.{option_to_list, if◌then◌else◌, is_some}
-use Rattle.std.specs.Option.{option_and_then}
-use Rattle.std.specs.List.{AllByRecursion, list_any}
-use Rattle.std.proofs.lemmas.List.Elements.{filter-append}
-use Rattle.dom_base.specs.declared.Owner.{Owner}
-use Rattle.dom_base.specs.declared.NodeName.{NodeName}
-use Rattle.dom_model.specs.Names.{name_eq, owner_depth, owner_eq}
-use Rattle.dom_model.specs.Command.{EventWords}
-use Rattle.dom_model.specs.Output.{Output, EventLine}
-use Rattle.dom_model.specs.Paths.{views, View}
-use Rattle.dom_model.specs.Runs.{Run, run_then, run_each}
-use Rattle.dom_model.specs.World.{World, root_at, host_of, host_above, some_if, shadow_root_of, find_part, part_of, is_there}
-use Rattle.dom_model.specs.Dispatch.{Dispatched, dispatch_in, world_visit, visits_of, event_output}
-use Rattle.dom_model.specs.Groups.{KeepsMakers, group_world, group_outputs, group_run, outward_words, outward_in}
-use Rattle.dom_model.specs.Trace.{OutwardEvent, is_of, owner_of_output, boundary_host, outward_of}
-use Rattle.dom_worlds.specs.Worlds.{IsWorld, IsForeignTo}
-use Rattle.dom_isolation.specs.Interference.{untouched, interference_at, Interference, is_own_visit}
-use Rattle.dom_isolation.specs.SilentRuns.{dispatch_under, outward_under}
+use Rattle.dom_base.proofs.Std.{◌≡◌, ℕ, Bool, true, false, [], ◌∷◌, ◌++◌, filter, Option, Some, None, option_map, refl, sym, ap, ◌∙◌, subst, append-nil, ◌⊎◌}
+use Rattle.dom_base.proofs.Std.{inl, inr, not, ◌||◌, List, fold, map, true≢false, option_to_list, if◌then◌else◌, is_some, option_and_then, AllByRecursion}
+use Rattle.dom_base.proofs.Std.{list_any, filter-append}
+use Rattle.dom_model.proofs.Model.{Owner, NodeName, name_eq, owner_depth, owner_eq, EventWords, Output, EventLine, views, View, Run, run_then, run_each, World}
+use Rattle.dom_model.proofs.Model.{root_at, host_of, host_above, some_if, shadow_root_of, find_part, part_of, is_there, Dispatched, dispatch_in, world_visit}
+use Rattle.dom_model.proofs.Model.{visits_of, event_output, KeepsMakers, group_world, group_outputs, group_run, outward_words, outward_in, OutwardEvent, is_of}
+use Rattle.dom_model.proofs.Model.{owner_of_output, boundary_host, outward_of, Page, Visit, begun, Part, is_page_task, is_page_turn, find-put, owner-part_of}
+use Rattle.dom_worlds.specs.Definitions.{IsWorld, IsForeignTo, Invariant}
+use Rattle.dom_isolation.specs.Definitions.{untouched, interference_at, Interference, is_own_visit, dispatch_under, outward_under, OwnIsThere, first_visits}
 use Rattle.dom_worlds.proofs.ShadowTreeLemmas.{below-host, hosts-alone}
 use Rattle.dom_worlds.proofs.ListLemmas.{by_cases, all-then, all-passed}
 use Rattle.dom_worlds.proofs.OwnerLemmas.{people-dispatch, AreAlike, world-alike}
@@ -29,15 +18,6 @@ use Rattle.dom_isolation.proofs.OwnVisits.{in_view, in_line, group_going, visit-
 use Rattle.dom_isolation.proofs.GroupPaths.{views-in}
 use Rattle.dom_isolation.proofs.OutsideViews.{has-exit, exit-away, views-exit, views-kept_in, views-far, views-related}
 use Rattle.dom_isolation.proofs.GroupSteps.{IsSameGround}
-use Rattle.dom_base.specs.declared.Owner.TheVariants.{Page}
-use Rattle.dom_model.specs.Listeners.{Visit, begun}
-use Rattle.dom_model.specs.Part.{Part}
-use Rattle.dom_model.specs.PageMachine.{is_page_task}
-use Rattle.dom_model.specs.Turns.{is_page_turn}
-use Rattle.dom_model.proofs.PartLaws.{find-put, owner-part_of}
-use Rattle.dom_worlds.specs.Reached.{Invariant}
-use Rattle.dom_isolation.specs.FullLaws.{OwnIsThere}
-use Rattle.dom_isolation.specs.TouchedMachines.{first_visits}
 use Rattle.dom_isolation.proofs.Touches.{all-first, first-none, alike-start, visits-touched}
 
 -- Two worlds as they should be, whatever their listeners do, of which a group has the same.

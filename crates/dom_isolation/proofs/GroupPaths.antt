@@ -1,23 +1,13 @@
 -- The path of an event of a node of the group: its nodes of the group are the path where no others are, all others on it are hidden from them, and so what
 -- it shows at the group's nodes is what it shows where no others are.
-use Rattle.std.proofs.Common.{◌≡◌, ℕ, zero, suc, Bool, true, false, not, ◌&&◌, ◌||◌, List, [], ◌∷◌, ◌++◌, filter, find, flat_map, take_while, Option, Some}
-use Rattle.std.proofs.Common.{None, unwrap_or, refl, sym, ap, ◌∙◌, subst, true≢false, map}
-use Rattle.std.specs.Prelude.{if◌then◌else◌, is_some, option_to_list}
-use Rattle.std.specs.List.{AllByRecursion}
-use Rattle.std.proofs.lemmas.Bool.{cond-true, cond-false}
-use Rattle.std.proofs.lemmas.List.Elements.{filter-append}
-use Rattle.dom_base.specs.declared.Owner.{Owner}
-use Rattle.dom_base.specs.declared.NodeName.{NodeName}
-use Rattle.dom_model.specs.Names.{name_eq, owner_depth, max_depth, is_in}
-use Rattle.dom_model.specs.Tree.{inclusive_ancestors, root_of}
-use Rattle.dom_model.specs.Part.{Part}
-use Rattle.dom_model.specs.World.{World, root_at, ancestors_at, host_above, host_chain, hosts_from, shadow_including_ancestors, is_in_shadow_tree}
-use Rattle.dom_model.specs.Slots.{slot_of}
-use Rattle.dom_model.specs.Paths.{is_hidden_from, retarget, retarget_related, with_slots, way_up, whole_path, is_node, ends_at, event_path, view_at, views}
-use Rattle.dom_model.specs.Paths.{View}
-use Rattle.dom_model.specs.Groups.{KeepsMakers, group_world}
-use Rattle.dom_model.proofs.OwnerLaws.{name_eq-true}
-use Rattle.dom_worlds.specs.Worlds.{IsOf, IsWorld}
+use Rattle.dom_base.proofs.Std.{◌≡◌, ℕ, zero, suc, Bool, true, false, not, ◌&&◌, ◌||◌, List, [], ◌∷◌, ◌++◌, filter, find, flat_map, take_while, Option, Some}
+use Rattle.dom_base.proofs.Std.{None, unwrap_or, refl, sym, ap, ◌∙◌, subst, true≢false, map, if◌then◌else◌, is_some, option_to_list, AllByRecursion, cond-true}
+use Rattle.dom_base.proofs.Std.{cond-false, filter-append}
+use Rattle.dom_model.proofs.Model.{Owner, NodeName, name_eq, owner_depth, max_depth, is_in, inclusive_ancestors, root_of, Part, World, root_at, ancestors_at}
+use Rattle.dom_model.proofs.Model.{host_above, host_chain, hosts_from, shadow_including_ancestors, is_in_shadow_tree, slot_of, is_hidden_from, retarget}
+use Rattle.dom_model.proofs.Model.{retarget_related, with_slots, way_up, whole_path, is_node, ends_at, event_path, view_at, views, View, KeepsMakers}
+use Rattle.dom_model.proofs.Model.{group_world, name_eq-true}
+use Rattle.dom_worlds.specs.Definitions.{IsOf, IsWorld}
 use Rattle.dom_worlds.proofs.ShadowTreeLemmas.{above-host, IsInTree, in_tree, slot_way, slots-behind}
 use Rattle.dom_worlds.proofs.ListLemmas.{all-append, all-then, all-flat_map, filter_none, take_while-yes, take_while-no, all-passed, all-take_while, filter-map}
 use Rattle.dom_worlds.proofs.ListLemmas.{map_same, by_cases, either_way}

@@ -1,39 +1,27 @@
 -- Where no component listener stops or cancels, others do nothing to an event. So the laws of a group without interference follow from those with it: two
 -- worlds of which the group has the same do what one silent run does, whose records tell nothing. A group has of a script what it has of its trace.
-use Rattle.std.proofs.Common.{◌≡◌, Bool, true, false, not, List, [], ◌∷◌, map, Option, Some, None, refl, sym, ap, ◌∙◌, subst, ◌&&◌, ◌||◌, ◌++◌, length}
-use Rattle.std.proofs.Common.{option_map, true≢false, arith, length-append}
-use Rattle.std.specs.Prelude.{option_to_list, is_none, is_some, replicate}
-use Rattle.std.proofs.lemmas.Bool.{cond-true, cond-false, and_parts, not-true}
-use Rattle.dom_base.specs.declared.Owner.{Owner}
-use Rattle.dom_model.specs.Command.{Line, Command, EventWords, NodeWord, no_owner, no_command, command, part_refusal}
-use Rattle.dom_model.specs.Runs.{Run, run_each, run_then}
-use Rattle.dom_model.specs.World.{World, part_of}
-use Rattle.dom_model.specs.DocumentMachine.{first_world, step, finish, run_lines, refusal, perform}
-use Rattle.dom_model.specs.Groups.{KeepsMakers, group_world, group_outputs, group_run, outward_words, silent_step, ends_group_turn, outward_in}
-use Rattle.dom_model.specs.Trace.{OutwardEvent, line, outward, is_of, owner_of_line, outward_event, line_may_stop, items_of, trace_from, no_component_stops}
-use Rattle.dom_model.specs.Trace.{no_component_stops_from, is_page, is_log, outward_dispatch, may_stop}
-use Rattle.dom_model.specs.Isolation.{output_of, group_turns_stand, group_turns_stand_from, silent_output, GroupSeesItsTrace, SameGroup}
-use Rattle.dom_worlds.specs.Reached.{IsQuiet, IsReached}
-use Rattle.dom_worlds.specs.Tables.{IsWhole}
+use Rattle.dom_base.proofs.Std.{◌≡◌, Bool, true, false, not, List, [], ◌∷◌, map, Option, Some, None, refl, sym, ap, ◌∙◌, subst, ◌&&◌, ◌||◌, ◌++◌, length}
+use Rattle.dom_base.proofs.Std.{option_map, true≢false, arith, length-append, option_to_list, is_none, is_some, replicate, cond-true, cond-false, and_parts}
+use Rattle.dom_base.proofs.Std.{not-true, AllByRecursion}
+use Rattle.dom_model.proofs.Model.{Owner, Line, Command, EventWords, NodeWord, no_owner, no_command, command, part_refusal, Run, run_each, run_then, World}
+use Rattle.dom_model.proofs.Model.{part_of, first_world, step, finish, run_lines, refusal, perform, KeepsMakers, group_world, group_outputs, group_run}
+use Rattle.dom_model.proofs.Model.{outward_words, silent_step, ends_group_turn, outward_in, OutwardEvent, line, outward, is_of, owner_of_line, outward_event}
+use Rattle.dom_model.proofs.Model.{line_may_stop, items_of, trace_from, no_component_stops, no_component_stops_from, is_page, is_log, outward_dispatch}
+use Rattle.dom_model.proofs.Model.{may_stop, output_of, group_turns_stand, group_turns_stand_from, silent_output, GroupSeesItsTrace, SameGroup, Component, Page}
+use Rattle.dom_model.proofs.Model.{NodeName, ComponentName, named, Dispatched, dispatch_in, ending_turn, ending_any_turn, ending_other_turn}
+use Rattle.dom_worlds.specs.Definitions.{IsQuiet, IsReached, IsWhole}
 use Rattle.dom_worlds.proofs.WorldLemmas.{quiet-first, sound, first-is_reached, step-keeps_reached, quiet-step, first-is_whole, step-keeps_whole}
 use Rattle.dom_worlds.proofs.ListLemmas.{by_cases, either_way, all-append}
 use Rattle.dom_worlds.proofs.TurnLemmas.{quiet-dispatch}
 use Rattle.dom_isolation.proofs.PageTexts.{run_each-append}
-use Rattle.dom_isolation.specs.GroupLaws.{IsCalm, AssignedAgree, SignalsAgree, StepAgrees, ViewsAgree, OutwardViewsAgree, DispatchAgrees, OtherDispatchAgrees}
-use Rattle.dom_isolation.specs.GroupLaws.{EndingAgrees, LineAgrees, OtherLineAgrees, FinishAgrees}
+use Rattle.dom_isolation.specs.Definitions.{IsCalm, AssignedAgree, SignalsAgree, StepAgrees, ViewsAgree, OutwardViewsAgree, DispatchAgrees, OtherDispatchAgrees}
+use Rattle.dom_isolation.specs.Definitions.{EndingAgrees, LineAgrees, FinishAgrees, last_records, Interference, untouched, first_record, ending_records}
+use Rattle.dom_isolation.specs.Definitions.{before_records, own_records, Told, told_run, dispatch_under, outward_under, ending_under, ending_other_under}
+use Rattle.dom_isolation.specs.Definitions.{ending_any_under, step_under}
+use Rattle.dom_isolation.specs.GroupLaws.{OtherLineAgrees}
 use Rattle.dom_isolation.proofs.GroupDispatches.{run_each-one, outward_run, runs-then, outward_told, IsSameWorld, any_world, touched-in}
 use Rattle.dom_isolation.proofs.GroupTurns.{same-calm}
 use Rattle.dom_isolation.proofs.GroupCommands.{calm-in, calm-outward, event-host, refusal-in}
-use Rattle.std.specs.List.{AllByRecursion}
-use Rattle.dom_base.specs.declared.Owner.TheVariants.{Component, Page}
-use Rattle.dom_base.specs.declared.NodeName.{NodeName}
-use Rattle.dom_model.specs.Names.{ComponentName}
-use Rattle.dom_model.specs.CommandNames.{named}
-use Rattle.dom_model.specs.Dispatch.{Dispatched, dispatch_in}
-use Rattle.dom_model.specs.Turns.{ending_turn, ending_any_turn, ending_other_turn}
-use Rattle.dom_isolation.specs.FullGroups.{last_records}
-use Rattle.dom_isolation.specs.Interference.{Interference, untouched, first_record, ending_records, before_records, own_records}
-use Rattle.dom_isolation.specs.SilentRuns.{Told, told_run, dispatch_under, outward_under, ending_under, ending_other_under, ending_any_under, step_under}
 use Rattle.dom_isolation.proofs.FullTraces.{TellNothing, first-nothing, nothing-at, ending-nothing, before-nothing, own-nothing}
 use Rattle.dom_isolation.proofs.GroupSlots.{in_node, ground-of, assigned-in}
 use Rattle.dom_isolation.proofs.OwnVisits.{group_dispatched}

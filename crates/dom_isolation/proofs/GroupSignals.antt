@@ -1,20 +1,12 @@
 -- The signals of a step, and the components in a tree, as a group has them.
-use Rattle.std.proofs.Common.{◌≡◌, ℕ, zero, suc, Bool, true, false, not, ◌&&◌, List, [], ◌∷◌, ◌++◌, filter, flat_map, filter_map, position}
-use Rattle.std.proofs.Common.{option_map, Option, Some, None, refl, sym, ap, ◌∙◌, true≢false}
-use Rattle.std.specs.Prelude.{if◌then◌else◌, is_some, option_to_list}
-use Rattle.std.specs.List.{AllByRecursion, cons_option}
-use Rattle.std.proofs.lemmas.List.Elements.{filter-append}
-use Rattle.dom_base.specs.declared.Owner.{Owner}
-use Rattle.dom_base.specs.declared.NodeName.{NodeName}
-use Rattle.dom_model.specs.Names.{name_eq, is_empty, list_eq, distinct}
-use Rattle.dom_model.specs.Tree.{Node, nodes, names_of, node_in, root_of, subtree, inclusive_descendants}
-use Rattle.dom_model.specs.Part.{Part}
-use Rattle.dom_model.specs.World.{World, part_of, trees_with, node_at, root_at, component_at, component_made, shadow_root_of, is_in_shadow_tree}
-use Rattle.dom_model.specs.World.{components_below}
-use Rattle.dom_model.specs.Slots.{assigned_nodes, assigned_nodes_changed, slot_of, slots_among, is_slot_element, is_bare_slot, own_slots, other_slots, signals}
-use Rattle.dom_model.specs.Groups.{KeepsMakers, group_world}
-use Rattle.dom_model.proofs.OwnerLaws.{name_eq-true}
-use Rattle.dom_worlds.specs.Worlds.{IsOf}
+use Rattle.dom_base.proofs.Std.{◌≡◌, ℕ, zero, suc, Bool, true, false, not, ◌&&◌, List, [], ◌∷◌, ◌++◌, filter, flat_map, filter_map, position, option_map}
+use Rattle.dom_base.proofs.Std.{Option, Some, None, refl, sym, ap, ◌∙◌, true≢false, if◌then◌else◌, is_some, option_to_list, AllByRecursion, cons_option}
+use Rattle.dom_base.proofs.Std.{filter-append}
+use Rattle.dom_model.proofs.Model.{Owner, NodeName, name_eq, is_empty, list_eq, distinct, Node, nodes, names_of, node_in, root_of, subtree}
+use Rattle.dom_model.proofs.Model.{inclusive_descendants, Part, World, part_of, trees_with, node_at, root_at, component_at, component_made, shadow_root_of}
+use Rattle.dom_model.proofs.Model.{is_in_shadow_tree, components_below, assigned_nodes, assigned_nodes_changed, slot_of, slots_among, is_slot_element}
+use Rattle.dom_model.proofs.Model.{is_bare_slot, own_slots, other_slots, signals, KeepsMakers, group_world, name_eq-true}
+use Rattle.dom_worlds.specs.Definitions.{IsOf}
 use Rattle.dom_worlds.proofs.ListLemmas.{all-filter, all-then, all-passed, all-distinct, all-map, filter_all, filter_none, filter_same, filter-filter, by_cases}
 use Rattle.dom_isolation.proofs.GroupSlots.{in_node, part-in, part-out, filter-here, filter-away}
 use Rattle.dom_isolation.proofs.GroupSlots.{IsGround, nodes-of, component-outside, slot-group, host_above-in, assigned-in}

@@ -1,31 +1,19 @@
 -- What a group has of a world: the parts of its owners are there, and those of all others are empty. What is assigned to its slots is the same.
-use Rattle.std.proofs.Common.{◌++◌, ◌||◌, true≢false, append-nil, ◌≡◌, ◌≢◌, ℕ, ◌≤◌, Bool, true, false, List, [], ◌∷◌, filter, find, position, option_map}
-use Rattle.std.proofs.Common.{Option, Some, None, refl, sym, ap, ◌∙◌, arith, unwrap_or}
-use Rattle.std.specs.Prelude.{if◌then◌else◌, is_some, slice_get, option_to_list}
-use Rattle.std.specs.List.{list_any, AllByRecursion}
-use Rattle.std.proofs.lemmas.List.Elements.{filter-append}
-use Rattle.std.specs.Option.{option_and_then, option_map_or}
-use Rattle.dom_base.specs.declared.Owner.{Owner}
-use Rattle.dom_base.specs.declared.Owner.TheVariants.{Page}
-use Rattle.dom_base.specs.declared.NodeName.{NodeName}
-use Rattle.dom_model.specs.Names.{DomString, name_eq, is_in, owner_eq}
-use Rattle.dom_model.specs.Tree.{none, Node, nodes, node_in, parent_of, root_of, inclusive_ancestors, subtree, children_of, times_in}
-use Rattle.dom_model.specs.Part.{Part, empty_part}
-use Rattle.dom_model.specs.World.{World, part_of, trees_with, node_at, root_at, parent_at, component_at, component_made, made_by, host_of, MayAttach}
-use Rattle.dom_model.specs.World.{host_above, some_if, shadow_root_of, shadow_tree, Task, find_part, put_part, with_part, is_there}
-use Rattle.dom_model.specs.Slots.{slot_of, slot_in, slottable_name, has_slot_name, assigned_nodes, slottables_of, is_assigned_to}
-use Rattle.dom_model.specs.Groups.{KeepsMakers, group_world, group_turn, group_outputs, is_task_of}
-use Rattle.dom_model.proofs.OwnerLaws.{made_by-is, name_eq-true, owner_eq-true}
-use Rattle.dom_worlds.specs.Worlds.{IsPart, IsWorld, IsOf, HasMakers}
-use Rattle.dom_model.proofs.PartLaws.{owner-part_of}
+use Rattle.dom_base.proofs.Std.{◌++◌, ◌||◌, true≢false, append-nil, ◌≡◌, ◌≢◌, ℕ, ◌≤◌, Bool, true, false, List, [], ◌∷◌, filter, find, position, option_map}
+use Rattle.dom_base.proofs.Std.{Option, Some, None, refl, sym, ap, ◌∙◌, arith, unwrap_or, if◌then◌else◌, is_some, slice_get, option_to_list, list_any}
+use Rattle.dom_base.proofs.Std.{AllByRecursion, filter-append, option_and_then, option_map_or, cond-true, cond-false}
+use Rattle.dom_model.proofs.Model.{Owner, Page, NodeName, DomString, name_eq, is_in, owner_eq, none, Node, nodes, node_in, parent_of, root_of}
+use Rattle.dom_model.proofs.Model.{inclusive_ancestors, subtree, children_of, times_in, Part, empty_part, World, part_of, trees_with, node_at, root_at}
+use Rattle.dom_model.proofs.Model.{parent_at, component_at, component_made, made_by, host_of, MayAttach, host_above, some_if, shadow_root_of, shadow_tree, Task}
+use Rattle.dom_model.proofs.Model.{find_part, put_part, with_part, is_there, slot_of, slot_in, slottable_name, has_slot_name, assigned_nodes, slottables_of}
+use Rattle.dom_model.proofs.Model.{is_assigned_to, KeepsMakers, group_world, group_turn, group_outputs, is_task_of, made_by-is, name_eq-true, owner_eq-true}
+use Rattle.dom_model.proofs.Model.{owner-part_of, Output, is_of, owner_of_output, outputs_for}
+use Rattle.dom_worlds.specs.Definitions.{IsPart, IsWorld, IsOf, HasMakers}
 use Rattle.dom_worlds.proofs.ShadowTreeLemmas.{slot_in-there, above-host}
 use Rattle.dom_worlds.proofs.ListLemmas.{all-then, all-from, all-dropped, filter_same, get-all, get-below, all-passed, filter_all, filter-filter, by_cases}
 use Rattle.dom_worlds.proofs.OwnerLemmas.{component-made, component-maker, hosted, hosted-maker}
 use Rattle.dom_worlds.proofs.TreeLemmas.{ancestors-there, nodes-there}
-use Rattle.dom_laws.proofs.Counts.{times_subtree as times-subtree}
-use Rattle.std.proofs.lemmas.Bool.{cond-true, cond-false}
-use Rattle.dom_model.specs.Output.{Output}
-use Rattle.dom_model.specs.Trace.{is_of, owner_of_output, outputs_for}
+use Rattle.dom_laws.proofs.Laws.{times_subtree as times-subtree}
 
 -- a world by its fields
 abbrev world_with : List Part → List NodeName → List Task → Option Owner → World

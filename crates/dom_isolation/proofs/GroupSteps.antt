@@ -1,22 +1,13 @@
 -- Steps as a group has them: those of its owners are the same in the world with its own parts alone, and others' are none.
-use Rattle.std.proofs.Common.{◌≡◌, Bool, true, false, not, List, [], ◌∷◌, ◌++◌, filter, fold, Option, Some, None, refl, sym, ap, ◌∙◌, subst, true≢false}
-use Rattle.std.specs.Prelude.{⊤, ◌&&◌, if◌then◌else◌}
-use Rattle.std.specs.List.{AllByRecursion, list_any}
-use Rattle.dom_base.specs.declared.Owner.{Owner}
-use Rattle.dom_base.specs.declared.NodeName.{NodeName}
-use Rattle.dom_model.specs.Names.{name_eq, is_in, is_empty, append_once, distinct, list_eq, max_depth}
-use Rattle.dom_model.specs.Tree.{node_in, parent_of}
-use Rattle.dom_model.specs.Part.{Part}
-use Rattle.dom_model.specs.Steps.{Step, place, take_out, set_document, set_attribute, queue_record, part_step, is_taken}
-use Rattle.dom_model.specs.World.{World, Task, micro_task, notify_task, part_of, with_part, is_notify_of, with_notify, components_below}
-use Rattle.dom_model.specs.World.{shadow_root_of, is_in_shadow_tree}
-use Rattle.dom_model.specs.Slots.{signals, with_signal, assigned_nodes, is_slot_element, assigned_nodes_changed, own_slots, other_slots}
-use Rattle.dom_model.specs.WorldSteps.{world_step, world_after, stepped, with_signals, with_removal_signals, with_notify_if, with_shadow_document}
-use Rattle.dom_model.specs.Groups.{KeepsMakers, group_world, is_task_of}
-use Rattle.dom_model.proofs.OwnerLaws.{owner_eq-true, name_eq-same}
-use Rattle.dom_model.proofs.PartLaws.{owner-part_of}
-use Rattle.dom_model.proofs.StepLaws.{owner-part_step}
-use Rattle.dom_worlds.specs.Worlds.{IsOf}
+use Rattle.dom_base.proofs.Std.{◌≡◌, Bool, true, false, not, List, [], ◌∷◌, ◌++◌, filter, fold, Option, Some, None, refl, sym, ap, ◌∙◌, subst, true≢false, ⊤}
+use Rattle.dom_base.proofs.Std.{◌&&◌, if◌then◌else◌, AllByRecursion, list_any}
+use Rattle.dom_model.proofs.Model.{Owner, NodeName, name_eq, is_in, is_empty, append_once, distinct, list_eq, max_depth, node_in, parent_of, Part, Step, place}
+use Rattle.dom_model.proofs.Model.{take_out, set_document, set_attribute, queue_record, part_step, is_taken, World, Task, micro_task, notify_task, part_of}
+use Rattle.dom_model.proofs.Model.{with_part, is_notify_of, with_notify, components_below, shadow_root_of, is_in_shadow_tree, signals, with_signal}
+use Rattle.dom_model.proofs.Model.{assigned_nodes, is_slot_element, assigned_nodes_changed, own_slots, other_slots, world_step, world_after, stepped}
+use Rattle.dom_model.proofs.Model.{with_signals, with_removal_signals, with_notify_if, with_shadow_document, KeepsMakers, group_world, is_task_of}
+use Rattle.dom_model.proofs.Model.{owner_eq-true, name_eq-same, owner-part_of, owner-part_step}
+use Rattle.dom_worlds.specs.Definitions.{IsOf}
 use Rattle.dom_worlds.proofs.ListLemmas.{filter_none, all-from, by_cases}
 use Rattle.dom_worlds.proofs.PlanLemmas.{rest-step, Fits, MadeIn}
 use Rattle.dom_worlds.proofs.WorldLemmas.{Ground, ground-stepped, ground-world_step, part-own_step, IsKeptIn, holds-world_after, attached-with_part}

@@ -1,42 +1,25 @@
 -- Members of groups: two scripts, or texts, that agree for a group have equal output of each member. So it is of families, of components with their makers,
 -- and around components. An owner's lines of output are those that begin with its word and a space.
-use Rattle.std.proofs.Common.{◌≡◌, ◌<◌, ◌^◌, ℕ, List, [], ◌∷◌, map, Some, refl, sym, ap, ◌∙◌, inl, inr, arith, subst, Bool, true, false, not, ◌&&◌}
-use Rattle.std.proofs.lemmas.Bool.{cases_eq, and_parts, not-true}
-use Rattle.std.specs.List.{AllByRecursion}
-use Rattle.std.specs.Fmt.{decimal}
-use Rattle.std.specs.Prelude.{get_or}
-use Rattle.std.proofs.lemmas.Fmt.{decimal_digit}
-use Rattle.dom_base.specs.declared.Owner.{Owner}
-use Rattle.dom_base.specs.declared.Owner.TheVariants.{Page, Component}
-use Rattle.dom_model.specs.Command.{Line, no_owner, no_command, command}
-use Rattle.dom_model.specs.DocumentMachine.{outputs_of, first_world, step}
-use Rattle.dom_model.specs.Names.{owner_eq}
-use Rattle.dom_model.specs.Output.{Output, bad_owner, says}
-use Rattle.dom_model.specs.Groups.{is_in_family, family_group, makers_group, group_without, ends_other_turn, ends_group_turn}
-use Rattle.dom_model.specs.Trace.{is_page, is_of, owner_of_line, owner_of_output, outputs_for}
-use Rattle.dom_model.proofs.OwnerLaws.{owner_eq-true, owner_eq-same, owner_eq-false, ne-owner_eq}
-use Rattle.dom_text.specs.Decode.{decode}
-use Rattle.dom_text.specs.Grammar.{Says, BelongsTo}
-use Rattle.dom_text.specs.Lines.{lines_of, lines_from}
-use Rattle.dom_text.specs.Text.{output_line, is_line_of}
-use Rattle.dom_text.specs.Tokens.{IsOwner, IsPositive, ArePositive}
-use Rattle.dom_text.specs.Words.{owner_word}
+use Rattle.dom_base.proofs.Std.{◌≡◌, ◌<◌, ◌^◌, ℕ, List, [], ◌∷◌, map, Some, refl, sym, ap, ◌∙◌, inl, inr, arith, subst, Bool, true, false, not, ◌&&◌, cases_eq}
+use Rattle.dom_base.proofs.Std.{and_parts, not-true, AllByRecursion, decimal, get_or, decimal_digit}
+use Rattle.dom_model.proofs.Model.{Owner, Page, Component, Line, no_owner, no_command, command, outputs_of, first_world, step, owner_eq, Output, bad_owner}
+use Rattle.dom_model.proofs.Model.{says, is_in_family, family_group, makers_group, group_without, ends_other_turn, ends_group_turn, is_page, is_of}
+use Rattle.dom_model.proofs.Model.{owner_of_line, owner_of_output, outputs_for, owner_eq-true, owner_eq-same, owner_eq-false, ne-owner_eq, World, output_of}
+use Rattle.dom_model.proofs.Model.{turns_are_closed_from, group_turns_stand_from, SameFamily, SameFamilyWhileTurnsStand, SameComponent}
+use Rattle.dom_model.proofs.Model.{SameComponentWhileTurnsStand, SameAround, SameAroundWhileTurnsStand}
+use Rattle.dom_text.specs.Definitions.{decode, Says, BelongsTo, lines_of, lines_from, output_line, is_line_of, IsOwner, IsPositive, ArePositive, owner_word}
 use Rattle.dom_text.proofs.DecodeLaws.{decode_says}
 use Rattle.dom_text.proofs.TextLaws.{HasWord, IsOwner-owner_word, IsNumber-decimal, lines_from-outputs}
-use Rattle.dom_isolation.specs.Words.{ReadsPlainWords}
+use Rattle.dom_isolation.specs.Definitions.{ReadsPlainWords, IsWordOf, ReadsOwners, DecodeReadsOwners, OwnLinesHaveTheirPrefix, SameFamilyText}
+use Rattle.dom_isolation.specs.Definitions.{SameFamilyTextWhileTurnsStand, SameGroupText, SameGroupTextWhileTurnsStand, SameComponentText}
+use Rattle.dom_isolation.specs.Definitions.{SameComponentTextWhileTurnsStand, SameAroundText, SameAroundTextWhileTurnsStand, SameGroupTextInFull}
+use Rattle.dom_isolation.specs.Definitions.{SameFamilyTextInFull, SameComponentTextInFull, SameAroundTextInFull, SameMemberInFull, SameFamilyInFull}
+use Rattle.dom_isolation.specs.Definitions.{SameComponentInFull, SameAroundInFull, AgreeWhileTurnsStand, AgreeWithClosedTurns, SameMember}
+use Rattle.dom_isolation.specs.Definitions.{SameMemberWhileTurnsStand}
 use Rattle.dom_worlds.proofs.ListLemmas.{all-from, all-map, filter_same, by_cases, or-second}
 use Rattle.dom_isolation.proofs.PageTexts.{output-has_its_lines}
-use Rattle.dom_isolation.specs.GroupTexts.{IsWordOf, ReadsOwners, DecodeReadsOwners, OwnLinesHaveTheirPrefix, SameFamilyText, SameFamilyTextWhileTurnsStand}
-use Rattle.dom_isolation.specs.GroupTexts.{SameGroupText, SameGroupTextWhileTurnsStand, SameComponentText, SameComponentTextWhileTurnsStand, SameAroundText}
-use Rattle.dom_isolation.specs.GroupTexts.{SameAroundTextWhileTurnsStand, SameGroupTextInFull, SameFamilyTextInFull, SameComponentTextInFull}
-use Rattle.dom_isolation.specs.GroupTexts.{SameAroundTextInFull}
 use Rattle.dom_isolation.proofs.Families.{family-is_group, makers-are_group, others-are_group, own-maker}
 use Rattle.dom_isolation.proofs.WordedRuns.{IsWordedInput, worded-outputs}
-use Rattle.dom_model.specs.World.{World}
-use Rattle.dom_model.specs.Isolation.{output_of, turns_are_closed_from, group_turns_stand_from, SameFamily, SameFamilyWhileTurnsStand}
-use Rattle.dom_model.specs.Isolation.{SameComponent, SameComponentWhileTurnsStand, SameAround, SameAroundWhileTurnsStand}
-use Rattle.dom_isolation.specs.FullGroups.{SameMemberInFull, SameFamilyInFull, SameComponentInFull, SameAroundInFull}
-use Rattle.dom_isolation.specs.Agreement.{AgreeWhileTurnsStand, AgreeWithClosedTurns, SameMember, SameMemberWhileTurnsStand}
 use Rattle.dom_isolation.proofs.GroupRuns.{same-group}
 use Rattle.dom_isolation.proofs.TouchedRuns.{same-group_in_full}
 use Rattle.dom_isolation.proofs.GroupSlots.{member-outputs}

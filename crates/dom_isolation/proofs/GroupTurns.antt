@@ -1,35 +1,19 @@
 -- Notifications and the endings of turns as a group has them, before a line too, and the turn that a line opens: what owners outside do is nothing.
-use Rattle.std.proofs.Common.{◌≡◌, ℕ, map, flat_map, Some, Bool, true, false, not, List, [], ◌∷◌, filter, None, refl, sym, ap, ◌∙◌, true≢false, Option, subst}
-use Rattle.std.specs.List.{AllByRecursion}
-use Rattle.dom_base.specs.declared.Owner.{Owner}
-use Rattle.dom_base.specs.declared.NodeName.{NodeName}
-use Rattle.dom_model.specs.Output.{Output, Change, says, recorded, micro_ran}
-use Rattle.dom_model.specs.Part.{Part, queue_of}
-use Rattle.dom_model.specs.Runs.{Run, run_each, quiet}
-use Rattle.dom_model.specs.World.{World, Task, micro_task, notify_task, part_of, with_part, some_if}
-use Rattle.dom_model.specs.Turns.{records_of, slotchange, firing_slotchange, is_owned_by, without_signals, notifying, notified, notified_lines, running_task}
-use Rattle.dom_model.specs.Turns.{ending_turn, is_page_turn, is_other_component, has_other_turn, ending_other_turn, opening_turn}
-use Rattle.dom_model.specs.Groups.{KeepsMakers, group_world, group_turn, group_outputs, group_run, is_task_of}
-use Rattle.dom_model.specs.Trace.{is_of, owner_of_output}
-use Rattle.dom_model.proofs.OwnerLaws.{owner_eq-true, ne-owner_eq}
-use Rattle.dom_model.proofs.PartLaws.{owner-part_of}
-use Rattle.dom_worlds.specs.Reached.{Invariant}
+use Rattle.dom_base.proofs.Std.{◌≡◌, ℕ, map, flat_map, Some, Bool, true, false, not, List, [], ◌∷◌, filter, None, refl, sym, ap, ◌∙◌, true≢false, Option, subst}
+use Rattle.dom_base.proofs.Std.{AllByRecursion, is_some, if◌then◌else◌, option_map_or, cond-true, cond-false}
+use Rattle.dom_model.proofs.Model.{Owner, NodeName, Output, Change, says, recorded, micro_ran, Part, queue_of, Run, run_each, quiet, World, Task, micro_task}
+use Rattle.dom_model.proofs.Model.{notify_task, part_of, with_part, some_if, records_of, slotchange, firing_slotchange, is_owned_by, without_signals, notifying}
+use Rattle.dom_model.proofs.Model.{notified, notified_lines, running_task, ending_turn, is_page_turn, is_other_component, has_other_turn, ending_other_turn}
+use Rattle.dom_model.proofs.Model.{opening_turn, KeepsMakers, group_world, group_turn, group_outputs, group_run, is_task_of, is_of, owner_of_output}
+use Rattle.dom_model.proofs.Model.{owner_eq-true, ne-owner_eq, owner-part_of, Page, Component, EventWords, name_eq, owner_eq, begun, views, dispatch_in}
+use Rattle.dom_model.proofs.Model.{visits_of, turn-ending_turn}
+use Rattle.dom_worlds.specs.Definitions.{Invariant}
 use Rattle.dom_worlds.proofs.ListLemmas.{all-append, all-then, all-passed, filter_none, filter-filter, by_cases}
 use Rattle.dom_worlds.proofs.TurnLemmas.{told_in, quiet-told, quiet-dispatch, quiet-running, at_end, quiet-at_end, quiet-opening, rest-visits}
-use Rattle.dom_isolation.specs.GroupLaws.{IsCalm}
+use Rattle.dom_isolation.specs.Definitions.{IsCalm}
 use Rattle.dom_isolation.proofs.GroupSlots.{filter-sub, in_node, part-in, with_part-in, with_part-out, filter-here, filter-away, outside-no_page}
 use Rattle.dom_isolation.proofs.GroupDispatches.{no_dispatch, quiet-then}
 use Rattle.dom_isolation.proofs.OutsideViews.{views-kept_in}
-use Rattle.std.specs.Prelude.{is_some, if◌then◌else◌}
-use Rattle.std.specs.Option.{option_map_or}
-use Rattle.std.proofs.lemmas.Bool.{cond-true, cond-false}
-use Rattle.dom_base.specs.declared.Owner.TheVariants.{Page, Component}
-use Rattle.dom_model.specs.Command.{EventWords}
-use Rattle.dom_model.specs.Names.{name_eq, owner_eq}
-use Rattle.dom_model.specs.Listeners.{begun}
-use Rattle.dom_model.specs.Paths.{views}
-use Rattle.dom_model.specs.Dispatch.{dispatch_in, visits_of}
-use Rattle.dom_model.proofs.TurnLaws.{turn-ending_turn}
 
 -- The lines of a notification are its owner's.
 abbrev pub IsLineOf : Owner → Output → Type 0

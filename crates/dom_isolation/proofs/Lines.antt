@@ -1,30 +1,22 @@
 -- One line, as the page sees it: a line of the page is the page machine's, another's is its outward event, each as far as others let it come; where no
 -- component listener stops or cancels they do nothing to an event.
-use Rattle.std.proofs.Common.{◌≡◌, ℕ, Bool, true, false, List, [], ◌∷◌, ◌++◌, map, Option, Some, None, refl, sym, ap, ◌∙◌, true≢false, option_map}
-use Rattle.std.specs.Prelude.{option_to_list, if◌then◌else◌}
-use Rattle.std.proofs.lemmas.Bool.{cond-true, cond-false}
-use Rattle.dom_base.specs.declared.Owner.TheVariants.{Page, Component}
-use Rattle.dom_base.specs.declared.Refusal.TheVariants.{Syntax}
-use Rattle.dom_model.specs.Command.{Line, no_owner, no_command, command, Command}
-use Rattle.dom_model.specs.Runs.{Run, quiet, run_then, refusing, run_each}
-use Rattle.dom_model.specs.World.{World, Task, micro_task, notify_task, part_of, with_part}
-use Rattle.dom_model.specs.Turns.{firing_slotchange, without_signals, notified, ending_other_turn, running_task}
-use Rattle.dom_model.specs.DocumentMachine.{step, run_command}
-use Rattle.dom_model.specs.Trace.{is_page, is_of, owner_of_line, outward_event, OutwardEvent, outward_dispatch}
-use Rattle.dom_model.specs.Groups.{ends_other_turn, ends_group_turn}
-use Rattle.dom_model.specs.PageMachine.{PageState, page_of, page_outward}
-use Rattle.dom_isolation.specs.Interference.{Interference, FullItem, line_with, outward_with, turn_ended, records_each, first_record, slot_record}
-use Rattle.dom_isolation.specs.Interference.{task_records, ending_records, before_records, own_records, others_items, full_items, untouched}
-use Rattle.dom_isolation.specs.TouchedMachines.{page_line_under, page_command_under, run_page_under, page_dispatch_under}
-use Rattle.dom_isolation.specs.Laws.{page_run, PageDispatchAgrees, ComponentDispatchAgrees, PageLineAgrees, OtherLineAgrees}
-use Rattle.dom_worlds.specs.Reached.{Invariant, IsQuiet}
-use Rattle.dom_isolation.specs.FullLaws.{EndingsAreNotTold, PageDispatchAgreesInFull, PageLineAgreesInFull, OtherLineAgreesInFull}
+use Rattle.dom_base.proofs.Std.{◌≡◌, ℕ, Bool, true, false, List, [], ◌∷◌, ◌++◌, map, Option, Some, None, refl, sym, ap, ◌∙◌, true≢false, option_map}
+use Rattle.dom_base.proofs.Std.{option_to_list, if◌then◌else◌, cond-true, cond-false}
+use Rattle.dom_model.proofs.Model.{Page, Component, Syntax, Line, no_owner, no_command, command, Command, Run, quiet, run_then, refusing, run_each, World, Task}
+use Rattle.dom_model.proofs.Model.{micro_task, notify_task, part_of, with_part, firing_slotchange, without_signals, notified, ending_other_turn, running_task}
+use Rattle.dom_model.proofs.Model.{step, run_command, is_page, is_of, owner_of_line, outward_event, OutwardEvent, outward_dispatch, ends_other_turn}
+use Rattle.dom_model.proofs.Model.{ends_group_turn, PageState, page_of, page_outward, named}
+use Rattle.dom_isolation.specs.Definitions.{Interference, FullItem, line_with, outward_with, turn_ended, records_each, first_record, slot_record, task_records}
+use Rattle.dom_isolation.specs.Definitions.{ending_records, before_records, own_records, others_items, full_items, untouched, page_line_under}
+use Rattle.dom_isolation.specs.Definitions.{page_command_under, run_page_under, page_dispatch_under, page_run, PageDispatchAgrees, ComponentDispatchAgrees}
+use Rattle.dom_isolation.specs.Definitions.{PageLineAgrees, OtherLineAgrees, EndingsAreNotTold, PageDispatchAgreesInFull, PageLineAgreesInFull}
+use Rattle.dom_isolation.specs.Definitions.{OtherLineAgreesInFull}
+use Rattle.dom_worlds.specs.Definitions.{Invariant, IsQuiet}
 use Rattle.dom_worlds.proofs.ListLemmas.{by_cases}
 use Rattle.dom_worlds.proofs.TurnLemmas.{at_end, quiet-running, quiet-at_end, quiet-ending_other, page_time}
 use Rattle.dom_isolation.proofs.PageSteps.{run_then-square, dispatch-page}
 use Rattle.dom_isolation.proofs.PageCommands.{ending_other-quiet, no_page_slots, command-page}
 use Rattle.dom_isolation.proofs.ComponentCommands.{outward_run, run_then-quiet_end, command-component, dispatched-component}
-use Rattle.dom_model.specs.CommandNames.{named}
 use Rattle.dom_isolation.proofs.FullTraces.{first-nothing, nothing-at, own-nothing, line-plain}
 use Rattle.dom_isolation.proofs.PagePaths.{views-page}
 

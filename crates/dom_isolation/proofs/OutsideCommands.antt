@@ -1,40 +1,21 @@
 -- A command of a component outside the group does nothing to the group, or what its outward event does.
-use Rattle.std.proofs.Common.{◌≡◌, ℕ, Bool, true, false, not, ◌&&◌, List, [], ◌∷◌, ◌++◌, length, map, filter, Option, Some, None, option_map, refl, sym, ap}
-use Rattle.std.proofs.Common.{◌∙◌, subst, true≢false, append-nil}
-use Rattle.std.specs.Prelude.{is_none, if◌then◌else◌}
-use Rattle.std.specs.Option.{option_map_or}
-use Rattle.std.proofs.lemmas.List.Elements.{filter-append}
-use Rattle.dom_base.specs.declared.Owner.{Owner}
-use Rattle.dom_base.specs.declared.Owner.TheVariants.{Page, Component}
-use Rattle.dom_base.specs.declared.NodeName.{NodeName}
-use Rattle.dom_base.specs.declared.Kind.TheVariants.{Shadow}
-use Rattle.dom_base.specs.declared.Refusal.{Refusal}
-use Rattle.dom_model.specs.Names.{Word, ComponentName, owner_eq}
-use Rattle.dom_model.specs.Tree.{node_in}
-use Rattle.dom_model.specs.Command.{Command, NodeWord, EventWords, part_refusal, effect}
-use Rattle.dom_model.specs.Output.{Output, Said, Value, says, replied, refused, nothing, a_truth, a_component}
-use Rattle.dom_model.specs.Part.{Part}
-use Rattle.dom_model.specs.Runs.{Run, run_then, answering, unless_refused}
-use Rattle.dom_model.specs.CommandNames.{named}
-use Rattle.dom_model.specs.Effects.{Effect, tables, changes}
-use Rattle.dom_model.specs.World.{World, micro_task, part_of, with_part, component_made, host_chain}
-use Rattle.dom_model.specs.WorldSteps.{world_after}
-use Rattle.dom_model.specs.Dispatch.{dispatch_in}
-use Rattle.dom_model.specs.Turns.{ending_turn, opening_turn, has_other_turn, is_other_component, is_page_turn}
-use Rattle.dom_model.specs.DocumentMachine.{refusal, effect_in, attaching, part_with_root, perform, accepted, run_command}
-use Rattle.dom_model.specs.Groups.{KeepsMakers, group_world, group_outputs, group_run, is_task_of}
-use Rattle.dom_model.specs.Trace.{OutwardEvent, is_of, owner_of_output, outward_of, outward_dispatch, outward_command, boundary_host}
-use Rattle.dom_model.proofs.OwnerLaws.{owner_eq-true}
-use Rattle.dom_model.proofs.PartLaws.{owner-part_of}
-use Rattle.dom_worlds.specs.Reached.{Invariant}
-use Rattle.dom_isolation.specs.Interference.{first_record, interference_at, accepted_records, command_records}
+use Rattle.dom_base.proofs.Std.{◌≡◌, ℕ, Bool, true, false, not, ◌&&◌, List, [], ◌∷◌, ◌++◌, length, map, filter, Option, Some, None, option_map, refl, sym, ap}
+use Rattle.dom_base.proofs.Std.{◌∙◌, subst, true≢false, append-nil, is_none, if◌then◌else◌, option_map_or, filter-append}
+use Rattle.dom_model.proofs.Model.{Owner, Page, Component, NodeName, Shadow, Refusal, Word, ComponentName, owner_eq, node_in, Command, NodeWord, EventWords}
+use Rattle.dom_model.proofs.Model.{part_refusal, effect, Output, Said, Value, says, replied, refused, nothing, a_truth, a_component, Part, Run, run_then}
+use Rattle.dom_model.proofs.Model.{answering, unless_refused, named, Effect, tables, changes, World, micro_task, part_of, with_part, component_made, host_chain}
+use Rattle.dom_model.proofs.Model.{world_after, dispatch_in, ending_turn, opening_turn, has_other_turn, is_other_component, is_page_turn, refusal, effect_in}
+use Rattle.dom_model.proofs.Model.{attaching, part_with_root, perform, accepted, run_command, KeepsMakers, group_world, group_outputs, group_run, is_task_of}
+use Rattle.dom_model.proofs.Model.{OutwardEvent, is_of, owner_of_output, outward_of, outward_dispatch, outward_command, boundary_host, owner_eq-true}
+use Rattle.dom_model.proofs.Model.{owner-part_of}
+use Rattle.dom_worlds.specs.Definitions.{Invariant}
+use Rattle.dom_isolation.specs.Definitions.{first_record, interference_at, accepted_records, command_records, IsCalm}
 use Rattle.dom_worlds.proofs.CommandLemmas.{accepted-facts, attach-may, Holds, KeepsBase, base-effect}
 use Rattle.dom_worlds.proofs.TurnLemmas.{part_of-opening}
 use Rattle.dom_worlds.proofs.OwnerLemmas.{owner-named}
 use Rattle.dom_worlds.proofs.ListLemmas.{by_cases, and-true_false}
 use Rattle.dom_isolation.proofs.ComponentCommands.{opened-event, related-same_root, outward-same}
 use Rattle.dom_isolation.proofs.GroupDispatches.{outward_at, outward_told, quiet-then, touched-out, IsSameWorld}
-use Rattle.dom_isolation.specs.GroupLaws.{IsCalm}
 use Rattle.dom_isolation.proofs.GroupSlots.{in_node, with_part-out, filter-away, IsGround, ground-of, made-outside}
 use Rattle.dom_isolation.proofs.GroupSteps.{steps-out}
 use Rattle.dom_isolation.proofs.OutsideViews.{found-passes}

@@ -1,34 +1,22 @@
 -- What an event of a node outside the group shows at the group's nodes: nothing, or where it goes out, what one at its boundary host shows. With a related
 -- node in the same shadow tree its path ends before the host.
-use Rattle.std.proofs.Common.{◌≡◌, ℕ, zero, suc, ◌≤◌, Bool, true, false, not, ◌&&◌, List, [], ◌∷◌, ◌++◌, filter, find, flat_map, map, Option, Some, None}
-use Rattle.std.proofs.Common.{unwrap_or, refl, sym, ap, ◌∙◌, subst, arith, ◌||◌, take_while}
-use Rattle.std.specs.Prelude.{if◌then◌else◌, is_some}
-use Rattle.std.specs.List.{AllByRecursion}
-use Rattle.std.proofs.lemmas.Bool.{cond-true, cond-false, and_from}
-use Rattle.std.proofs.lemmas.Grind.{flat_map-append}
-use Rattle.dom_base.specs.declared.Owner.{Owner}
-use Rattle.dom_base.specs.declared.NodeName.{NodeName}
-use Rattle.dom_model.specs.Names.{name_eq, owner_depth, max_depth, is_in}
-use Rattle.dom_model.specs.World.{World, root_at, ancestors_at, host_above, host_chain, shadow_including_ancestors, trees_with}
-use Rattle.dom_model.specs.Paths.{View, is_hidden_from, retarget, retarget_related, is_node, with_slots, way_up, whole_path, ends_at, event_path, view_at}
-use Rattle.dom_model.specs.Paths.{views}
-use Rattle.dom_model.specs.Groups.{KeepsMakers}
-use Rattle.dom_model.specs.Trace.{boundary_host}
-use Rattle.dom_worlds.specs.Worlds.{IsWorld}
+use Rattle.dom_base.proofs.Std.{◌≡◌, ℕ, zero, suc, ◌≤◌, Bool, true, false, not, ◌&&◌, List, [], ◌∷◌, ◌++◌, filter, find, flat_map, map, Option, Some, None}
+use Rattle.dom_base.proofs.Std.{unwrap_or, refl, sym, ap, ◌∙◌, subst, arith, ◌||◌, take_while, if◌then◌else◌, is_some, AllByRecursion, cond-true, cond-false}
+use Rattle.dom_base.proofs.Std.{and_from, flat_map-append, filter-append}
+use Rattle.dom_model.proofs.Model.{Owner, NodeName, name_eq, owner_depth, max_depth, is_in, World, root_at, ancestors_at, host_above, host_chain}
+use Rattle.dom_model.proofs.Model.{shadow_including_ancestors, trees_with, View, is_hidden_from, retarget, retarget_related, is_node, with_slots, way_up}
+use Rattle.dom_model.proofs.Model.{whole_path, ends_at, event_path, view_at, views, KeepsMakers, boundary_host, times_in, name_eq-same}
+use Rattle.dom_worlds.specs.Definitions.{IsWorld}
 use Rattle.dom_worlds.proofs.ShadowTreeLemmas.{IsBelow, has-chain, below-host, hosts-alone, chain-below, chain-first, absent-host, other-owner, hidden-itself}
 use Rattle.dom_worlds.proofs.ShadowTreeLemmas.{hidden-deeper, IsInTree, ancestors-in_tree, slots-behind, slot_way, slots-first}
 use Rattle.dom_worlds.proofs.ListLemmas.{all-append, all-then, all-from, all-passed, all-flat_map, filter-map, filter_none, map_same, all-take_while}
 use Rattle.dom_worlds.proofs.ListLemmas.{all-before, by_cases, either_way}
 use Rattle.dom_worlds.proofs.TreeLemmas.{all-both, ancestors-present}
 use Rattle.dom_isolation.proofs.PagePaths.{IsInSome, slot_way-in_some, uncut}
-use Rattle.std.proofs.lemmas.List.Elements.{filter-append}
 use Rattle.dom_isolation.proofs.GroupSlots.{in_node}
 use Rattle.dom_isolation.proofs.OwnVisits.{in_view}
 use Rattle.dom_isolation.proofs.GroupPaths.{hidden-outside, way-outside, ground, Inside, Outside, veiled-hidden}
-use Rattle.dom_model.specs.Tree.{times_in}
-use Rattle.dom_model.proofs.OwnerLaws.{name_eq-same}
-use Rattle.dom_laws.proofs.Counts.{by_times}
-use Rattle.dom_laws.proofs.Paths.{path_none as ancestors-absent}
+use Rattle.dom_laws.proofs.Laws.{by_times, path_none as ancestors-absent}
 
 -- what is left of a path
 abbrev pub cut_at : World → NodeName → Option NodeName → List NodeName → List NodeName

@@ -1,27 +1,15 @@
 -- Visits as a group has them: one at a node of the group does what it does where no others are, and one at another node does nothing to the
 -- group but to the flags of the event. The visits at its nodes are those of the views there.
-use Rattle.std.proofs.Common.{◌≡◌, Bool, true, false, ◌||◌, List, [], ◌∷◌, ◌++◌, filter, fold, refl, sym, ap, ◌∙◌, append-nil, true≢false, subst, map, reverse}
-use Rattle.std.proofs.lemmas.Bool.{cond-true, cond-false}
-use Rattle.std.proofs.lemmas.List.Elements.{filter-append}
-use Rattle.dom_base.specs.declared.Owner.{Owner}
-use Rattle.dom_base.specs.declared.Action.{Action}
-use Rattle.dom_base.specs.declared.Action.TheVariants.{Log, Stop, StopNow, Cancel}
-use Rattle.dom_base.specs.declared.NodeName.{NodeName}
-use Rattle.dom_model.specs.Names.{name_eq}
-use Rattle.dom_model.specs.Command.{EventWords}
-use Rattle.dom_model.specs.Output.{EventLine}
-use Rattle.dom_model.specs.Listeners.{Listener, Visit, after_invoke, after_inner_invoke, hears, kept_after, after_action, may_cancel, line_of}
-use Rattle.dom_model.specs.Part.{Part}
-use Rattle.dom_model.specs.World.{part_of, with_part, World}
-use Rattle.dom_model.specs.Dispatch.{world_visit, Dispatched, visits_of, visit_of, is_at_target, event_output}
-use Rattle.dom_model.specs.Groups.{group_world, group_outputs, group_run}
-use Rattle.dom_model.proofs.PartLaws.{owner-part_of}
+use Rattle.dom_base.proofs.Std.{◌≡◌, Bool, true, false, ◌||◌, List, [], ◌∷◌, ◌++◌, filter, fold, refl, sym, ap, ◌∙◌, append-nil, true≢false, subst, map}
+use Rattle.dom_base.proofs.Std.{reverse, cond-true, cond-false, filter-append}
+use Rattle.dom_model.proofs.Model.{Owner, Action, Log, Stop, StopNow, Cancel, NodeName, name_eq, EventWords, EventLine, Listener, Visit, after_invoke}
+use Rattle.dom_model.proofs.Model.{after_inner_invoke, hears, kept_after, after_action, may_cancel, line_of, Part, part_of, with_part, World, world_visit}
+use Rattle.dom_model.proofs.Model.{Dispatched, visits_of, visit_of, is_at_target, event_output, group_world, group_outputs, group_run, owner-part_of, View}
+use Rattle.dom_model.proofs.Model.{is_of, owner_of_output}
 use Rattle.dom_worlds.proofs.ListLemmas.{by_cases, filter-filter, filter-map, filter-reverse}
 use Rattle.dom_worlds.proofs.TurnLemmas.{Going, InWorld, with_listeners, call, call-of, no_call, sifted-after_action}
-use Rattle.dom_isolation.specs.Interference.{is_own_visit}
+use Rattle.dom_isolation.specs.Definitions.{is_own_visit}
 use Rattle.dom_isolation.proofs.GroupSlots.{part-in, with_part-in, with_part-out, group-twice, filter-here, filter-away, filter-twice}
-use Rattle.dom_model.specs.Paths.{View}
-use Rattle.dom_model.specs.Trace.{is_of, owner_of_output}
 
 -- A visit leaves as it is what is told by the calls alone: what each call keeps all calls keep, and so the visit.
 module _ (P : Going → Type 0) (e : EventWords) (v : Visit NodeName) (keeps : (d : Going) (l : Listener NodeName) → P d → P (call e v d l)) where

@@ -1,38 +1,20 @@
 -- Endings of turns and commands of the page do to the page's part what they do in the page machine; the endings of other turns are unseen.
-use Rattle.std.proofs.Common.{◌≡◌, Bool, true, false, not, ◌&&◌, List, [], ◌∷◌, ◌++◌, length, map, Option, Some, None, option_map, unwrap_or, refl, sym, ap}
-use Rattle.std.proofs.Common.{◌∙◌, true≢false, subst, filter, ◌≢◌, append-nil}
-use Rattle.std.specs.Prelude.{is_none, option_to_list, if◌then◌else◌, is_some}
-use Rattle.std.specs.List.{AllByRecursion, last_or}
-use Rattle.std.specs.Option.{option_or, option_map_or}
-use Rattle.std.proofs.lemmas.List.Elements.{filter-append}
-use Rattle.dom_base.specs.declared.Owner.TheVariants.{Page, Component}
-use Rattle.dom_base.specs.declared.NodeName.{NodeName}
-use Rattle.dom_base.specs.declared.Kind.TheVariants.{Shadow}
-use Rattle.dom_base.specs.declared.Refusal.{Refusal}
-use Rattle.dom_base.specs.declared.Refusal.TheVariants.{Syntax, Busy, Foreign, Unknown}
-use Rattle.dom_model.specs.Names.{last_of, ComponentName, owner_eq}
-use Rattle.dom_model.specs.Tree.{node_in, is_document, root_of, kind_of}
-use Rattle.dom_model.specs.Command.{Command, NodeWord, EventWords, is_command_of, part_refusal, names_foreign, effect}
-use Rattle.dom_model.specs.Output.{says, nothing, a_component, a_truth}
-use Rattle.dom_model.specs.Part.{Part}
-use Rattle.dom_model.specs.Runs.{run_then, answering, unless_refused, Run, quiet, run_each}
-use Rattle.dom_model.specs.Validity.{first_refusal}
-use Rattle.dom_model.specs.CommandNames.{named}
-use Rattle.dom_model.specs.Effects.{Effect, tables, changes}
-use Rattle.dom_model.specs.World.{World, micro_task, part_of, with_part, is_there, kind_at, ancestors_at, is_connected, component_made, Task, notify_task}
-use Rattle.dom_model.specs.Dispatch.{Dispatched, dispatch_in}
-use Rattle.dom_model.specs.Turns.{ending_turn, opening_turn, is_page_turn, firing_slotchange, is_owned_by, without_signals, notified, running_task}
-use Rattle.dom_model.specs.Turns.{is_other_component, has_other_turn, ending_other_turn, ending_any_turn, notified_lines, notifying}
-use Rattle.dom_model.specs.DocumentMachine.{refusal, is_busy, effect_in, attaching, part_with_root, perform, accepted, run_command}
-use Rattle.dom_model.specs.Trace.{is_page, outputs_for, owner_of_output, is_of}
-use Rattle.dom_isolation.specs.Interference.{Interference, first_record, accepted_records, command_records}
-use Rattle.dom_isolation.specs.TouchedMachines.{page_perform_under, page_accepted_under, page_command_under}
-use Rattle.dom_model.specs.PageMachine.{PageState, page_of, is_page_task, page_refusal, page_effect, page_attaching, page_task, page_turn_end, page_finish}
-use Rattle.dom_model.proofs.PartLaws.{part_of-with_part, part_of-with_part-other, owner-part_of}
-use Rattle.dom_model.proofs.OwnerLaws.{component_made-no_page, ne-owner_eq}
-use Rattle.dom_isolation.specs.Laws.{page_run}
-use Rattle.dom_worlds.specs.Reached.{Invariant}
-use Rattle.dom_worlds.specs.Worlds.{IsWorld, IsOf, IsForeignTo}
+use Rattle.dom_base.proofs.Std.{◌≡◌, Bool, true, false, not, ◌&&◌, List, [], ◌∷◌, ◌++◌, length, map, Option, Some, None, option_map, unwrap_or, refl, sym, ap}
+use Rattle.dom_base.proofs.Std.{◌∙◌, true≢false, subst, filter, ◌≢◌, append-nil, is_none, option_to_list, if◌then◌else◌, is_some, AllByRecursion, last_or}
+use Rattle.dom_base.proofs.Std.{option_or, option_map_or, filter-append, cond-true, cond-false}
+use Rattle.dom_model.proofs.Model.{Page, Component, NodeName, Shadow, Refusal, Syntax, Busy, Foreign, Unknown, last_of, ComponentName, owner_eq, node_in}
+use Rattle.dom_model.proofs.Model.{is_document, root_of, kind_of, Command, NodeWord, EventWords, is_command_of, part_refusal, names_foreign, effect, says}
+use Rattle.dom_model.proofs.Model.{nothing, a_component, a_truth, Part, run_then, answering, unless_refused, Run, quiet, run_each, first_refusal, named, Effect}
+use Rattle.dom_model.proofs.Model.{tables, changes, World, micro_task, part_of, with_part, is_there, kind_at, ancestors_at, is_connected, component_made, Task}
+use Rattle.dom_model.proofs.Model.{notify_task, Dispatched, dispatch_in, ending_turn, opening_turn, is_page_turn, firing_slotchange, is_owned_by}
+use Rattle.dom_model.proofs.Model.{without_signals, notified, running_task, is_other_component, has_other_turn, ending_other_turn, ending_any_turn}
+use Rattle.dom_model.proofs.Model.{notified_lines, notifying, refusal, is_busy, effect_in, attaching, part_with_root, perform, accepted, run_command, is_page}
+use Rattle.dom_model.proofs.Model.{outputs_for, owner_of_output, is_of, PageState, page_of, is_page_task, page_refusal, page_effect, page_attaching, page_task}
+use Rattle.dom_model.proofs.Model.{page_turn_end, page_finish, part_of-with_part, part_of-with_part-other, owner-part_of, component_made-no_page, ne-owner_eq}
+use Rattle.dom_model.proofs.Model.{Owner, Component-IsNoPage}
+use Rattle.dom_isolation.specs.Definitions.{Interference, first_record, accepted_records, command_records, page_perform_under, page_accepted_under}
+use Rattle.dom_isolation.specs.Definitions.{page_command_under, page_run}
+use Rattle.dom_worlds.specs.Definitions.{Invariant, IsWorld, IsOf, IsForeignTo}
 use Rattle.dom_isolation.proofs.PageSteps.{run_then-square, outputs_for_page-says, page_of-world_after, run_then-quiet, page_run-unseen}
 use Rattle.dom_worlds.proofs.ShadowTreeLemmas.{ancestors-owned}
 use Rattle.dom_worlds.proofs.TurnLemmas.{IsPageTime, opening-page, quiet-opening, told_in, quiet-running, at_end, quiet-at_end}
@@ -41,9 +23,6 @@ use Rattle.dom_worlds.proofs.OwnerLemmas.{owner-named}
 use Rattle.dom_worlds.proofs.ListLemmas.{by_cases, all-then, filter_all, filter_none}
 use Rattle.dom_isolation.proofs.PagePaths.{shadow_including-page, views-page}
 use Rattle.dom_isolation.proofs.PageSteps.{done_to, dispatch-page}
-use Rattle.std.proofs.lemmas.Bool.{cond-true, cond-false}
-use Rattle.dom_base.specs.declared.Owner.{Owner}
-use Rattle.dom_model.proofs.StepLaws.{Component-IsNoPage}
 use Rattle.dom_isolation.proofs.Families.{page-is_group}
 use Rattle.dom_isolation.proofs.GroupTurns.{IsLineOf, lines-notified, notifying-out}
 

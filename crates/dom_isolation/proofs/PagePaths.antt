@@ -1,22 +1,12 @@
 -- The path of an event of a page node: its inclusive ancestors, and between them nodes of shadow trees, which are hidden: of the nodes of a world as
 -- the machine reaches it just those of shadow trees are hidden from a page node.
-use Rattle.std.proofs.Common.{◌≡◌, ℕ, zero, suc, Bool, true, false, not, ◌&&◌, List, [], ◌∷◌, ◌++◌, filter, flat_map, take_while, Option, Some, None, map}
-use Rattle.std.proofs.Common.{refl, sym, ap, ◌∙◌, subst, append-nil, find, unwrap_or}
-use Rattle.std.specs.Prelude.{if◌then◌else◌, option_to_list}
-use Rattle.std.specs.List.{AllByRecursion}
-use Rattle.std.proofs.lemmas.List.Elements.{filter-append}
-use Rattle.std.proofs.lemmas.Bool.{cond-true, cond-false}
-use Rattle.dom_base.specs.declared.Owner.{Owner}
-use Rattle.dom_base.specs.declared.Owner.TheVariants.{Page}
-use Rattle.dom_base.specs.declared.NodeName.{NodeName}
-use Rattle.dom_model.specs.Names.{name_eq, max_depth, owner_depth, is_in}
-use Rattle.dom_model.specs.World.{World, part_of, ancestors_at, host_chain, root_at, hosts_from, shadow_including_ancestors}
-use Rattle.dom_model.specs.Slots.{slot_of}
-use Rattle.dom_model.specs.Paths.{is_hidden_from, retarget, retarget_related, is_node, with_slots, way_up, whole_path, ends_at, event_path, view_at, views}
-use Rattle.dom_model.specs.Paths.{plain_view, plain_views}
-use Rattle.dom_model.specs.Trace.{is_page}
-use Rattle.dom_model.proofs.OwnerLaws.{ne-owner_eq}
-use Rattle.dom_worlds.specs.Worlds.{IsWorld, IsOf, IsForeignTo}
+use Rattle.dom_base.proofs.Std.{◌≡◌, ℕ, zero, suc, Bool, true, false, not, ◌&&◌, List, [], ◌∷◌, ◌++◌, filter, flat_map, take_while, Option, Some, None, map}
+use Rattle.dom_base.proofs.Std.{refl, sym, ap, ◌∙◌, subst, append-nil, find, unwrap_or, if◌then◌else◌, option_to_list, AllByRecursion, filter-append, cond-true}
+use Rattle.dom_base.proofs.Std.{cond-false}
+use Rattle.dom_model.proofs.Model.{Owner, Page, NodeName, name_eq, max_depth, owner_depth, is_in, World, part_of, ancestors_at, host_chain, root_at, hosts_from}
+use Rattle.dom_model.proofs.Model.{shadow_including_ancestors, slot_of, is_hidden_from, retarget, retarget_related, is_node, with_slots, way_up, whole_path}
+use Rattle.dom_model.proofs.Model.{ends_at, event_path, view_at, views, plain_view, plain_views, is_page, ne-owner_eq}
+use Rattle.dom_worlds.specs.Definitions.{IsWorld, IsOf, IsForeignTo}
 use Rattle.dom_worlds.proofs.ListLemmas.{all-append, all-from, all-then, all-flat_map, filter-map, filter_none, filter_same, map_same, take_while_all}
 use Rattle.dom_worlds.proofs.ShadowTreeLemmas.{IsInTree, slot-in_tree, ancestors-in_tree, ancestors-owned, slot_way, slots-behind, slots-first, in_tree, not_in}
 use Rattle.dom_worlds.proofs.TurnLemmas.{page_in_no_tree}

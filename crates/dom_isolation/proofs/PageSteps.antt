@@ -1,45 +1,25 @@
 -- What the page sees of a run, and of steps: those of the page are its own, those of components are none. Visits at page nodes do what they do alone, so what
 -- the page sees of a dispatch is what its first visits at page nodes do, as many as others let it come to.
-use Rattle.std.proofs.Common.{true≢false, ◌≡◌, ◌≢◌, Bool, true, false, List, [], ◌∷◌, filter, fold, Option, Some, None, refl, ap, ◌∙◌, ◌++◌, map, sym, not}
-use Rattle.std.proofs.Common.{option_map, subst}
-use Rattle.std.specs.List.{AllByRecursion, list_any}
-use Rattle.std.proofs.lemmas.List.Elements.{filter-append}
-use Rattle.dom_base.specs.declared.Owner.{Owner}
-use Rattle.dom_base.specs.declared.Owner.TheVariants.{Page, Component}
-use Rattle.dom_base.specs.declared.NodeName.{NodeName}
-use Rattle.dom_model.specs.Names.{max_depth, owner_eq, name_eq}
-use Rattle.dom_model.specs.Tree.{parent_of}
-use Rattle.dom_model.specs.Steps.{Step, place, take_out, set_document, set_attribute, queue_record, is_taken}
-use Rattle.dom_model.specs.World.{World, Task, micro_task, notify_task, part_of, is_notify_of, queued_notify, with_notify, components_below, shadow_root_of}
-use Rattle.dom_model.specs.World.{with_part}
-use Rattle.dom_model.specs.Slots.{signals, with_signal}
-use Rattle.dom_model.specs.WorldSteps.{world_step, world_after, stepped, with_signals, with_removal_signals, with_notify_if, with_shadow_document}
-use Rattle.dom_model.specs.PageMachine.{page_of, is_page_task, page_step, page_notify_if, page_stepped, PageState}
-use Rattle.dom_model.proofs.StepLaws.{part_of-stepped, part_of-stepped-other, AllComponents, below-components}
-use Rattle.dom_worlds.specs.Worlds.{IsForeignTo, IsThere, OnlyLogs, ComponentsOnlyLog}
+use Rattle.dom_base.proofs.Std.{true≢false, ◌≡◌, ◌≢◌, Bool, true, false, List, [], ◌∷◌, filter, fold, Option, Some, None, refl, ap, ◌∙◌, ◌++◌, map, sym, not}
+use Rattle.dom_base.proofs.Std.{option_map, subst, AllByRecursion, list_any, filter-append, cond-true, cond-false}
+use Rattle.dom_model.proofs.Model.{Owner, Page, Component, NodeName, max_depth, owner_eq, name_eq, parent_of, Step, place, take_out, set_document}
+use Rattle.dom_model.proofs.Model.{set_attribute, queue_record, is_taken, World, Task, micro_task, notify_task, part_of, is_notify_of, queued_notify}
+use Rattle.dom_model.proofs.Model.{with_notify, components_below, shadow_root_of, with_part, signals, with_signal, world_step, world_after, stepped}
+use Rattle.dom_model.proofs.Model.{with_signals, with_removal_signals, with_notify_if, with_shadow_document, page_of, is_page_task, page_step, page_notify_if}
+use Rattle.dom_model.proofs.Model.{page_stepped, PageState, part_of-stepped, part_of-stepped-other, AllComponents, below-components, Output, Said, says}
+use Rattle.dom_model.proofs.Model.{EventLine, Run, quiet, run_then, is_page_turn, is_page, outputs_for, is_of, owner_of_output, group_world, group_turn}
+use Rattle.dom_model.proofs.Model.{group_run, is_task_of, Command, EventWords, named, Listener, Visit, after_invoke, begun, Part, views, plain_views}
+use Rattle.dom_model.proofs.Model.{Dispatched, dispatched, dispatch_in, world_visit, event_output, visits_of, owner_eq-true, owner_eq-false, ne-owner_eq}
+use Rattle.dom_model.proofs.Model.{part_of-with_part, part_of-with_part-other, owner-part_of}
+use Rattle.dom_worlds.specs.Definitions.{IsForeignTo, IsThere, OnlyLogs, ComponentsOnlyLog}
 use Rattle.dom_worlds.proofs.ListLemmas.{by_cases, all-from, all-passed, all-then}
 use Rattle.dom_worlds.proofs.TurnLemmas.{page_tasks-queued_other, signals-foreign, Going, InWorld, part_of-visits, rest-visits, with_listeners, logs-visit}
-use Rattle.dom_model.specs.Output.{Output, Said, says, EventLine}
-use Rattle.dom_model.specs.Runs.{Run, quiet, run_then}
-use Rattle.dom_model.specs.Turns.{is_page_turn}
-use Rattle.dom_model.specs.Trace.{is_page, outputs_for, is_of, owner_of_output}
-use Rattle.dom_isolation.specs.Laws.{page_run, page_dispatched, is_page_visit, is_page_line, page_going, VisitIsUnseen, FoldSkipsComponents}
+use Rattle.dom_isolation.specs.Definitions.{page_run, page_dispatched, is_page_visit, is_page_line, page_going, VisitIsUnseen, FoldSkipsComponents}
+use Rattle.dom_isolation.specs.Definitions.{Interference, untouched, interference_at, first_visits, dispatched_under, page_dispatch_under, OwnIsThere}
+use Rattle.dom_isolation.specs.Definitions.{LogsEvent}
 use Rattle.dom_isolation.proofs.GroupSlots.{any-kept, added-in, filter-sub, member-outputs, part-in}
-use Rattle.dom_model.specs.Groups.{group_world, group_turn, group_run, is_task_of}
-use Rattle.dom_model.specs.Command.{Command, EventWords}
-use Rattle.dom_model.specs.CommandNames.{named}
-use Rattle.dom_model.specs.Listeners.{Listener, Visit, after_invoke, begun}
-use Rattle.dom_model.specs.Part.{Part}
-use Rattle.dom_model.specs.Paths.{views, plain_views}
-use Rattle.dom_model.specs.Dispatch.{Dispatched, dispatched, dispatch_in, world_visit, event_output, visits_of}
-use Rattle.dom_model.proofs.OwnerLaws.{owner_eq-true, owner_eq-false, ne-owner_eq}
-use Rattle.dom_isolation.specs.Interference.{Interference, untouched, interference_at}
-use Rattle.dom_isolation.specs.TouchedMachines.{first_visits, dispatched_under, page_dispatch_under}
-use Rattle.dom_isolation.specs.FullLaws.{OwnIsThere, LogsEvent}
 use Rattle.dom_isolation.proofs.Touches.{all-first, alike-start, visits-touched}
 use Rattle.dom_isolation.proofs.OwnVisits.{in_view, group_visits, seen, seen-visited, lines-outside}
-use Rattle.std.proofs.lemmas.Bool.{cond-true, cond-false}
-use Rattle.dom_model.proofs.PartLaws.{part_of-with_part, part_of-with_part-other, owner-part_of}
 use Rattle.dom_isolation.proofs.FullTraces.{flags-visited}
 
 -- an owner's lines of two lists

@@ -1,43 +1,29 @@
 -- Whole scripts: the page's part and the page's output are the page machine's on the full trace; and where no component listener stops or cancels, on the
 -- trace. Of texts: the page's lines of input and of output are those that begin with `p `, and the text of the output has the lines that were written.
-use Rattle.std.proofs.Common.{◌≡◌, ◌≢◌, ℕ, true, List, [], ◌∷◌, ◌++◌, map, flat_map, Option, Some, None, refl, sym, ap, ◌∙◌, true≢false, false, not, ◌&&◌}
-use Rattle.std.proofs.Common.{append_assoc}
-use Rattle.std.specs.Prelude.{option_to_list}
-use Rattle.std.proofs.lemmas.Bool.{cond-true, cond-false, false_from_ne_true, and_parts}
-use Rattle.dom_base.specs.declared.Owner.{Owner}
-use Rattle.dom_base.specs.declared.Owner.TheVariants.{Page, Component}
-use Rattle.dom_model.specs.Command.{Command, Line, no_owner, no_command, command, is_command_of}
-use Rattle.dom_model.specs.DocumentMachine.{step, first_world, run_lines, outputs_of, finish}
-use Rattle.dom_model.specs.Output.{Output, bad_owner, says}
-use Rattle.dom_model.specs.Runs.{Run, run_then, run_each}
-use Rattle.dom_model.specs.PageMachine.{PageState, page_outputs_of, first_page, page_of, step_page, run_page, page_finish}
-use Rattle.dom_model.specs.Trace.{TraceItem, line, outward, is_page, is_of, owner_of_line, items_of, trace_from, outputs_for, outward_event, OutwardEvent}
-use Rattle.dom_model.specs.Trace.{trace_of, line_may_stop, no_component_stops, no_component_stops_from}
-use Rattle.dom_model.specs.World.{World}
-use Rattle.dom_text.specs.Lines.{lines_of, owner_prefix, begins_with, page_lines, text_of_lines}
-use Rattle.dom_text.specs.Decode.{decode}
-use Rattle.dom_text.specs.Text.{output_line}
+use Rattle.dom_base.proofs.Std.{◌≡◌, ◌≢◌, ℕ, true, List, [], ◌∷◌, ◌++◌, map, flat_map, Option, Some, None, refl, sym, ap, ◌∙◌, true≢false, false, not, ◌&&◌}
+use Rattle.dom_base.proofs.Std.{append_assoc, option_to_list, cond-true, cond-false, false_from_ne_true, and_parts, AllByRecursion, flat_map-append}
+use Rattle.dom_model.proofs.Model.{Owner, Page, Component, Command, Line, no_owner, no_command, command, is_command_of, step, first_world, run_lines}
+use Rattle.dom_model.proofs.Model.{outputs_of, finish, Output, bad_owner, says, Run, run_then, run_each, PageState, page_outputs_of, first_page, page_of}
+use Rattle.dom_model.proofs.Model.{step_page, run_page, page_finish, TraceItem, line, outward, is_page, is_of, owner_of_line, items_of, trace_from, outputs_for}
+use Rattle.dom_model.proofs.Model.{outward_event, OutwardEvent, trace_of, line_may_stop, no_component_stops, no_component_stops_from, World, foreign_is_refused}
+use Rattle.dom_model.proofs.Model.{PagePartAgrees, PageSeesItsTrace, SamePage}
+use Rattle.dom_text.specs.Definitions.{lines_of, owner_prefix, begins_with, page_lines, text_of_lines, decode, output_line}
 use Rattle.dom_text.proofs.TextLaws.{IsSaidBy, begins-says, says-begins}
-use Rattle.dom_isolation.specs.Texts.{ReadsPrefix, lines_in, OutputHasPageLines, PageViewIsItsOutput, TraceHasPageLines, PageLinesAgree, PageLinesAgreeSoFar}
-use Rattle.dom_isolation.specs.Texts.{PageTextAgrees, SamePageText, ForeignLineIsRefused}
-use Rattle.dom_isolation.specs.Interference.{FullItem, line_with, outward_with, turn_ended, plain_items, full_trace_of, full_items, full_trace_from}
-use Rattle.dom_isolation.specs.TouchedMachines.{page_outputs_under, step_page_under, run_page_under}
-use Rattle.dom_isolation.specs.FullIsolation.{full_lines_in, FullTraceHasPageLines, PageLinesAgreeInFull, PageLinesAgreeSoFarInFull, PageTextAgreesInFull}
-use Rattle.dom_isolation.specs.FullIsolation.{SamePageTextInFull, PickedLinesAgreeInFull, PickedLinesAgreeSoFarInFull, PageRunAgreesInFull, PageAgreesInFull}
-use Rattle.dom_isolation.specs.FullIsolation.{PageSeesItsFullTrace, SamePageInFull, FullTraceGoesOn, PageOutputGoesOnInFull}
+use Rattle.dom_isolation.specs.Definitions.{ReadsPrefix, lines_in, OutputHasPageLines, PageViewIsItsOutput, TraceHasPageLines, PageLinesAgree}
+use Rattle.dom_isolation.specs.Definitions.{PageLinesAgreeSoFar, PageTextAgrees, SamePageText, ForeignLineIsRefused, FullItem, line_with, outward_with}
+use Rattle.dom_isolation.specs.Definitions.{turn_ended, plain_items, full_trace_of, full_items, full_trace_from, page_outputs_under, step_page_under}
+use Rattle.dom_isolation.specs.Definitions.{run_page_under, full_lines_in, FullTraceHasPageLines, PageLinesAgreeInFull, PageLinesAgreeSoFarInFull}
+use Rattle.dom_isolation.specs.Definitions.{PageTextAgreesInFull, SamePageTextInFull, PickedLinesAgreeInFull, PickedLinesAgreeSoFarInFull, PageRunAgreesInFull}
+use Rattle.dom_isolation.specs.Definitions.{PageAgreesInFull, PageSeesItsFullTrace, SamePageInFull, FullTraceGoesOn, PageOutputGoesOnInFull, IsPlainLine}
+use Rattle.dom_isolation.specs.Definitions.{ReadsPlainWords, OutputHasItsLines, OutputHasItsLinesSoFar, PickedLinesAgree, PickedLinesAgreeSoFar, page_run}
+use Rattle.dom_isolation.specs.Definitions.{PageRunAgrees, TraceGoesOn, PageOutputGoesOn, FirstLinesStopNothing}
 use Rattle.dom_worlds.proofs.ListLemmas.{by_cases, all-from, all-map}
 use Rattle.dom_worlds.proofs.WorldLemmas.{quiet-first, quiet-step}
 use Rattle.dom_isolation.proofs.FullTraces.{full_trace-is_trace, trace-untouched, run-plain}
-use Rattle.dom_model.proofs.TurnLaws.{foreign_is_refused}
-use Rattle.std.specs.List.{AllByRecursion}
-use Rattle.dom_isolation.specs.Words.{IsPlainLine, ReadsPlainWords, OutputHasItsLines, OutputHasItsLinesSoFar, PickedLinesAgree, PickedLinesAgreeSoFar}
 use Rattle.dom_isolation.proofs.PlainCommands.{plain-saying}
 use Rattle.dom_isolation.proofs.SaidRuns.{says-outputs, says-so_far}
 use Rattle.dom_isolation.proofs.PlainLines.{lines_of-output}
-use Rattle.std.proofs.lemmas.List.Concat.{flat_map-append}
-use Rattle.dom_model.specs.Isolation.{PagePartAgrees, PageSeesItsTrace, SamePage}
-use Rattle.dom_isolation.specs.Laws.{page_run, PageRunAgrees, TraceGoesOn, PageOutputGoesOn, FirstLinesStopNothing}
-use Rattle.dom_worlds.specs.Reached.{Invariant}
+use Rattle.dom_worlds.specs.Definitions.{Invariant}
 use Rattle.dom_isolation.proofs.PageSteps.{run_then-square}
 use Rattle.dom_isolation.proofs.PageCommands.{ending_any-page}
 use Rattle.dom_isolation.proofs.Lines.{line-items}

@@ -1,25 +1,11 @@
 -- Words without line feeds in worlds and in what is said: steps, visits, notifications and commands keep them and say no others, and so does every script.
-use Rattle.std.proofs.Common.{ℕ, List, [], ◌∷◌, ◌++◌, not, Option, Some, None, Bool, filter, map, fold}
-use Rattle.std.specs.Prelude.{⊤, slice_set}
-use Rattle.std.specs.List.{AllByRecursion, list_any}
-use Rattle.std.specs.Option.{option_map_or}
-use Rattle.dom_base.specs.declared.Owner.{Owner}
-use Rattle.dom_base.specs.declared.Owner.TheVariants.{Page, Component}
-use Rattle.dom_base.specs.declared.NodeName.{NodeName}
-use Rattle.dom_model.specs.Names.{name_eq}
-use Rattle.dom_model.specs.Command.{Command, ListenerWords, EventWords, effect}
-use Rattle.dom_model.specs.CommandNames.{named}
-use Rattle.dom_model.specs.DocumentMachine.{first_world}
-use Rattle.dom_model.specs.Effects.{Effect, tables, changes, sets_walker, node_or_null, string_or_null}
-use Rattle.dom_model.specs.Listeners.{Listener, is_listener, with_listener_added, Visit, Dispatching, after_invoke, after_inner_invoke, hears}
-use Rattle.dom_model.specs.Listeners.{with_listener_removed, kept_after, after_action}
-use Rattle.dom_model.specs.Listeners.{may_cancel, line_of}
-use Rattle.dom_model.specs.Output.{Value, a_tree, says, recorded, Output, bad_owner, Said, replied, refused}
-use Rattle.dom_model.specs.Output.{event_seen, micro_ran, Change, EventLine}
-use Rattle.dom_model.specs.Part.{Part, queue_of}
-use Rattle.dom_model.specs.Traversal.{Walker}
-use Rattle.dom_model.specs.World.{part_of, Task, micro_task, notify_task}
-use Rattle.dom_isolation.specs.Words.{HasNoFeed, HasPlainWords, IsPlainLine}
+use Rattle.dom_base.proofs.Std.{ℕ, List, [], ◌∷◌, ◌++◌, not, Option, Some, None, Bool, filter, map, fold, ⊤, slice_set, AllByRecursion, list_any, option_map_or}
+use Rattle.dom_model.proofs.Model.{Owner, Page, Component, NodeName, name_eq, Command, ListenerWords, EventWords, effect, named, first_world, Effect, tables}
+use Rattle.dom_model.proofs.Model.{changes, sets_walker, node_or_null, string_or_null, Listener, is_listener, with_listener_added, Visit, Dispatching}
+use Rattle.dom_model.proofs.Model.{after_invoke, after_inner_invoke, hears, with_listener_removed, kept_after, after_action, may_cancel, line_of, Value, a_tree}
+use Rattle.dom_model.proofs.Model.{says, recorded, Output, bad_owner, Said, replied, refused, event_seen, micro_ran, Change, EventLine, Part, queue_of, Walker}
+use Rattle.dom_model.proofs.Model.{part_of, Task, micro_task, notify_task, Action, Log, Stop, StopNow, Cancel, records_of, notified, notified_lines}
+use Rattle.dom_isolation.specs.Definitions.{HasNoFeed, HasPlainWords, IsPlainLine}
 use Rattle.dom_worlds.proofs.ListLemmas.{all-append, all-filter, all-map, all-flat_map, all-from, either_way}
 use Rattle.dom_worlds.proofs.TreeLemmas.{nodes-subtree}
 use Rattle.dom_worlds.proofs.CommandLemmas.{Makes, MayDo, made-effect}
@@ -27,10 +13,7 @@ use Rattle.dom_worlds.proofs.WorldLemmas.{IsKeptIn}
 use Rattle.dom_isolation.proofs.PlainWords.{IsPlainNode, IsPlainListener, IsPlainQueue, IsPlainPart, IsPlainStep, plain-queue, plain-queue_set, plain-rules}
 use Rattle.dom_isolation.proofs.PlainWords.{IsPlainChange, plain-part_step}
 use Rattle.dom_isolation.proofs.SaidRuns.{KeepsSaying, SaysEffect, HasNoTree}
-use Rattle.dom_base.specs.declared.Action.{Action}
-use Rattle.dom_base.specs.declared.Action.TheVariants.{Log, Stop, StopNow, Cancel}
-use Rattle.dom_model.specs.Turns.{records_of, notified, notified_lines}
-use Rattle.dom_worlds.specs.Worlds.{AllNodes}
+use Rattle.dom_worlds.specs.Definitions.{AllNodes}
 
 -- A task, a world and what is said, with such words.
 abbrev pub IsPlainTask : Task → Type 0

@@ -1,38 +1,20 @@
 -- The text of what is said without line feeds has none, and the protocol's reading gives words without line feeds alone.
-use Rattle.std.proofs.Common.{◌≡◌, ℕ, zero, suc, ◌+◌, ◌/◌, ◌%◌, ◌≤◌, Bool, true, false, not, cond, ◌||◌, eqb, List, [], ◌∷◌, ◌++◌, map, Option, Some, None}
-use Rattle.std.proofs.Common.{refl, sym, ap, ◌∙◌, arith, true≢false, subst}
-use Rattle.std.specs.Prelude.{codes, nat_lt, take, if◌then◌else◌}
-use Rattle.std.specs.List.{AllByRecursion, list_all, flat_map}
-use Rattle.std.specs.Int.{is_in_range}
-use Rattle.std.specs.Char.{digit_char}
-use Rattle.std.specs.Fmt.{decimal, digits, digits_onto, digit_glyph}
-use Rattle.std.proofs.lemmas.Bool.{cond-true, cond-false, eqb-true, false_from_ne_true, and_parts, not-true}
-use Rattle.dom_base.specs.Refusals.{refusal_word}
-use Rattle.dom_base.specs.declared.Kind.{Kind}
+use Rattle.dom_base.proofs.Std.{◌≡◌, ℕ, zero, suc, ◌+◌, ◌/◌, ◌%◌, ◌≤◌, Bool, true, false, not, cond, ◌||◌, eqb, List, [], ◌∷◌, ◌++◌, map, Option, Some, None}
+use Rattle.dom_base.proofs.Std.{refl, sym, ap, ◌∙◌, arith, true≢false, subst, codes, nat_lt, take, if◌then◌else◌, AllByRecursion, list_all, flat_map}
+use Rattle.dom_base.proofs.Std.{is_in_range, digit_char, decimal, digits, digits_onto, digit_glyph, cond-true, cond-false, eqb-true, false_from_ne_true}
+use Rattle.dom_base.proofs.Std.{and_parts, not-true}
+use Rattle.dom_model.proofs.Model.{refusal_word, Kind, NodeName, Owner, Page, Component, Refusal, Syntax, Command, Line, no_owner, no_command, command}
+use Rattle.dom_model.proofs.Model.{ComponentName, DomString, owner_eq, Change, child_list, attributes, character_data, EventLine, Boundary, Value, a_tree, Said}
+use Rattle.dom_model.proofs.Model.{replied, refused, event_seen, recorded, micro_ran, Output, bad_owner, says, Trees, none, tree, Node, Attribute}
 use Rattle.dom_base.specs.declared.Kind.TheVariants as kinds
-use Rattle.dom_base.specs.declared.NodeName.{NodeName}
-use Rattle.dom_base.specs.declared.Owner.{Owner}
-use Rattle.dom_base.specs.declared.Owner.TheVariants.{Page, Component}
-use Rattle.dom_base.specs.declared.Refusal.{Refusal}
-use Rattle.dom_base.specs.declared.Refusal.TheVariants.{Syntax}
-use Rattle.dom_model.specs.Command.{Command, Line, no_owner, no_command, command}
-use Rattle.dom_model.specs.Names.{ComponentName, DomString, owner_eq}
-use Rattle.dom_model.specs.Output.{Change, child_list, attributes, character_data, EventLine, Boundary, Value, a_tree, Said, replied, refused, event_seen}
-use Rattle.dom_model.specs.Output.{recorded, micro_ran, Output, bad_owner, says}
-use Rattle.dom_model.specs.Tree.{Trees, none, tree, Node, Attribute}
-use Rattle.dom_text.specs.Decode.{decode}
-use Rattle.dom_text.specs.Grammar.{Says, Spells}
-use Rattle.dom_text.specs.Commands.{parts}
-use Rattle.dom_text.specs.Lines.{line_feed, lines_of}
-use Rattle.dom_text.specs.Text.{hex_digits, unit_text, string_text, string_or_null, node_text_of, node_text, node_or_null, next_node_text, nodes_text}
-use Rattle.dom_text.specs.Text.{list_text, attribute_text, own_parts, opening_text, trees_text, boundary_text, truth_text, side_text, value_text, event_text}
-use Rattle.dom_text.specs.Text.{change_text, said_text, output_line, output_text}
-use Rattle.dom_text.specs.Tokens.{IsWord, IsWordByte, IsLabel, is_label_byte}
-use Rattle.dom_text.specs.Words.{next_number_text, numbers_text, component_word, owner_word, kind_word}
+use Rattle.dom_text.specs.Definitions.{decode, Says, Spells, parts, line_feed, lines_of, hex_digits, unit_text, string_text, string_or_null, node_text_of}
+use Rattle.dom_text.specs.Definitions.{node_text, node_or_null, next_node_text, nodes_text, list_text, attribute_text, own_parts, opening_text, trees_text}
+use Rattle.dom_text.specs.Definitions.{boundary_text, truth_text, side_text, value_text, event_text, change_text, said_text, output_line, output_text, IsWord}
+use Rattle.dom_text.specs.Definitions.{IsWordByte, IsLabel, is_label_byte, next_number_text, numbers_text, component_word, owner_word, kind_word}
 use Rattle.dom_text.proofs.DecodeLaws.{decode_says}
 use Rattle.dom_text.proofs.LineLaws.{lines_of-text_of_lines}
-use Rattle.dom_isolation.specs.Words.{HasNoFeed, HasPlainWords, IsPlainLine, ReadsPlainWords}
-use Rattle.dom_worlds.specs.Worlds.{AllNodes}
+use Rattle.dom_isolation.specs.Definitions.{HasNoFeed, HasPlainWords, IsPlainLine, ReadsPlainWords}
+use Rattle.dom_worlds.specs.Definitions.{AllNodes}
 use Rattle.dom_worlds.proofs.ListLemmas.{all-append, all-flat_map, all-map, all-from, all-then, by_cases, either_way}
 use Rattle.dom_isolation.proofs.PlainWords.{IsPlainAttribute, IsPlainNode, IsPlainChange}
 use Rattle.dom_isolation.proofs.PlainCommands.{IsPlainEvent, IsPlainValue, IsPlainSaid, IsPlainOutput}

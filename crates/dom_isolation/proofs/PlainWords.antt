@@ -1,21 +1,13 @@
 -- Words without line feeds in parts and worlds, and what steps and plans do to them.
-use Rattle.std.proofs.Common.{ℕ, zero, suc, Bool, List, [], ◌∷◌, ◌++◌, fold, find, Option, Some, None, unwrap_or}
-use Rattle.std.specs.Prelude.{if◌then◌else◌, ⊤, ◌==◌, ◌&&◌, slice_set}
-use Rattle.std.specs.List.{AllByRecursion, list_any}
-use Rattle.std.specs.Option.{option_map_or}
-use Rattle.dom_base.specs.declared.NodeName.{NodeName}
-use Rattle.dom_model.specs.Names.{Word, DomString, name_eq, is_in, text_eq}
-use Rattle.dom_model.specs.Tree.{Node, Attribute, nodes, node_in, no_node, children_of, parent_of, inclusive_ancestors, inclusive_descendants}
-use Rattle.dom_model.specs.TreeChanges.{with_name, with_document, with_data_replaced, with_attribute, attributes_with, attributes_without}
-use Rattle.dom_model.specs.Extract.{pieces_of}
-use Rattle.dom_model.specs.Listeners.{Listener}
-use Rattle.dom_model.specs.Observers.{Registration, target_of, without_old, fitting, asks_for_old}
-use Rattle.dom_model.specs.Output.{Change, child_list, attributes, character_data}
-use Rattle.dom_model.specs.Part.{Part, next_name, queue_of}
-use Rattle.dom_model.specs.Steps.{Step, make, place, take_out, set_document, set_attribute, replace_data, queue_record, part_step, leave, record_in}
-use Rattle.dom_model.specs.Steps.{interested_in}
-use Rattle.dom_worlds.specs.Worlds.{AllNodes}
-use Rattle.dom_isolation.specs.Words.{HasNoFeed}
+use Rattle.dom_base.proofs.Std.{ℕ, zero, suc, Bool, List, [], ◌∷◌, ◌++◌, fold, find, Option, Some, None, unwrap_or, if◌then◌else◌, ⊤, ◌==◌, ◌&&◌, slice_set}
+use Rattle.dom_base.proofs.Std.{AllByRecursion, list_any, option_map_or}
+use Rattle.dom_model.proofs.Model.{NodeName, Word, DomString, name_eq, is_in, text_eq, Node, Attribute, nodes, node_in, no_node, children_of, parent_of}
+use Rattle.dom_model.proofs.Model.{inclusive_ancestors, inclusive_descendants, with_name, with_document, with_data_replaced, with_attribute, attributes_with}
+use Rattle.dom_model.proofs.Model.{attributes_without, pieces_of, Listener, Registration, target_of, without_old, fitting, asks_for_old, Change, child_list}
+use Rattle.dom_model.proofs.Model.{attributes, character_data, Part, next_name, queue_of, Step, make, place, take_out, set_document, set_attribute}
+use Rattle.dom_model.proofs.Model.{replace_data, queue_record, part_step, leave, record_in, interested_in}
+use Rattle.dom_worlds.specs.Definitions.{AllNodes}
+use Rattle.dom_isolation.specs.Definitions.{HasNoFeed}
 use Rattle.dom_worlds.proofs.ListLemmas.{all-append, all-from, all-set, either_way}
 use Rattle.dom_worlds.proofs.TreeLemmas.{nodes-with_node, nodes-taken_out, nodes-placed, nodes-map_nodes, nodes-listed}
 use Rattle.dom_worlds.proofs.PlanLemmas.{Asked, IsKept, any-whole, rules-kept}

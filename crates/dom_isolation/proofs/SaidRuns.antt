@@ -1,30 +1,12 @@
 -- What holds of all parts and tasks of a world and of all that is said: runs keep it where visits, notifications and the effects of commands do.
-use Rattle.std.proofs.Common.{◌≡◌, length, List, [], ◌∷◌, ◌++◌, filter, fold, map, Option, None, Some, option_map}
-use Rattle.std.specs.Prelude.{⊤, is_some}
-use Rattle.std.specs.List.{AllByRecursion}
-use Rattle.dom_base.specs.declared.Owner.{Owner}
-use Rattle.dom_base.specs.declared.NodeName.{NodeName}
-use Rattle.dom_base.specs.declared.Kind.TheVariants.{Shadow}
-use Rattle.dom_base.specs.declared.Refusal.{Refusal}
-use Rattle.dom_base.specs.declared.Refusal.TheVariants.{Syntax}
-use Rattle.dom_model.specs.Names.{Word, name_eq}
-use Rattle.dom_model.specs.Tree.{node_in}
-use Rattle.dom_model.specs.Command.{Command, Line, no_owner, no_command, command, EventWords, effect}
-use Rattle.dom_model.specs.CommandNames.{named}
-use Rattle.dom_model.specs.Dispatch.{world_visit, visits_of, dispatch_in, event_output}
-use Rattle.dom_model.specs.DocumentMachine.{first_world, part_with_root, refusal, effect_in, perform, accepted, run_command, step, run_lines}
-use Rattle.dom_model.specs.DocumentMachine.{finish, outputs_of}
-use Rattle.dom_model.specs.Effects.{Effect, tables, changes}
-use Rattle.dom_model.specs.Listeners.{Visit, Dispatching, after_invoke, begun}
-use Rattle.dom_model.specs.Output.{Output, bad_owner, says, replied, refused, micro_ran, Value, a_tree, EventLine}
-use Rattle.dom_model.specs.Part.{Part}
-use Rattle.dom_model.specs.Paths.{views}
-use Rattle.dom_model.specs.Runs.{Run, quiet, run_then, run_each, answering, refusing, unless_refused}
-use Rattle.dom_model.specs.Steps.{Step}
-use Rattle.dom_model.specs.Turns.{notified, notified_lines, slotchange, firing_slotchange, is_owned_by, without_signals, running_task}
-use Rattle.dom_model.specs.Turns.{ending_turn, has_other_turn, ending_other_turn, ending_any_turn, opening_turn}
-use Rattle.dom_model.specs.World.{World, Task, micro_task, notify_task, part_of, with_part, component_made}
-use Rattle.dom_model.proofs.PartLaws.{owner-part_of}
+use Rattle.dom_base.proofs.Std.{◌≡◌, length, List, [], ◌∷◌, ◌++◌, filter, fold, map, Option, None, Some, option_map, ⊤, is_some, AllByRecursion}
+use Rattle.dom_model.proofs.Model.{Owner, NodeName, Shadow, Refusal, Syntax, Word, name_eq, node_in, Command, Line, no_owner, no_command, command, EventWords}
+use Rattle.dom_model.proofs.Model.{effect, named, world_visit, visits_of, dispatch_in, event_output, first_world, part_with_root, refusal, effect_in, perform}
+use Rattle.dom_model.proofs.Model.{accepted, run_command, step, run_lines, finish, outputs_of, Effect, tables, changes, Visit, Dispatching, after_invoke, begun}
+use Rattle.dom_model.proofs.Model.{Output, bad_owner, says, replied, refused, micro_ran, Value, a_tree, EventLine, Part, views, Run, quiet, run_then, run_each}
+use Rattle.dom_model.proofs.Model.{answering, refusing, unless_refused, Step, notified, notified_lines, slotchange, firing_slotchange, is_owned_by}
+use Rattle.dom_model.proofs.Model.{without_signals, running_task, ending_turn, has_other_turn, ending_other_turn, ending_any_turn, opening_turn, World, Task}
+use Rattle.dom_model.proofs.Model.{micro_task, notify_task, part_of, with_part, component_made, owner-part_of}
 use Rattle.dom_worlds.proofs.ListLemmas.{all-append, all-from, all-map, either_way}
 use Rattle.dom_worlds.proofs.WorldLemmas.{HoldsIn, IsKeptIn, holds-with_part, holds-world_after}
 

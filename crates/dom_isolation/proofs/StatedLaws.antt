@@ -1,5 +1,5 @@
 -- Laws that functions of the crate state just as they are proved.
-use Rattle.dom_model.proofs.TurnLaws.{foreign_is_refused}
+use Rattle.dom_model.proofs.Model.{foreign_is_refused}
 use Rattle.dom_isolation.proofs.PageTexts.{foreign_line-is_refused, decode-reads_prefix, trace-has_page_lines, output-has_page_lines, page_view-is_its_output}
 use Rattle.dom_isolation.proofs.PageTexts.{page_lines-agree, page_lines-agree_so_far, page_text-agrees, full_trace-has_page_lines, page_lines-agree_in_full}
 use Rattle.dom_isolation.proofs.PageTexts.{page_lines-agree_so_far_in_full, page_text-agrees_in_full, same-page_text_in_full, same-page_text}

@@ -1,32 +1,20 @@
 -- A command and a line of the group, whatever others' listeners do: one of the silent run, which takes a record for each event. A line of another owner is the
 -- ending of the group's turn, where it ends it, and its outward event, as far as others let it come.
-use Rattle.std.proofs.Common.{◌≡◌, ℕ, Bool, true, false, not, ◌&&◌, List, [], ◌∷◌, ◌++◌, filter, Option, Some, None, refl, sym, ap, ◌∙◌, subst, true≢false}
-use Rattle.std.proofs.Common.{append-nil, option_map}
-use Rattle.std.specs.Prelude.{if◌then◌else◌, is_none}
-use Rattle.std.proofs.lemmas.Bool.{cond-true, cond-false}
-use Rattle.std.proofs.lemmas.List.{append_assoc}
-use Rattle.dom_base.specs.declared.Owner.{Owner}
-use Rattle.dom_base.specs.declared.Owner.TheVariants.{Page, Component}
-use Rattle.dom_base.specs.declared.Refusal.TheVariants.{Syntax}
-use Rattle.dom_model.specs.Command.{Line, no_owner, no_command, command, Command, EventWords}
-use Rattle.dom_model.specs.Output.{says, refused, Value, replied, nothing, a_truth}
-use Rattle.dom_model.specs.Runs.{Run, quiet, run_then, refusing, answering, unless_refused}
-use Rattle.dom_model.specs.World.{World, part_of}
-use Rattle.dom_model.specs.Turns.{ending_turn, has_other_turn, ending_other_turn, opening_turn}
-use Rattle.dom_model.specs.DocumentMachine.{run_command, step, refusal, accepted}
-use Rattle.dom_model.specs.Groups.{KeepsMakers, group_world, group_turn, group_outputs, group_run, is_task_of, outward_words, ends_group_turn}
-use Rattle.dom_model.specs.Trace.{OutwardEvent, is_of, owner_of_line, owner_of_output, outward_event}
-use Rattle.dom_worlds.specs.Reached.{Invariant, IsReached}
-use Rattle.dom_worlds.specs.Tables.{IsWhole}
+use Rattle.dom_base.proofs.Std.{◌≡◌, ℕ, Bool, true, false, not, ◌&&◌, List, [], ◌∷◌, ◌++◌, filter, Option, Some, None, refl, sym, ap, ◌∙◌, subst, true≢false}
+use Rattle.dom_base.proofs.Std.{append-nil, option_map, if◌then◌else◌, is_none, cond-true, cond-false, append_assoc}
+use Rattle.dom_model.proofs.Model.{Owner, Page, Component, Syntax, Line, no_owner, no_command, command, Command, EventWords, says, refused, Value, replied}
+use Rattle.dom_model.proofs.Model.{nothing, a_truth, Run, quiet, run_then, refusing, answering, unless_refused, World, part_of, ending_turn, has_other_turn}
+use Rattle.dom_model.proofs.Model.{ending_other_turn, opening_turn, run_command, step, refusal, accepted, KeepsMakers, group_world, group_turn, group_outputs}
+use Rattle.dom_model.proofs.Model.{group_run, is_task_of, outward_words, ends_group_turn, OutwardEvent, is_of, owner_of_line, owner_of_output, outward_event}
+use Rattle.dom_model.proofs.Model.{NodeName, Refusal, named, Part, Dispatched, dispatch_in}
+use Rattle.dom_worlds.specs.Definitions.{Invariant, IsReached, IsWhole}
 use Rattle.dom_worlds.proofs.TurnLemmas.{quiet-ending_other, quiet-dispatch}
 use Rattle.dom_worlds.proofs.WorldLemmas.{ending-keeps_reached, ending-keeps_whole, quiet-step}
 use Rattle.dom_worlds.proofs.ListLemmas.{by_cases}
-use Rattle.dom_isolation.specs.Interference.{Interference, untouched, first_record, ending_records, before_records, own_records, interference_at}
-use Rattle.dom_isolation.specs.Interference.{accepted_records, command_records}
+use Rattle.dom_isolation.specs.Definitions.{Interference, untouched, first_record, ending_records, before_records, own_records, interference_at}
+use Rattle.dom_isolation.specs.Definitions.{accepted_records, command_records, IsCalm, Told, told_run, ending_under, ending_other_under, run_command_under}
+use Rattle.dom_isolation.specs.Definitions.{step_under, untold, dispatch_under, accepted_under}
 use Rattle.dom_isolation.proofs.GroupSlots.{filter-away}
-use Rattle.dom_isolation.specs.GroupLaws.{IsCalm}
-use Rattle.dom_isolation.specs.SilentRuns.{Told, told_run, ending_under, ending_other_under, run_command_under, step_under, untold, dispatch_under}
-use Rattle.dom_isolation.specs.SilentRuns.{accepted_under}
 use Rattle.dom_isolation.proofs.GroupTurns.{same-calm, ending_other-out, no_other-ended, calm-ended, opening-in, opened-quiet, same-part}
 use Rattle.dom_isolation.proofs.GroupDispatches.{outward_told, runs-then, IsSameWorld, any_world, world-dispatch_under, touched-in}
 use Rattle.dom_isolation.proofs.GroupCommands.{fits, AreOfGroup, refusal-in, attach-alike, connected-alike, assigned-alike, micro-alike, effect-alike}
@@ -35,11 +23,6 @@ use Rattle.dom_isolation.proofs.GroupPaths.{and-no}
 use Rattle.dom_isolation.proofs.OutsideCommands.{touched_command-out}
 use Rattle.dom_isolation.proofs.TouchedTurns.{Follows, follows-same, then-follows, ending-follows, ending_other-follows, rest-dispatch_under}
 use Rattle.dom_isolation.proofs.TouchedTurns.{no_other-ended_under}
-use Rattle.dom_base.specs.declared.NodeName.{NodeName}
-use Rattle.dom_base.specs.declared.Refusal.{Refusal}
-use Rattle.dom_model.specs.CommandNames.{named}
-use Rattle.dom_model.specs.Part.{Part}
-use Rattle.dom_model.specs.Dispatch.{Dispatched, dispatch_in}
 
 -- an accepted command keeps what holds of the world
 accepted-world : {w : World} → Invariant false w → (o : Owner) → has_other_turn w o ≡ false → (c : Command) → refusal w o c ≡ None →

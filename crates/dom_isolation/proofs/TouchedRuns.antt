@@ -1,26 +1,16 @@
 -- Whole scripts, whatever others' listeners do and whose turns they end: a group has of a script what the silent run does with its full trace. So two scripts
 -- that agree in full show it the same.
-use Rattle.std.proofs.Common.{◌≡◌, ℕ, Bool, true, false, List, [], ◌∷◌, ◌++◌, map, Option, Some, None, refl, sym, ap, ◌∙◌, append-nil, subst, true≢false}
-use Rattle.std.specs.Prelude.{option_to_list, if◌then◌else◌}
-use Rattle.std.proofs.lemmas.Bool.{cond-true, cond-false}
-use Rattle.dom_base.specs.declared.Owner.{Owner}
-use Rattle.dom_model.specs.Command.{Line}
-use Rattle.dom_model.specs.Runs.{Run, run_then, run_each}
-use Rattle.dom_model.specs.World.{World}
-use Rattle.dom_model.specs.DocumentMachine.{first_world, step, finish, run_lines}
-use Rattle.dom_model.specs.Groups.{KeepsMakers, group_world, group_outputs, group_run, ends_group_turn}
-use Rattle.dom_model.specs.Isolation.{output_of}
-use Rattle.dom_model.specs.Trace.{OutwardEvent, is_of, owner_of_line, outward_event}
-use Rattle.dom_worlds.specs.Reached.{Invariant, IsReached}
-use Rattle.dom_worlds.specs.Tables.{IsWhole}
+use Rattle.dom_base.proofs.Std.{◌≡◌, ℕ, Bool, true, false, List, [], ◌∷◌, ◌++◌, map, Option, Some, None, refl, sym, ap, ◌∙◌, append-nil, subst, true≢false}
+use Rattle.dom_base.proofs.Std.{option_to_list, if◌then◌else◌, cond-true, cond-false}
+use Rattle.dom_model.proofs.Model.{Owner, Line, Run, run_then, run_each, World, first_world, step, finish, run_lines, KeepsMakers, group_world, group_outputs}
+use Rattle.dom_model.proofs.Model.{group_run, ends_group_turn, output_of, OutwardEvent, is_of, owner_of_line, outward_event}
+use Rattle.dom_worlds.specs.Definitions.{Invariant, IsReached, IsWhole}
 use Rattle.dom_worlds.proofs.WorldLemmas.{quiet-first, first-is_reached, step-keeps_reached, first-is_whole, step-keeps_whole}
 use Rattle.dom_worlds.proofs.ListLemmas.{by_cases}
-use Rattle.dom_isolation.specs.Interference.{Interference, FullItem, line_with, outward_with, turn_ended, first_record, before_records, own_records}
-use Rattle.dom_isolation.specs.Interference.{others_items, full_items, full_trace_from}
+use Rattle.dom_isolation.specs.Definitions.{Interference, FullItem, line_with, outward_with, turn_ended, first_record, before_records, own_records}
+use Rattle.dom_isolation.specs.Definitions.{others_items, full_items, full_trace_from, records_at_end, GroupSeesItsFullTrace, SameGroupInFull, IsCalm, told_run}
+use Rattle.dom_isolation.specs.Definitions.{ending_any_under, step_under, silent_step_under, silent_output_under}
 use Rattle.dom_isolation.proofs.PageTexts.{run_each-append}
-use Rattle.dom_isolation.specs.FullGroups.{records_at_end, GroupSeesItsFullTrace, SameGroupInFull}
-use Rattle.dom_isolation.specs.GroupLaws.{IsCalm}
-use Rattle.dom_isolation.specs.SilentRuns.{told_run, ending_any_under, step_under, silent_step_under, silent_output_under}
 use Rattle.dom_isolation.proofs.GroupDispatches.{run_each-one, outward_told, runs-then, IsSameWorld, any_world}
 use Rattle.dom_isolation.proofs.GroupCommands.{calm-in}
 use Rattle.dom_isolation.proofs.GroupTurns.{same-calm}

@@ -1,36 +1,18 @@
 -- Notifications and the endings of turns as a group has them, whatever others' listeners do: those of the silent run, which takes one record for
 -- each event at a slot of the group.
-use Rattle.std.proofs.Common.{◌≡◌, Bool, true, false, List, [], ◌∷◌, ◌++◌, filter, Option, None, refl, sym, ap, ◌∙◌, subst, true≢false}
-use Rattle.std.specs.Prelude.{is_some, if◌then◌else◌}
-use Rattle.std.specs.List.{AllByRecursion}
-use Rattle.std.specs.Option.{option_map_or}
-use Rattle.std.proofs.lemmas.Bool.{cond-true, cond-false}
-use Rattle.std.proofs.lemmas.List.{append_assoc}
-use Rattle.dom_base.specs.declared.Owner.{Owner}
-use Rattle.dom_base.specs.declared.NodeName.{NodeName}
-use Rattle.dom_model.specs.Names.{name_eq}
-use Rattle.dom_model.specs.Command.{EventWords}
-use Rattle.dom_model.specs.Listeners.{begun}
-use Rattle.dom_model.specs.Output.{says, micro_ran}
-use Rattle.dom_model.specs.Paths.{views}
-use Rattle.dom_model.specs.Runs.{Run, quiet, run_then, run_each}
-use Rattle.dom_model.specs.World.{World, Task, micro_task, notify_task, part_of}
-use Rattle.dom_model.specs.Dispatch.{Dispatched, visits_of}
-use Rattle.dom_model.specs.Turns.{slotchange, firing_slotchange, notifying, notified_lines, running_task, ending_turn, has_other_turn, ending_other_turn}
-use Rattle.dom_model.specs.Turns.{is_owned_by, is_other_component, ending_any_turn}
-use Rattle.dom_model.specs.Groups.{KeepsMakers, group_world, group_turn, group_outputs, group_run, is_task_of}
-use Rattle.dom_model.specs.Trace.{is_of}
-use Rattle.dom_worlds.specs.Reached.{Invariant}
+use Rattle.dom_base.proofs.Std.{◌≡◌, Bool, true, false, List, [], ◌∷◌, ◌++◌, filter, Option, None, refl, sym, ap, ◌∙◌, subst, true≢false, is_some}
+use Rattle.dom_base.proofs.Std.{if◌then◌else◌, AllByRecursion, option_map_or, cond-true, cond-false, append_assoc}
+use Rattle.dom_model.proofs.Model.{Owner, NodeName, name_eq, EventWords, begun, says, micro_ran, views, Run, quiet, run_then, run_each, World, Task, micro_task}
+use Rattle.dom_model.proofs.Model.{notify_task, part_of, Dispatched, visits_of, slotchange, firing_slotchange, notifying, notified_lines, running_task}
+use Rattle.dom_model.proofs.Model.{ending_turn, has_other_turn, ending_other_turn, is_owned_by, is_other_component, ending_any_turn, KeepsMakers, group_world}
+use Rattle.dom_model.proofs.Model.{group_turn, group_outputs, group_run, is_task_of, is_of}
+use Rattle.dom_worlds.specs.Definitions.{Invariant}
 use Rattle.dom_worlds.proofs.ListLemmas.{by_cases}
 use Rattle.dom_worlds.proofs.TurnLemmas.{told_in, quiet-told, quiet-dispatch, quiet-running, at_end, quiet-at_end, quiet-ending_turn, rest-visits}
-use Rattle.dom_isolation.specs.Interference.{Interference, first_record, is_own_visit, interference_at, records_each, slot_record, task_records}
-use Rattle.dom_isolation.specs.Interference.{ending_records}
-use Rattle.dom_isolation.specs.TouchedMachines.{first_visits}
+use Rattle.dom_isolation.specs.Definitions.{Interference, first_record, is_own_visit, interference_at, records_each, slot_record, task_records, ending_records}
+use Rattle.dom_isolation.specs.Definitions.{first_visits, last_records, IsCalm, Told, told_run, untold, dispatch_under, firing_under, notifying_under}
+use Rattle.dom_isolation.specs.Definitions.{running_under, ending_under, ending_other_under, ending_any_under}
 use Rattle.dom_isolation.proofs.GroupSlots.{in_node, filter-here, filter-away}
-use Rattle.dom_isolation.specs.FullGroups.{last_records}
-use Rattle.dom_isolation.specs.GroupLaws.{IsCalm}
-use Rattle.dom_isolation.specs.SilentRuns.{Told, told_run, untold, dispatch_under, firing_under, notifying_under, running_under, ending_under}
-use Rattle.dom_isolation.specs.SilentRuns.{ending_other_under, ending_any_under}
 use Rattle.dom_isolation.proofs.GroupTurns.{turn-none, same-turn, same-calm, slots, told-in, slots-in, slots-inside, running-out, at_end-calm, ending-out}
 use Rattle.dom_isolation.proofs.GroupDispatches.{runs-then, quiet-then, IsSameWorld, any_world, touched-in, world-dispatch_under}
 

@@ -1,27 +1,14 @@
 -- What a group has of all visits of an event is what the first visits at its own nodes do: as many as others let it come to.
-use Rattle.std.proofs.Common.{◌≡◌, ℕ, zero, suc, Bool, true, false, not, ◌&&◌, ◌||◌, List, [], ◌∷◌, filter, fold, Option, Some, None, option_map, unwrap_or}
-use Rattle.std.proofs.Common.{refl, take, sym, ap, ◌∙◌, true≢false, subst}
-use Rattle.std.specs.Prelude.{is_some, if◌then◌else◌}
-use Rattle.std.specs.List.{AllByRecursion}
-use Rattle.std.proofs.lemmas.Bool.{cond-true, cond-false, and_parts}
-use Rattle.dom_base.specs.declared.Owner.{Owner}
-use Rattle.dom_base.specs.declared.NodeName.{NodeName}
-use Rattle.dom_model.specs.Names.{owner_eq}
-use Rattle.dom_model.specs.Command.{EventWords}
-use Rattle.dom_model.specs.Listeners.{Visit, begun}
-use Rattle.dom_model.specs.Part.{Part, empty_part}
-use Rattle.dom_model.specs.World.{World, find_part, put_part, part_of, with_part}
-use Rattle.dom_model.specs.Dispatch.{world_visit}
-use Rattle.dom_model.specs.Groups.{group_world}
-use Rattle.dom_model.proofs.OwnerLaws.{owner_eq-same}
-use Rattle.dom_model.proofs.PartLaws.{owner-part_of}
-use Rattle.dom_worlds.specs.Worlds.{IsThere}
+use Rattle.dom_base.proofs.Std.{◌≡◌, ℕ, zero, suc, Bool, true, false, not, ◌&&◌, ◌||◌, List, [], ◌∷◌, filter, fold, Option, Some, None, option_map, unwrap_or}
+use Rattle.dom_base.proofs.Std.{refl, take, sym, ap, ◌∙◌, true≢false, subst, is_some, if◌then◌else◌, AllByRecursion, cond-true, cond-false, and_parts}
+use Rattle.dom_model.proofs.Model.{Owner, NodeName, owner_eq, EventWords, Visit, begun, Part, empty_part, World, find_part, put_part, part_of, with_part}
+use Rattle.dom_model.proofs.Model.{world_visit, group_world, owner_eq-same, owner-part_of}
+use Rattle.dom_worlds.specs.Definitions.{IsThere}
 use Rattle.dom_worlds.proofs.ListLemmas.{all-then, by_cases, and-true_false}
 use Rattle.dom_worlds.proofs.OwnerLemmas.{there-with_part}
 use Rattle.dom_worlds.proofs.TurnLemmas.{Going, InWorld, with_listeners}
-use Rattle.dom_isolation.specs.Interference.{Interference, untouched, touched, one_more, is_own_visit, interference_from}
-use Rattle.dom_isolation.specs.FullLaws.{OwnIsThere, InterferenceIsEnough}
-use Rattle.dom_isolation.specs.TouchedMachines.{first_visits}
+use Rattle.dom_isolation.specs.Definitions.{Interference, untouched, touched, one_more, is_own_visit, interference_from, OwnIsThere, InterferenceIsEnough}
+use Rattle.dom_isolation.specs.Definitions.{first_visits}
 use Rattle.dom_isolation.proofs.GroupSlots.{with_part-out, filter-here, filter-away}
 use Rattle.dom_isolation.proofs.OwnVisits.{AreAlike, IsOrdered, ordered-visit, visited-stopped, cancelled-visit, in_line, group_going, visit-alike, visit-out}
 

@@ -1,29 +1,12 @@
 -- Whose lines are written: only those of owners that lines are read of, or of the page. Others have no listeners, registrations and
 -- pending observers.
-use Rattle.std.proofs.Common.{◌≡◌, ◌⊎◌, inl, inr, Bool, List, [], ◌∷◌, ◌++◌, flat_map, fold, Option, Some, None, refl, sym, ap, ◌∙◌, subst}
-use Rattle.std.specs.Prelude.{⊤, nat_eq}
-use Rattle.std.specs.List.{AllByRecursion}
-use Rattle.std.specs.Option.{option_map_or}
-use Rattle.dom_base.specs.declared.Owner.{Owner}
-use Rattle.dom_base.specs.declared.Owner.TheVariants.{Page, Component}
-use Rattle.dom_base.specs.declared.NodeName.{NodeName}
-use Rattle.dom_base.specs.declared.Action.{Action}
-use Rattle.dom_base.specs.declared.Action.TheVariants.{Log, Stop, StopNow, Cancel}
-use Rattle.dom_model.specs.Names.{name_eq, append_once}
-use Rattle.dom_model.specs.Tree.{parent_of, inclusive_ancestors}
-use Rattle.dom_model.specs.Command.{Command, Line, EventWords, effect}
-use Rattle.dom_model.specs.DocumentMachine.{first_world, outputs_of}
-use Rattle.dom_model.specs.Effects.{Effect, tables, changes}
-use Rattle.dom_model.specs.Listeners.{Listener, Visit, Dispatching, after_invoke, kept_after, after_action, may_cancel, line_of}
-use Rattle.dom_model.specs.Observers.{interested, target_of, transients_for, without_transients}
-use Rattle.dom_model.specs.Output.{Output, bad_owner, says}
-use Rattle.dom_model.specs.Part.{Part}
-use Rattle.dom_model.specs.Steps.{Step, take_out, queue_record, part_step, leave}
-use Rattle.dom_model.specs.Turns.{notified, notified_lines, records_of}
-use Rattle.dom_model.specs.World.{Task, micro_task, notify_task, part_of}
-use Rattle.dom_model.specs.Trace.{owner_of_line}
-use Rattle.dom_model.proofs.StepLaws.{owner-part_step}
-use Rattle.dom_model.proofs.ObserverLaws.{none_interested, none_transient}
+use Rattle.dom_base.proofs.Std.{◌≡◌, ◌⊎◌, inl, inr, Bool, List, [], ◌∷◌, ◌++◌, flat_map, fold, Option, Some, None, refl, sym, ap, ◌∙◌, subst, ⊤, nat_eq}
+use Rattle.dom_base.proofs.Std.{AllByRecursion, option_map_or}
+use Rattle.dom_model.proofs.Model.{Owner, Page, Component, NodeName, Action, Log, Stop, StopNow, Cancel, name_eq, append_once, parent_of, inclusive_ancestors}
+use Rattle.dom_model.proofs.Model.{Command, Line, EventWords, effect, first_world, outputs_of, Effect, tables, changes, Listener, Visit, Dispatching}
+use Rattle.dom_model.proofs.Model.{after_invoke, kept_after, after_action, may_cancel, line_of, interested, target_of, transients_for, without_transients}
+use Rattle.dom_model.proofs.Model.{Output, bad_owner, says, Part, Step, take_out, queue_record, part_step, leave, notified, notified_lines, records_of, Task}
+use Rattle.dom_model.proofs.Model.{micro_task, notify_task, part_of, owner_of_line, owner-part_step, none_interested, none_transient}
 use Rattle.dom_text.proofs.TextLaws.{HasWord, HasOwner}
 use Rattle.dom_worlds.proofs.ListLemmas.{all-append, all-from, all-then, all-map, either_way}
 use Rattle.dom_worlds.proofs.CommandLemmas.{KeepsBase, base-effect}

@@ -13,3 +13,4 @@ pub mod Agreement
 pub mod SilentRuns
 pub mod FullGroups
 pub mod GroupTexts
+pub mod Definitions

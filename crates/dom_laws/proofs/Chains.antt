@@ -1,11 +1,8 @@
 -- The nodes above a node stand above one another.
-use Rattle.std.proofs.Common.{◌≡◌, ◌⊎◌, inl, inr, Bool, true, false, not, List, [], ◌∷◌, ◌++◌, Some, None, refl, sym, ap, subst, ◌∙◌, append_assoc}
-use Rattle.std.specs.Prelude.{filter}
-use Rattle.std.proofs.lemmas.Bool.{cases_Bool, not-true}
-use Rattle.dom_base.specs.declared.NodeName.{NodeName}
-use Rattle.dom_model.specs.Names.{name_eq, first_of, last_of, items_before}
-use Rattle.dom_model.specs.Tree.{Trees, none, tree, inclusive_ancestors, is_inclusive_ancestor, inclusive_descendants}
-use Rattle.dom_model.proofs.OwnerLaws.{name_eq-other}
+use Rattle.dom_base.proofs.Std.{◌≡◌, ◌⊎◌, inl, inr, Bool, true, false, not, List, [], ◌∷◌, ◌++◌, Some, None, refl, sym, ap, subst, ◌∙◌, append_assoc, filter}
+use Rattle.dom_base.proofs.Std.{cases_Bool, not-true}
+use Rattle.dom_model.proofs.Model.{NodeName, name_eq, first_of, last_of, items_before, Trees, none, tree, inclusive_ancestors, is_inclusive_ancestor}
+use Rattle.dom_model.proofs.Model.{inclusive_descendants, name_eq-other}
 use Rattle.dom_laws.specs.Within.{ahead_of, behind, beyond}
 use Rattle.dom_laws.proofs.Lists.{In, In-left, In-right, In-parts, Single, Single-apart, same_or_not, name_eq-from, before-split, no_last, last_split}
 use Rattle.dom_laws.proofs.Shapes.{Has, Has-above, above-here, above-below, above-beside, once_apart}

@@ -1,14 +1,8 @@
 -- The children of a node, and the nodes of its tree as those of its children's trees.
-use Rattle.std.proofs.Common.{◌≡◌, inl, inr, List, [], ◌∷◌, ◌++◌, Some, refl, sym, ap, subst, ◌∙◌}
-use Rattle.std.specs.Prelude.{drop}
-use Rattle.std.specs.List.{flat_map}
-use Rattle.std.proofs.lemmas.List.{map-append, append-nil}
-use Rattle.std.proofs.lemmas.List.Concat.{flat_map-cons}
-use Rattle.std.proofs.lemmas.Option.{same_Some, none-some}
-use Rattle.dom_base.specs.declared.NodeName.{NodeName}
-use Rattle.dom_model.specs.Names.{first_of}
-use Rattle.dom_model.specs.Tree.{Trees, none, tree, Node, nodes, names_of, roots, subtree, inclusive_ancestors, parent_of, trees_below, children_of}
-use Rattle.dom_model.specs.Tree.{inclusive_descendants}
+use Rattle.dom_base.proofs.Std.{◌≡◌, inl, inr, List, [], ◌∷◌, ◌++◌, Some, refl, sym, ap, subst, ◌∙◌, drop, flat_map, map-append, append-nil, flat_map-cons}
+use Rattle.dom_base.proofs.Std.{same_Some, none-some}
+use Rattle.dom_model.proofs.Model.{NodeName, first_of, Trees, none, tree, Node, nodes, names_of, roots, subtree, inclusive_ancestors, parent_of, trees_below}
+use Rattle.dom_model.proofs.Model.{children_of, inclusive_descendants}
 use Rattle.dom_laws.proofs.Lists.{In, In-left, In-right, In-parts, Single}
 use Rattle.dom_laws.proofs.Shapes.{Has, subtree-here, subtree-below, subtree-beside, subtree-present, subtree-within, above-here, above-below}
 use Rattle.dom_laws.proofs.Shapes.{once_apart, above-beside, above-present}

@@ -1,12 +1,7 @@
 -- How often a name stands in trees, and trees in which each name stands once.
-use Rattle.std.proofs.Common.{◌≡◌, ◌⊎◌, inl, inr, ℕ, zero, suc, ◌+◌, ◌≤◌, Bool, true, false, cond, List, ◌∷◌, ◌++◌, refl, ap, arith}
-use Rattle.std.specs.Prelude.{count_by}
-use Rattle.std.proofs.lemmas.Bool.{cases_Bool, cond-true, cond-false}
-use Rattle.std.proofs.lemmas.List.Sums.{sum_by-cons, sum_by-append}
-use Rattle.dom_base.specs.declared.NodeName.{NodeName}
-use Rattle.dom_model.specs.Names.{name_eq}
-use Rattle.dom_model.specs.Tree.{Trees, none, tree, Node, nodes, subtree, or_else, times_in}
-use Rattle.dom_model.proofs.OwnerLaws.{name_eq-same}
+use Rattle.dom_base.proofs.Std.{◌≡◌, ◌⊎◌, inl, inr, ℕ, zero, suc, ◌+◌, ◌≤◌, Bool, true, false, cond, List, ◌∷◌, ◌++◌, refl, ap, arith, count_by, cases_Bool}
+use Rattle.dom_base.proofs.Std.{cond-true, cond-false, sum_by-cons, sum_by-append}
+use Rattle.dom_model.proofs.Model.{NodeName, name_eq, Trees, none, tree, Node, nodes, subtree, or_else, times_in, name_eq-same}
 
 -- 1 where a test holds
 pub one : Bool → ℕ

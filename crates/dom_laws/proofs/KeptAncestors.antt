@@ -1,11 +1,8 @@
 -- What stands above a node stays above it when trees are placed, added and given other contents.
-use Rattle.std.proofs.Common.{◌≡◌, inl, inr, true, false, cond, List, [], ◌∷◌, Option, None, refl, sym, ap, subst, ◌∙◌}
-use Rattle.std.proofs.lemmas.Bool.{cases_Bool, both_ways}
-use Rattle.dom_base.specs.declared.NodeName.{NodeName}
-use Rattle.dom_model.specs.Names.{name_eq, is_in}
-use Rattle.dom_model.specs.Tree.{Trees, none, tree, Node, subtree, on_top, inclusive_ancestors, is_inclusive_ancestor, inclusive_descendants, parent_of}
-use Rattle.dom_model.specs.TreeChanges.{without, put_before, put_below, placed, with_node, is_given, map_nodes, change_node, change_subtree}
-use Rattle.dom_model.proofs.OwnerLaws.{name_eq-other}
+use Rattle.dom_base.proofs.Std.{◌≡◌, inl, inr, true, false, cond, List, [], ◌∷◌, Option, None, refl, sym, ap, subst, ◌∙◌, cases_Bool, both_ways}
+use Rattle.dom_model.proofs.Model.{NodeName, name_eq, is_in, Trees, none, tree, Node, subtree, on_top, inclusive_ancestors, is_inclusive_ancestor}
+use Rattle.dom_model.proofs.Model.{inclusive_descendants, parent_of, without, put_before, put_below, placed, with_node, is_given, map_nodes, change_node}
+use Rattle.dom_model.proofs.Model.{change_subtree, name_eq-other}
 use Rattle.dom_laws.proofs.Lists.{In, In-from, is_in-from, In-left, same_or_not, name_eq-from}
 use Rattle.dom_laws.proofs.Shapes.{Has, IsTreeOf, has_or_not, above-absent, above-present, Has-above, above-root, subtree-present, subtree-within}
 use Rattle.dom_laws.proofs.Shapes.{once_apart, above-from_below, below-from_above}

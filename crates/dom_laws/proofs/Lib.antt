@@ -15,3 +15,4 @@ pub mod Walks
 pub mod KeptAncestors
 pub mod Siblings
 mod StatedLaws
+pub mod Laws

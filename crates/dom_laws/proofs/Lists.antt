@@ -1,14 +1,8 @@
 -- Lists of names: their members, their first places, and how they split at a name.
-use Rattle.std.proofs.Common.{◌≡◌, ◌⊎◌, inl, inr, ℕ, zero, suc, Bool, true, false, List, [], ◌∷◌, ◌++◌, drop, Option, Some, None, refl, sym, ap, subst, ◌∙◌}
-use Rattle.std.proofs.Common.{true≢false}
-use Rattle.std.specs.Prelude.{filter}
-use Rattle.std.specs.List.{last_or, AllByRecursion}
-use Rattle.std.proofs.lemmas.List.{append-nil}
-use Rattle.std.proofs.lemmas.List.Elements.{filter-append}
-use Rattle.std.proofs.lemmas.Bool.{cases_Bool, or_cases, or_left, or_right, false_from_ne_true, both_ways}
-use Rattle.dom_base.specs.declared.NodeName.{NodeName}
-use Rattle.dom_model.specs.Names.{name_eq, is_in, items_before, items_after, first_of, last_of}
-use Rattle.dom_model.proofs.OwnerLaws.{name_eq-same, name_eq-true, name_eq-other}
+use Rattle.dom_base.proofs.Std.{◌≡◌, ◌⊎◌, inl, inr, ℕ, zero, suc, Bool, true, false, List, [], ◌∷◌, ◌++◌, drop, Option, Some, None, refl, sym, ap, subst, ◌∙◌}
+use Rattle.dom_base.proofs.Std.{true≢false, filter, last_or, AllByRecursion, append-nil, filter-append, cases_Bool, or_cases, or_left, or_right}
+use Rattle.dom_base.proofs.Std.{false_from_ne_true, both_ways}
+use Rattle.dom_model.proofs.Model.{NodeName, name_eq, is_in, items_before, items_after, first_of, last_of, name_eq-same, name_eq-true, name_eq-other}
 
 -- the test at one name
 pub name_eq-from : (x y : NodeName) → x ≡ y → name_eq x y ≡ true

@@ -1,11 +1,8 @@
 -- What taking a tree out and placing it do to the inclusive ancestors of other nodes.
-use Rattle.std.proofs.Common.{◌≡◌, ◌≤◌, ◌⊎◌, inl, inr, true, false, cond, List, [], ◌∷◌, drop, Option, None, refl, sym, ap, subst, ◌∙◌, arith}
-use Rattle.std.proofs.lemmas.Bool.{cases_Bool, cond-true, cond-false}
-use Rattle.dom_base.specs.declared.NodeName.{NodeName}
-use Rattle.dom_model.specs.Names.{name_eq, name_before, first_of}
-use Rattle.dom_model.specs.Tree.{Trees, none, tree, Node, subtree, or_else, on_top, inclusive_ancestors, parent_of, times_in}
-use Rattle.dom_model.specs.TreeChanges.{without, followed_by, put_before, put_below, put_root, taken_out, placed, is_given}
-use Rattle.dom_model.proofs.OwnerLaws.{name_eq-true}
+use Rattle.dom_base.proofs.Std.{◌≡◌, ◌≤◌, ◌⊎◌, inl, inr, true, false, cond, List, [], ◌∷◌, drop, Option, None, refl, sym, ap, subst, ◌∙◌, arith, cases_Bool}
+use Rattle.dom_base.proofs.Std.{cond-true, cond-false}
+use Rattle.dom_model.proofs.Model.{NodeName, name_eq, name_before, first_of, Trees, none, tree, Node, subtree, or_else, on_top, inclusive_ancestors, parent_of}
+use Rattle.dom_model.proofs.Model.{times_in, without, followed_by, put_before, put_below, put_root, taken_out, placed, is_given, name_eq-true}
 use Rattle.dom_laws.proofs.Counts.{times_in-none, times_in-tree, one-true, one-false, Once, once_parts, times_none, times_or_else, times_subtree}
 use Rattle.dom_laws.proofs.Counts.{none_or_some}
 use Rattle.dom_laws.proofs.Paths.{Lacks, lacks_front, lacks_back, lacks_both, apart_not, swapped, path_here, path_after, path_below, path_none}

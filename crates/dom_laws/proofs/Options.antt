@@ -1,7 +1,5 @@
 -- Options that are there, and options that are not.
-use Rattle.std.proofs.Common.{◌≡◌, true, false, Option, Some, None, refl, sym, ap, ◌∙◌, true≢false}
-use Rattle.std.specs.Prelude.{is_some}
-use Rattle.std.specs.Option.{option_map}
+use Rattle.dom_base.proofs.Std.{◌≡◌, true, false, Option, Some, None, refl, sym, ap, ◌∙◌, true≢false, is_some, option_map}
 
 -- an option that is not there
 pub was_none : {X : Type 0} (o : Option X) → is_some o ≡ false → o ≡ None

@@ -1,12 +1,8 @@
 -- Tree order within the tree of a node: what stands before a node and behind its tree, by the links.
-use Rattle.std.proofs.Common.{◌≡◌, ◌⊎◌, inl, inr, true, false, not, List, [], ◌∷◌, ◌++◌, refl, sym, ap, subst, ◌∙◌, append_assoc}
-use Rattle.std.specs.Prelude.{filter}
-use Rattle.std.specs.List.{flat_map}
-use Rattle.std.proofs.lemmas.List.{append-nil}
-use Rattle.std.proofs.lemmas.List.Elements.{filter-append}
-use Rattle.dom_base.specs.declared.NodeName.{NodeName}
-use Rattle.dom_model.specs.Names.{name_eq, items_before, items_after}
-use Rattle.dom_model.specs.Tree.{Trees, none, tree, nodes, names_of, subtree, inclusive_ancestors, children_of, inclusive_descendants, is_inclusive_ancestor}
+use Rattle.dom_base.proofs.Std.{◌≡◌, ◌⊎◌, inl, inr, true, false, not, List, [], ◌∷◌, ◌++◌, refl, sym, ap, subst, ◌∙◌, append_assoc, filter, flat_map}
+use Rattle.dom_base.proofs.Std.{append-nil, filter-append}
+use Rattle.dom_model.proofs.Model.{NodeName, name_eq, items_before, items_after, Trees, none, tree, nodes, names_of, subtree, inclusive_ancestors, children_of}
+use Rattle.dom_model.proofs.Model.{inclusive_descendants, is_inclusive_ancestor}
 use Rattle.dom_laws.specs.Within.{ahead_of, behind, beyond}
 use Rattle.dom_laws.proofs.Lists.{In, Single, Single-right, Single-apart, is_in-from, is_in-not, before-split, after-split, filter-none, filter-all}
 use Rattle.dom_laws.proofs.Shapes.{Has, has_or_not, subtree-here, subtree-below, subtree-beside, subtree-within, Has-subtree, above-absent}

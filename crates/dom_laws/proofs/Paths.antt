@@ -1,12 +1,9 @@
 -- The inclusive ancestors of a node, in trees where each name stands once: how they hang together, and which changes of
 -- trees keep them.
-use Rattle.std.proofs.Common.{◌≡◌, ◌≢◌, inl, inr, true, false, List, [], ◌∷◌, ◌++◌, refl, sym, ap, subst, ◌∙◌, arith, true≢false}
-use Rattle.std.proofs.lemmas.Bool.{cases_Bool, cond-true, cond-false, or_parts, or_from}
-use Rattle.dom_base.specs.declared.NodeName.{NodeName}
-use Rattle.dom_model.specs.Names.{name_eq, is_in}
-use Rattle.dom_model.specs.Tree.{Trees, none, tree, Node, subtree, on_top, inclusive_ancestors, times_in}
-use Rattle.dom_model.specs.TreeChanges.{without}
-use Rattle.dom_model.proofs.OwnerLaws.{name_eq-true, name_eq-turned}
+use Rattle.dom_base.proofs.Std.{◌≡◌, ◌≢◌, inl, inr, true, false, List, [], ◌∷◌, ◌++◌, refl, sym, ap, subst, ◌∙◌, arith, true≢false, cases_Bool, cond-true}
+use Rattle.dom_base.proofs.Std.{cond-false, or_parts, or_from}
+use Rattle.dom_model.proofs.Model.{NodeName, name_eq, is_in, Trees, none, tree, Node, subtree, on_top, inclusive_ancestors, times_in, without, name_eq-true}
+use Rattle.dom_model.proofs.Model.{name_eq-turned}
 use Rattle.dom_laws.proofs.Counts.{times_in-none, times_in-tree, one-false, times_none}
 
 -- ---- names that a list has not

@@ -1,15 +1,9 @@
 -- Parents, children, siblings and the names in tree order, in trees where each name stands once.
-use Rattle.std.proofs.Common.{◌≡◌, inl, inr, Bool, true, false, cond, List, [], ◌∷◌, ◌++◌, drop, Some, refl, sym, ap, subst, ◌∙◌, arith}
-use Rattle.std.specs.List.{AllByRecursion}
-use Rattle.std.proofs.lemmas.Bool.{cases_Bool, cond-true, cond-false}
-use Rattle.std.proofs.lemmas.List.{map-append}
-use Rattle.std.proofs.lemmas.Option.{none-some}
-use Rattle.dom_base.specs.declared.NodeName.{NodeName}
-use Rattle.dom_model.specs.Names.{name_eq, first_of, items_after}
-use Rattle.dom_model.specs.Tree.{Trees, none, tree, Node, roots, names_of, subtree, or_else, trees_below, inclusive_ancestors, parent_of, children_of}
-use Rattle.dom_model.specs.Tree.{nodes, next_sibling, times_in, inclusive_descendants}
-use Rattle.dom_model.specs.TreeChanges.{map_nodes, change_node}
-use Rattle.dom_model.proofs.OwnerLaws.{name_eq-true}
+use Rattle.dom_base.proofs.Std.{◌≡◌, inl, inr, Bool, true, false, cond, List, [], ◌∷◌, ◌++◌, drop, Some, refl, sym, ap, subst, ◌∙◌, arith, AllByRecursion}
+use Rattle.dom_base.proofs.Std.{cases_Bool, cond-true, cond-false, map-append, none-some}
+use Rattle.dom_model.proofs.Model.{NodeName, name_eq, first_of, items_after, Trees, none, tree, Node, roots, names_of, subtree, or_else, trees_below}
+use Rattle.dom_model.proofs.Model.{inclusive_ancestors, parent_of, children_of, nodes, next_sibling, times_in, inclusive_descendants, map_nodes, change_node}
+use Rattle.dom_model.proofs.Model.{name_eq-true}
 use Rattle.dom_laws.proofs.Lists.{In, Single, is_in-not}
 use Rattle.dom_laws.proofs.Counts.{Once, once_parts}
 use Rattle.dom_laws.proofs.Shapes.{Has, has_or_not, times-present, above-absent, above-parent, subtree-absent}

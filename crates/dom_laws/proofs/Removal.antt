@@ -1,12 +1,7 @@
 -- What stands above a node after the tree of another one was taken out.
-use Rattle.std.proofs.Common.{◌≡◌, ◌⊎◌, inl, inr, true, false, [], ◌∷◌, refl, sym, ap, subst, ◌∙◌}
-use Rattle.std.specs.Prelude.{if◌then◌else◌}
-use Rattle.std.proofs.lemmas.Bool.{cases_Bool, both_ways, true_from_ne_false}
-use Rattle.dom_base.specs.declared.NodeName.{NodeName}
-use Rattle.dom_model.specs.Names.{name_eq, name_before}
-use Rattle.dom_model.specs.Tree.{Trees, none, tree, Node, subtree, on_top, inclusive_ancestors, is_inclusive_ancestor}
-use Rattle.dom_model.specs.TreeChanges.{without, put_root, taken_out}
-use Rattle.dom_model.proofs.OwnerLaws.{name_eq-other}
+use Rattle.dom_base.proofs.Std.{◌≡◌, ◌⊎◌, inl, inr, true, false, [], ◌∷◌, refl, sym, ap, subst, ◌∙◌, if◌then◌else◌, cases_Bool, both_ways, true_from_ne_false}
+use Rattle.dom_model.proofs.Model.{NodeName, name_eq, name_before, Trees, none, tree, Node, subtree, on_top, inclusive_ancestors, is_inclusive_ancestor}
+use Rattle.dom_model.proofs.Model.{without, put_root, taken_out, name_eq-other}
 use Rattle.dom_laws.proofs.Lists.{In, In-from, is_in-from, same_or_not, name_eq-from}
 use Rattle.dom_laws.proofs.Shapes.{Has, IsTreeOf, has_or_not, subtree-here, subtree-below, subtree-beside, subtree-absent, subtree-present}
 use Rattle.dom_laws.proofs.Shapes.{once_apart, subtree-within, Has-subtree, above-here, above-beside, above-absent, above-present, above-from_below}

@@ -1,13 +1,8 @@
 -- Trees in which each name stands once: what is below a node, what is above it, and its parent.
-use Rattle.std.proofs.Common.{◌≡◌, ◌⊎◌, inl, inr, ◌≤◌, arith, true, false, List, [], ◌∷◌, ◌++◌, Some, None, refl, sym, ap, subst, ◌∙◌, count_by}
-use Rattle.std.specs.Prelude.{drop}
-use Rattle.std.proofs.lemmas.Bool.{cases_Bool}
-use Rattle.std.proofs.lemmas.Option.{same_Some, none-some}
-use Rattle.dom_base.specs.declared.NodeName.{NodeName}
-use Rattle.dom_model.specs.Names.{name_eq, first_of}
-use Rattle.dom_model.specs.Tree.{Trees, none, tree, Node, or_else, subtree, times_in, ancestors, on_top, inclusive_ancestors, parent_of, nodes}
-use Rattle.dom_model.specs.Tree.{is_inclusive_ancestor}
-use Rattle.dom_model.proofs.OwnerLaws.{name_eq-other, name_eq-true}
+use Rattle.dom_base.proofs.Std.{◌≡◌, ◌⊎◌, inl, inr, ◌≤◌, arith, true, false, List, [], ◌∷◌, ◌++◌, Some, None, refl, sym, ap, subst, ◌∙◌, count_by, drop}
+use Rattle.dom_base.proofs.Std.{cases_Bool, same_Some, none-some}
+use Rattle.dom_model.proofs.Model.{NodeName, name_eq, first_of, Trees, none, tree, Node, or_else, subtree, times_in, ancestors, on_top, inclusive_ancestors}
+use Rattle.dom_model.proofs.Model.{parent_of, nodes, is_inclusive_ancestor, name_eq-other, name_eq-true}
 use Rattle.dom_laws.proofs.Paths.{path_none, subtree_gone}
 use Rattle.dom_laws.proofs.Counts.{Once, one-true, one-false, times_in-none, times_in-tree, once_parts, once_subtree, times_count}
 use Rattle.dom_laws.proofs.Lists.{In, In-left, In-right, In-parts, same_or_not, name_eq-from, no_first, is_in-from}

@@ -1,13 +1,8 @@
 -- A walk from sibling to sibling, in trees where each name stands once.
-use Rattle.std.proofs.Common.{◌≡◌, inl, inr, false, not, List, [], ◌∷◌, ◌++◌, Option, Some, None, refl, sym, ap, subst, ◌∙◌}
-use Rattle.std.specs.Option.{option_map_or}
-use Rattle.std.proofs.lemmas.Bool.{cases_Bool}
-use Rattle.std.proofs.lemmas.List.{append-nil}
-use Rattle.std.proofs.lemmas.List.Elements.{filter-append}
-use Rattle.dom_base.specs.declared.NodeName.{NodeName}
-use Rattle.dom_model.specs.Names.{name_eq, first_of, last_of, items_after}
-use Rattle.dom_model.specs.Tree.{Trees, roots, names_of, trees_below, parent_of, children_of, siblings, next_sibling}
-use Rattle.dom_model.proofs.OwnerLaws.{name_eq-same, name_eq-other}
+use Rattle.dom_base.proofs.Std.{◌≡◌, inl, inr, false, not, List, [], ◌∷◌, ◌++◌, Option, Some, None, refl, sym, ap, subst, ◌∙◌, option_map_or, cases_Bool}
+use Rattle.dom_base.proofs.Std.{append-nil, filter-append}
+use Rattle.dom_model.proofs.Model.{NodeName, name_eq, first_of, last_of, items_after, Trees, roots, names_of, trees_below, parent_of, children_of, siblings}
+use Rattle.dom_model.proofs.Model.{next_sibling, name_eq-same, name_eq-other}
 use Rattle.dom_laws.specs.Siblings.{from_sibling, without_name}
 use Rattle.dom_laws.proofs.Lists.{In, Single, Single-apart, In-right, after-in, filter-all, last_split}
 use Rattle.dom_laws.proofs.Counts.{Once}

@@ -1,12 +1,8 @@
 -- What stands before a node and behind its tree, told by its parent, its children and its siblings.
-use Rattle.std.proofs.Common.{◌≡◌, inl, inr, List, [], ◌∷◌, ◌++◌, Option, Some, None, refl, sym, ap, subst, ◌∙◌, append_assoc}
-use Rattle.std.specs.Option.{option_map_or}
-use Rattle.std.proofs.lemmas.List.{append-nil}
-use Rattle.std.proofs.lemmas.List.Concat.{flat_map-cons}
-use Rattle.std.proofs.lemmas.Grind.{flat_map-append}
-use Rattle.dom_base.specs.declared.NodeName.{NodeName}
-use Rattle.dom_model.specs.Names.{name_eq, first_of, last_of, items_before, items_after}
-use Rattle.dom_model.specs.Tree.{Trees, subtree, inclusive_ancestors, parent_of, children_of, inclusive_descendants, next_sibling, previous_sibling, siblings}
+use Rattle.dom_base.proofs.Std.{◌≡◌, inl, inr, List, [], ◌∷◌, ◌++◌, Option, Some, None, refl, sym, ap, subst, ◌∙◌, append_assoc, option_map_or, append-nil}
+use Rattle.dom_base.proofs.Std.{flat_map-cons, flat_map-append}
+use Rattle.dom_model.proofs.Model.{NodeName, name_eq, first_of, last_of, items_before, items_after, Trees, subtree, inclusive_ancestors, parent_of, children_of}
+use Rattle.dom_model.proofs.Model.{inclusive_descendants, next_sibling, previous_sibling, siblings}
 use Rattle.dom_laws.specs.Within.{ahead_of, behind, beyond, from_node, up_to_node}
 use Rattle.dom_laws.proofs.Lists.{In, In-left, In-right, Single, Single-apart, no_first, no_last, first_split, last_split, split_at, before-split}
 use Rattle.dom_laws.proofs.Lists.{after-split, before-in, after-in}

@@ -1,12 +1,8 @@
 -- Walks along a list by what comes behind an item, as over the tree of a node in tree order.
-use Rattle.std.proofs.Common.{◌≡◌, ℕ, suc, ◌<◌, ◌≤◌, inl, inr, true, false, List, [], ◌∷◌, ◌++◌, length, Option, Some, None}
-use Rattle.std.proofs.Common.{refl, sym, ap, subst, ◌∙◌, arith, true≢false}
-use Rattle.std.proofs.lemmas.Bool.{cases_Bool, cond-true, cond-false}
-use Rattle.dom_base.specs.declared.NodeName.{NodeName}
-use Rattle.dom_model.specs.Names.{name_eq, is_in, first_of, items_before, items_after}
-use Rattle.dom_model.specs.Tree.{Trees, none, tree, nodes, names_of, subtree, or_else, inclusive_ancestors, is_inclusive_ancestor, times_in}
-use Rattle.dom_model.specs.Tree.{inclusive_descendants}
-use Rattle.dom_model.proofs.OwnerLaws.{name_eq-same, name_eq-true, name_eq-turned}
+use Rattle.dom_base.proofs.Std.{◌≡◌, ℕ, suc, ◌<◌, ◌≤◌, inl, inr, true, false, List, [], ◌∷◌, ◌++◌, length, Option, Some, None, refl, sym, ap, subst, ◌∙◌, arith}
+use Rattle.dom_base.proofs.Std.{true≢false, cases_Bool, cond-true, cond-false}
+use Rattle.dom_model.proofs.Model.{NodeName, name_eq, is_in, first_of, items_before, items_after, Trees, none, tree, nodes, names_of, subtree, or_else}
+use Rattle.dom_model.proofs.Model.{inclusive_ancestors, is_inclusive_ancestor, times_in, inclusive_descendants, name_eq-same, name_eq-true, name_eq-turned}
 use Rattle.dom_laws.proofs.Counts.{times_in-none, times_in-tree, one-false, Once, none_or_some}
 use Rattle.dom_laws.proofs.Paths.{path_gone, Lacks, lacks_from, lacks_to, subtree_gone}
 use Rattle.dom_laws.proofs.Relatives.{NoTwice, names_lack}

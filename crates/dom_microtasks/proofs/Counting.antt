@@ -1,12 +1,7 @@
 -- The slots of a log that count, when one more is signalled, and when those of an owner are taken.
-use Rattle.std.proofs.Common.{◌≡◌, ℕ, suc, ◌+◌, ◌≤◌, Bool, true, false, not, List, [], ◌∷◌, ◌++◌, filter, length, refl, sym, ap, ◌∙◌, arith}
-use Rattle.std.specs.Prelude.{nat_le, if◌then◌else◌}
-use Rattle.std.proofs.lemmas.Bool.{le-leb, lt-leb}
-use Rattle.dom_base.specs.declared.Owner.{Owner}
-use Rattle.dom_base.specs.declared.NodeName.{NodeName}
-use Rattle.dom_model.specs.Names.{owner_eq}
-use Rattle.dom_model.specs.Turns.{is_owned_by}
-use Rattle.dom_model.proofs.OwnerLaws.{owner_eq-same, owner_eq-true, owner_eq-false, ne-owner_eq}
+use Rattle.dom_base.proofs.Std.{◌≡◌, ℕ, suc, ◌+◌, ◌≤◌, Bool, true, false, not, List, [], ◌∷◌, ◌++◌, filter, length, refl, sym, ap, ◌∙◌, arith, nat_le}
+use Rattle.dom_base.proofs.Std.{if◌then◌else◌, le-leb, lt-leb}
+use Rattle.dom_model.proofs.Model.{Owner, NodeName, owner_eq, is_owned_by, owner_eq-same, owner_eq-true, owner_eq-false, ne-owner_eq}
 use Rattle.dom_microtasks.specs.Signalled.{counting}
 
 -- two owners are the same whichever is asked first

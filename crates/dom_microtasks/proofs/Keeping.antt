@@ -1,17 +1,8 @@
 -- Signalled slots when one more is signalled, and when those of an owner are taken: what is held then, and what a contract sees.
-use Rattle.std.proofs.Common.{◌≡◌, ℕ, ◌+◌, ◌-◌, ◌≤◌, Bool, true, false, not, ◌&&◌, ◌||◌, List, [], ◌∷◌, ◌++◌, filter, map, length, nat_eq}
-use Rattle.std.proofs.Common.{refl, sym, ap, subst, ◌∙◌, arith}
-use Rattle.std.specs.Prelude.{if◌then◌else◌}
-use Rattle.std.proofs.lemmas.Bool.{cond-true, cond-false, and_parts}
-use Rattle.std.proofs.lemmas.List.{length-map, length_push, map-append, append-nil}
-use Rattle.std.proofs.lemmas.List.Elements.{filter-append}
-use Rattle.std.proofs.lemmas.List.Filters.{length-filter_both}
-use Rattle.std.proofs.lemmas.Map.Views.{any-filter_same}
-use Rattle.dom_base.specs.declared.Owner.{Owner}
-use Rattle.dom_base.specs.declared.NodeName.{NodeName}
-use Rattle.dom_model.specs.Names.{owner_eq, name_eq, node_of, is_in, append_once}
-use Rattle.dom_model.specs.Turns.{is_owned_by}
-use Rattle.dom_model.proofs.OwnerLaws.{owner_eq-same, owner_eq-true}
+use Rattle.dom_base.proofs.Std.{◌≡◌, ℕ, ◌+◌, ◌-◌, ◌≤◌, Bool, true, false, not, ◌&&◌, ◌||◌, List, [], ◌∷◌, ◌++◌, filter, map, length, nat_eq, refl, sym, ap}
+use Rattle.dom_base.proofs.Std.{subst, ◌∙◌, arith, if◌then◌else◌, cond-true, cond-false, and_parts, length-map, length_push, map-append, append-nil}
+use Rattle.dom_base.proofs.Std.{filter-append, length-filter_both, any-filter_same}
+use Rattle.dom_model.proofs.Model.{Owner, NodeName, owner_eq, name_eq, node_of, is_in, append_once, is_owned_by, owner_eq-same, owner_eq-true}
 use Rattle.dom_microtasks.specs.ByOwner.{since_of, numbers_of}
 use Rattle.dom_microtasks.specs.Signalled.{counting, signals_of, IsKept}
 use Rattle.dom_microtasks.specs.declared.signals.Signals.TheInside.{Inside}

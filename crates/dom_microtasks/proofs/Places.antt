@@ -1,13 +1,7 @@
 -- What is kept by owners, where one of them has a place in a list and what stands there is changed.
-use Rattle.std.proofs.Common.{◌≡◌, ℕ, Bool, true, false, ◌&&◌, Option, None, Some, refl, sym, ap, subst, ◌∙◌, true≢false}
-use Rattle.std.specs.Prelude.{nat_eq, nat_lt, slice_index_or, if◌then◌else◌}
-use Rattle.std.specs.Option.{option_map_or}
-use Rattle.std.proofs.lemmas.Bool.{eqb-true, eq-eqb}
-use Rattle.std.proofs.lemmas.Option.{same_Some, none-some}
-use Rattle.dom_base.specs.declared.Owner.{Owner}
-use Rattle.dom_base.specs.Owners.{path_of}
-use Rattle.dom_model.specs.Names.{owner_eq}
-use Rattle.dom_model.proofs.OwnerLaws.{owner_eq-same, owner_eq-true}
+use Rattle.dom_base.proofs.Std.{◌≡◌, ℕ, Bool, true, false, ◌&&◌, Option, None, Some, refl, sym, ap, subst, ◌∙◌, true≢false, nat_eq, nat_lt, slice_index_or}
+use Rattle.dom_base.proofs.Std.{if◌then◌else◌, option_map_or, eqb-true, eq-eqb, same_Some, none-some}
+use Rattle.dom_model.proofs.Model.{Owner, path_of, owner_eq, owner_eq-same, owner_eq-true}
 use Rattle.dom_microtasks.specs.OwnerNumbers.{component, place_of}
 
 -- an owner with a place is the component of that number

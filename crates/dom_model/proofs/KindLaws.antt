@@ -1,5 +1,5 @@
 -- What the tests of kinds tell.
-use Rattle.std.proofs.Common.{◌≡◌, true, false, refl, sym, true≢false}
+use Rattle.dom_base.proofs.Std.{◌≡◌, true, false, refl, sym, true≢false}
 use Rattle.dom_base.specs.declared.Kind.{Kind}
 use Rattle.dom_base.specs.declared.Kind.TheVariants.{Document, Fragment, Shadow, Element, Text, Comment}
 use Rattle.dom_model.specs.Tree.{is_element, has_data}

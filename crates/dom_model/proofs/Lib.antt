@@ -7,3 +7,4 @@ pub mod StepLaws
 pub mod TurnLaws
 pub mod KindLaws
 pub mod ObserverLaws
+pub mod Model

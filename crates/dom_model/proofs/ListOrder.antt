@@ -1,8 +1,7 @@
 -- The order of lists of numbers.
-use Rattle.std.proofs.Common.{◌≡◌, ◌≢◌, ◌⊎◌, inl, inr, ℕ, ◌<◌, true, false, List, [], ◌∷◌, refl, sym, ap, ◌∙◌, arith, true≢false, ltb, eqb}
-use Rattle.std.specs.Prelude.{◌&&◌}
-use Rattle.std.proofs.lemmas.Bool.{cases_Bool, cases_order, or_cases, or_left, or_right, or_parts, and_parts, false_from_ne_true}
-use Rattle.std.proofs.lemmas.Bool.{lt-ltb, ltb-true, ltb-false, eqb-true, eq-eqb}
+use Rattle.dom_base.proofs.Std.{◌≡◌, ◌≢◌, ◌⊎◌, inl, inr, ℕ, ◌<◌, true, false, List, [], ◌∷◌, refl, sym, ap, ◌∙◌, arith, true≢false, ltb, eqb, ◌&&◌, cases_Bool}
+use Rattle.dom_base.proofs.Std.{cases_order, or_cases, or_left, or_right, or_parts, and_parts, false_from_ne_true, lt-ltb, ltb-true, ltb-false, eqb-true}
+use Rattle.dom_base.proofs.Std.{eq-eqb}
 use Rattle.dom_model.specs.Names.{list_before}
 
 -- lists are in order by their first items, or by those behind

@@ -1,6 +1,5 @@
 -- What is found where nothing is registered.
-use Rattle.std.proofs.Common.{◌≡◌, List, [], ◌∷◌, filter, map, refl, ap}
-use Rattle.std.specs.Prelude.{nat_eq}
+use Rattle.dom_base.proofs.Std.{◌≡◌, List, [], ◌∷◌, filter, map, refl, ap, nat_eq}
 use Rattle.dom_base.specs.declared.NodeName.{NodeName}
 use Rattle.dom_model.specs.Names.{name_eq, distinct}
 use Rattle.dom_model.specs.Output.{Change}

@@ -1,5 +1,5 @@
 -- The test of owners that maps and sets make is the one of the definitions.
-use Rattle.std.proofs.Common.{◌≡◌, refl}
+use Rattle.dom_base.proofs.Std.{◌≡◌, refl}
 use Rattle.dom_base.specs.declared.Owner.{Owner}
 use Rattle.dom_base.specs.declared.Owner.TheVariants.{Page, Component}
 use Rattle.dom_base.specs.contracts.OwnerPartialEq.TheImpl as OwnerImpl

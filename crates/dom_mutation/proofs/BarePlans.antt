@@ -1,19 +1,12 @@
 -- The plan of an insertion into a live range asks for the trees and the live ranges alone.
-use Rattle.std.proofs.Common.{◌≡◌, ℕ, ◌+◌, ◌-◌, Bool, true, false, List, [], ◌∷◌, ◌++◌, drop, length, Option, Some, None, refl, ap, ◌∙◌}
-use Rattle.std.specs.Prelude.{if◌then◌else◌}
-use Rattle.std.specs.Option.{option_map_or}
-use Rattle.dom_base.specs.declared.NodeName.{NodeName}
-use Rattle.dom_model.specs.Changes.{Plan, ◌and_then◌, in_turn, doing, steps_of, Observing, observed, suppressed, telling, remove_plan, changing_document}
-use Rattle.dom_model.specs.Changes.{adopt_plan, document_below, placed_nodes, emptying, making_room, placing, sibling_before, inserting_nodes}
-use Rattle.dom_model.specs.Changes.{insert_plan, reference_child, pre_insert_plan}
-use Rattle.dom_model.specs.Names.{is_empty}
-use Rattle.dom_model.specs.Output.{child_list}
-use Rattle.dom_model.specs.Part.{Part, next_name}
-use Rattle.dom_model.specs.RangeOps.{insertion_parent, start_reference, ending_at, inserting_before, inserting_at, inserting_into_range}
-use Rattle.dom_model.specs.Ranges.{Range, at}
-use Rattle.dom_model.specs.Steps.{Step, make, place, split_at, queue_record, after}
-use Rattle.dom_model.specs.TextChanges.{replacing_data, new_text_node, placing_tail, splitting}
-use Rattle.dom_model.specs.Tree.{node_in, kind_of, is_text, is_fragment, parent_of, index_of, length_of, next_sibling}
+use Rattle.dom_base.proofs.Std.{◌≡◌, ℕ, ◌+◌, ◌-◌, Bool, true, false, List, [], ◌∷◌, ◌++◌, drop, length, Option, Some, None, refl, ap, ◌∙◌, if◌then◌else◌}
+use Rattle.dom_base.proofs.Std.{option_map_or}
+use Rattle.dom_model.proofs.Model.{NodeName, Plan, ◌and_then◌, in_turn, doing, steps_of, Observing, observed, suppressed, telling, remove_plan}
+use Rattle.dom_model.proofs.Model.{changing_document, adopt_plan, document_below, placed_nodes, emptying, making_room, placing, sibling_before, inserting_nodes}
+use Rattle.dom_model.proofs.Model.{insert_plan, reference_child, pre_insert_plan, is_empty, child_list, Part, next_name, insertion_parent, start_reference}
+use Rattle.dom_model.proofs.Model.{ending_at, inserting_before, inserting_at, inserting_into_range, Range, at, Step, make, place, split_at, queue_record, after}
+use Rattle.dom_model.proofs.Model.{replacing_data, new_text_node, placing_tail, splitting, node_in, kind_of, is_text, is_fragment, parent_of, index_of}
+use Rattle.dom_model.proofs.Model.{length_of, next_sibling}
 use Rattle.dom_mutation.proofs.ReadyEnds.{bare, bare-after}
 
 -- a plan makes the same steps with the other tables left out

@@ -1,24 +1,13 @@
 -- After a plan, or a part of one, live ranges' offsets are within lengths in the state that it leaves, if they were: so the next
 -- step that asks for that may be made.
-use Rattle.std.proofs.Common.{◌≡◌, ℕ, ◌+◌, ◌<◌, ◌≤◌, true, false, None, Some, List, [], Option, length, refl, subst, sym, ap, arith}
-use Rattle.std.proofs.lemmas.Bool.{ltb-false}
-use Rattle.dom_base.specs.declared.NodeName.{NodeName}
-use Rattle.dom_base.specs.declared.Owner.{Owner}
-use Rattle.dom_model.specs.Changes.{Plan, Observing, suppressed, in_turn, doing, remove_plan, emptying}
-use Rattle.dom_model.specs.CommandRefusals.{past_limit}
-use Rattle.dom_model.specs.Names.{DomString}
-use Rattle.dom_model.specs.Output.{Change, child_list}
-use Rattle.dom_model.specs.Steps.{make, queue_record, after}
-use Rattle.dom_model.specs.TextChanges.{replacing_data, new_text_node}
-use Rattle.dom_model.specs.Part.{Part, next_name}
-use Rattle.dom_model.specs.Tree.{Node, has_data, kind_of, children_of, parent_of, index_of}
-use Rattle.dom_model.specs.World.{World, part_of}
-use Rattle.dom_worlds.specs.Bounds.{HasBounds}
-use Rattle.dom_worlds.specs.Worlds.{IsPart}
+use Rattle.dom_base.proofs.Std.{◌≡◌, ℕ, ◌+◌, ◌<◌, ◌≤◌, true, false, None, Some, List, [], Option, length, refl, subst, sym, ap, arith, ltb-false}
+use Rattle.dom_model.proofs.Model.{NodeName, Owner, Plan, Observing, suppressed, in_turn, doing, remove_plan, emptying, past_limit, DomString, Change}
+use Rattle.dom_model.proofs.Model.{child_list, make, queue_record, after, replacing_data, new_text_node, Part, next_name, Node, has_data, kind_of, children_of}
+use Rattle.dom_model.proofs.Model.{parent_of, index_of, World, part_of}
+use Rattle.dom_worlds.specs.Definitions.{HasBounds, IsPart}
 use Rattle.dom_worlds.proofs.RangeLemmas.{make-keeps, queue_record-keeps, removal-keeps, data-keeps}
-use Rattle.dom_tree.specs.Forest.{name_at}
-use Rattle.dom_parts.specs.Doc.{DocState, owner_in, planned}
-use Rattle.dom_parts.specs.Hosting.{PlansOwn, IsAlone}
+use Rattle.dom_tree.specs.Definitions.{name_at}
+use Rattle.dom_parts.specs.Definitions.{DocState, owner_in, planned, PlansOwn, IsAlone}
 use Rattle.dom_parts.proofs.BoundedPlans.{removals-keep, emptying-keeps, index_few}
 use Rattle.dom_parts.proofs.OwnParts.{children_few}
 use Rattle.dom_parts.proofs.Made.{plan_alone}

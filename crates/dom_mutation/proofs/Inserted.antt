@@ -1,27 +1,11 @@
 -- Insertions as their plans: of one node, and of a fragment's children.
-use Rattle.std.proofs.Common.{◌≡◌, ℕ, ◌<◌, ◌≤◌, Bool, true, false, List, [], ◌∷◌, length, map, Option, Some, refl, sym, ap, subst, ◌∙◌, arith}
-use Rattle.std.specs.Prelude.{if◌then◌else◌, ◌==◌}
-use Rattle.std.specs.List.{AllByRecursion}
-use Rattle.std.specs.Option.{ForSome}
-use Rattle.std.proofs.lemmas.Bool.{cond-false}
-use Rattle.dom_base.specs.declared.NodeName.{NodeName}
-use Rattle.dom_base.specs.declared.Owner.{Owner}
-use Rattle.dom_model.specs.Names.{is_empty}
-use Rattle.dom_model.specs.Tree.{Trees, none, tree, roots, names_of, trees_below, subtree, children_of, kind_of, is_fragment, inclusive_ancestors}
-use Rattle.dom_model.specs.Tree.{times_in, is_inclusive_ancestor}
-use Rattle.dom_model.specs.Output.{child_list}
-use Rattle.dom_model.specs.Part.{Part}
-use Rattle.dom_model.specs.Steps.{Step}
-use Rattle.dom_model.specs.World.{part_of}
-use Rattle.dom_model.specs.WorldSteps.{world_after}
-use Rattle.dom_model.specs.Changes.{Plan, Observing, ◌and_then◌, in_turn, steps_of, telling, emptying, making_room, placing, sibling_before, insert_plan}
-use Rattle.dom_model.proofs.OwnerLaws.{name_eq-same}
-use Rattle.dom_laws.proofs.Counts.{times_in-tree, one-true}
-use Rattle.dom_parts.specs.Doc.{DocState, planned, placed_all, name_in, owner_in, trees_in, MayMove, IsChild, NoneAbove}
-use Rattle.dom_parts.specs.Hosting.{PlansOwn, IsAlone}
-use Rattle.dom_laws.proofs.Paths.{Lacks, lacks_from, lacks_to}
-use Rattle.dom_laws.proofs.Moves.{below_lacks}
-use Rattle.dom_laws.proofs.Relatives.{Each, each_all, parent_path}
+use Rattle.dom_base.proofs.Std.{◌≡◌, ℕ, ◌<◌, ◌≤◌, Bool, true, false, List, [], ◌∷◌, length, map, Option, Some, refl, sym, ap, subst, ◌∙◌, arith, if◌then◌else◌}
+use Rattle.dom_base.proofs.Std.{◌==◌, AllByRecursion, ForSome, cond-false}
+use Rattle.dom_model.proofs.Model.{NodeName, Owner, is_empty, Trees, none, tree, roots, names_of, trees_below, subtree, children_of, kind_of, is_fragment}
+use Rattle.dom_model.proofs.Model.{inclusive_ancestors, times_in, is_inclusive_ancestor, child_list, Part, Step, part_of, world_after, Plan, Observing}
+use Rattle.dom_model.proofs.Model.{◌and_then◌, in_turn, steps_of, telling, emptying, making_room, placing, sibling_before, insert_plan, name_eq-same}
+use Rattle.dom_laws.proofs.Laws.{times_in-tree, one-true, Lacks, lacks_from, lacks_to, below_lacks, Each, each_all, parent_path}
+use Rattle.dom_parts.specs.Definitions.{DocState, planned, placed_all, name_in, owner_in, trees_in, MayMove, IsChild, NoneAbove, PlansOwn, IsAlone}
 use Rattle.dom_parts.proofs.Made.{planned_then}
 use Rattle.dom_parts.proofs.OwnPlans.{plans_then, plans_turn, plans_each_own, plans_room, plans_placing, plans_emptying, children_own}
 use Rattle.dom_mutation.proofs.Placed.{Counted, once_in, before_lacks}

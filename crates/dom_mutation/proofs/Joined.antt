@@ -1,31 +1,17 @@
 -- Normalization: the Texts directly after a Text, their data, and the Texts below a node.
-use Rattle.std.proofs.Common.{◌≡◌, ℕ, suc, ◌<◌, ◌≤◌, inl, inr, Bool, true, false, List, [], ◌∷◌, ◌++◌, drop, length, map, Option, Some, None}
-use Rattle.std.proofs.Common.{option_map, refl, sym, ap, subst, ◌∙◌, arith}
-use Rattle.std.specs.Prelude.{◌==◌, filter, flat_map, take_while, if◌then◌else◌}
-use Rattle.std.specs.List.{AllByRecursion}
-use Rattle.std.specs.Option.{ForSome, option_map_or}
-use Rattle.std.proofs.lemmas.Bool.{cases_Bool, cond-true, cond-false, or_left}
-use Rattle.std.proofs.lemmas.List.{map-append, append-nil, append_assoc, drop-append-le}
-use Rattle.std.proofs.lemmas.List.Elements.{filter-append}
-use Rattle.std.proofs.lemmas.List.Sums.{take_while-cons}
-use Rattle.dom_base.specs.declared.NodeName.{NodeName}
-use Rattle.dom_base.specs.declared.Owner.{Owner}
-use Rattle.dom_model.specs.Names.{DomString, name_eq, first_of, is_empty, is_in, items_before, items_after}
-use Rattle.dom_model.specs.Tree.{Trees, kind_of, is_text, node_in, length_of, siblings, children_of, parent_of, next_sibling, inclusive_ancestors}
-use Rattle.dom_model.specs.Tree.{times_in, is_inclusive_ancestor, subtree, inclusive_descendants}
-use Rattle.dom_model.specs.Steps.{Step}
-use Rattle.dom_model.specs.World.{part_of}
-use Rattle.dom_model.specs.WorldSteps.{world_after}
-use Rattle.dom_model.specs.Changes.{observed, remove_plan}
-use Rattle.dom_model.specs.TextChanges.{contiguous_texts_after, joining, normalizing_text}
-use Rattle.dom_model.proofs.OwnerLaws.{name_eq-same}
-use Rattle.dom_tree.specs.Forest.{name_at}
-use Rattle.dom_parts.specs.Doc.{DocState, planned, name_in, owner_in, trees_in, IsOwnNode}
-use Rattle.dom_laws.proofs.Paths.{Lacks, swapped, path_none, path_gone, path_head}
-use Rattle.dom_laws.proofs.Counts.{Once, none_or_some, once_subtree}
-use Rattle.dom_laws.proofs.Relatives.{NoTwice, children_once, next_child, names_once}
+use Rattle.dom_base.proofs.Std.{◌≡◌, ℕ, suc, ◌<◌, ◌≤◌, inl, inr, Bool, true, false, List, [], ◌∷◌, ◌++◌, drop, length, map, Option, Some, None, option_map}
+use Rattle.dom_base.proofs.Std.{refl, sym, ap, subst, ◌∙◌, arith, ◌==◌, filter, flat_map, take_while, if◌then◌else◌, AllByRecursion, ForSome, option_map_or}
+use Rattle.dom_base.proofs.Std.{cases_Bool, cond-true, cond-false, or_left, map-append, append-nil, append_assoc, drop-append-le, filter-append}
+use Rattle.dom_base.proofs.Std.{take_while-cons}
+use Rattle.dom_model.proofs.Model.{NodeName, Owner, DomString, name_eq, first_of, is_empty, is_in, items_before, items_after, Trees, kind_of, is_text, node_in}
+use Rattle.dom_model.proofs.Model.{length_of, siblings, children_of, parent_of, next_sibling, inclusive_ancestors, times_in, is_inclusive_ancestor, subtree}
+use Rattle.dom_model.proofs.Model.{inclusive_descendants, Step, part_of, world_after, observed, remove_plan, contiguous_texts_after, joining, normalizing_text}
+use Rattle.dom_model.proofs.Model.{name_eq-same}
+use Rattle.dom_tree.specs.Definitions.{name_at}
+use Rattle.dom_parts.specs.Definitions.{DocState, planned, name_in, owner_in, trees_in, IsOwnNode}
+use Rattle.dom_laws.proofs.Laws.{Lacks, swapped, path_none, path_gone, path_head, Once, none_or_some, once_subtree, NoTwice, children_once, next_child}
+use Rattle.dom_laws.proofs.Laws.{names_once, walked, StandsIn, left, Walks, walks, first_inside}
 use Rattle.dom_mutation.proofs.Placed.{Counted, once_in}
-use Rattle.dom_laws.proofs.Walks.{walked, StandsIn, left, Walks, walks, first_inside}
 use Rattle.dom_mutation.proofs.Listing.{all_push}
 use Rattle.dom_mutation.proofs.Replaced.{lacks_after}
 

@@ -1,20 +1,12 @@
 -- A Text got the data of those directly after it: the live ranges' offsets are within lengths then, each join fits, and the joins
 -- are those that were planned before.
-use Rattle.std.proofs.Common.{◌≡◌, ℕ, true, List, map, Some, sym, ap, subst, ◌∙◌}
-use Rattle.std.specs.Prelude.{flat_map}
-use Rattle.dom_base.specs.declared.NodeName.{NodeName}
-use Rattle.dom_model.specs.Names.{DomString}
-use Rattle.dom_model.specs.Part.{Part}
-use Rattle.dom_model.specs.Steps.{after}
-use Rattle.dom_model.specs.TextChanges.{replacing_data, joins, contiguous_texts_after}
-use Rattle.dom_model.specs.Tree.{node_in, has_node, is_text, kind_of, parent_of, length_of}
-use Rattle.dom_model.specs.World.{part_of}
-use Rattle.dom_worlds.specs.Bounds.{HasBounds}
-use Rattle.dom_worlds.specs.Worlds.{IsPart}
+use Rattle.dom_base.proofs.Std.{◌≡◌, ℕ, true, List, map, Some, sym, ap, subst, ◌∙◌, flat_map}
+use Rattle.dom_model.proofs.Model.{NodeName, DomString, Part, after, replacing_data, joins, contiguous_texts_after, node_in, has_node, is_text, kind_of}
+use Rattle.dom_model.proofs.Model.{parent_of, length_of, part_of}
+use Rattle.dom_worlds.specs.Definitions.{HasBounds, IsPart}
 use Rattle.dom_worlds.proofs.RangeLemmas.{text-data}
-use Rattle.dom_tree.specs.Forest.{name_at}
-use Rattle.dom_parts.specs.Doc.{DocState, JoinsFit, name_in, owner_in, trees_in, planned}
-use Rattle.dom_parts.specs.Hosting.{IsAlone}
+use Rattle.dom_tree.specs.Definitions.{name_at}
+use Rattle.dom_parts.specs.Definitions.{DocState, JoinsFit, name_in, owner_in, trees_in, planned, IsAlone}
 use Rattle.dom_mutation.proofs.BoundedDocs.{bounds_grown}
 use Rattle.dom_parts.proofs.BoundedPlans.{joining-joins_fit}
 use Rattle.dom_mutation.proofs.ExactJoins.{joins_after}

@@ -1,16 +1,10 @@
 -- The loop that lists a node's children.
-use Rattle.std.proofs.Common.{◌≡◌, ℕ, ◌<◌, inl, inr, true, List, [], ◌∷◌, ◌++◌, length, map, Option, Some, None, option_map, refl, sym, ap, subst, ◌∙◌}
-use Rattle.std.specs.List.{AllByRecursion}
-use Rattle.std.specs.Option.{ForSome}
-use Rattle.std.proofs.lemmas.List.{map-append}
-use Rattle.dom_base.specs.declared.NodeName.{NodeName}
-use Rattle.dom_model.specs.Names.{name_eq, first_of, items_after, items_before, is_in}
-use Rattle.dom_model.specs.Tree.{parent_of, children_of, next_sibling}
-use Rattle.dom_model.specs.World.{part_of}
-use Rattle.dom_model.proofs.OwnerLaws.{name_eq-same, name_eq-true}
-use Rattle.dom_parts.specs.Doc.{DocState, name_in, owner_in, trees_in, IsOwnNode}
-use Rattle.dom_laws.proofs.Relatives.{Each, children_parent, children_once, next_walked}
-use Rattle.dom_laws.proofs.Walks.{walked, left, StandsIn, Walks, walks}
+use Rattle.dom_base.proofs.Std.{◌≡◌, ℕ, ◌<◌, inl, inr, true, List, [], ◌∷◌, ◌++◌, length, map, Option, Some, None, option_map, refl, sym, ap, subst, ◌∙◌}
+use Rattle.dom_base.proofs.Std.{AllByRecursion, ForSome, map-append}
+use Rattle.dom_model.proofs.Model.{NodeName, name_eq, first_of, items_after, items_before, is_in, parent_of, children_of, next_sibling, part_of, name_eq-same}
+use Rattle.dom_model.proofs.Model.{name_eq-true}
+use Rattle.dom_parts.specs.Definitions.{DocState, name_in, owner_in, trees_in, IsOwnNode}
+use Rattle.dom_laws.proofs.Laws.{Each, children_parent, children_once, next_walked, walked, left, StandsIn, Walks, walks}
 use Rattle.dom_mutation.proofs.Placed.{Counted, once_in}
 
 -- how far it has come: these keys are listed, and it stands there

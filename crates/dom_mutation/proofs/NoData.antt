@@ -1,29 +1,17 @@
 -- Where code units of a node that is no Text or Comment are to go, its children stay, and live ranges past them fall back: their ends are
 -- within their nodes still.
-use Rattle.std.proofs.Common.{◌≡◌, ℕ, ◌+◌, ◌-◌, false, not, ◌||◌, List, [], ◌∷◌, map, length, Option, Some, None, option_map, refl, sym, ap}
-use Rattle.std.proofs.Common.{◌∙◌, arith, true≢false}
-use Rattle.std.specs.Prelude.{if◌then◌else◌, nat_le, min}
-use Rattle.std.specs.List.{AllByRecursion}
-use Rattle.std.proofs.lemmas.Bool.{cond-false, or_parts, not-false, leb-false}
-use Rattle.dom_base.specs.declared.NodeName.{NodeName}
-use Rattle.dom_model.specs.Names.{name_eq}
-use Rattle.dom_model.specs.Output.{character_data}
-use Rattle.dom_model.specs.Part.{Part}
-use Rattle.dom_model.specs.Place.{Boundary}
-use Rattle.dom_model.specs.Ranges.{Range, at, map_ends, after_replace_data}
-use Rattle.dom_model.specs.Steps.{queue_record, replace_data, part_step, after}
-use Rattle.dom_model.specs.TextChanges.{replacing_data}
-use Rattle.dom_model.specs.Tree.{Trees, Node, times_in, node_in, kind_of, has_data, length_of}
-use Rattle.dom_model.specs.TreeChanges.{map_nodes, with_data_replaced}
-use Rattle.dom_model.proofs.OwnerLaws.{name_eq-true}
-use Rattle.dom_worlds.specs.Bounds.{HasBounds}
-use Rattle.dom_worlds.specs.Worlds.{IsPart}
+use Rattle.dom_base.proofs.Std.{◌≡◌, ℕ, ◌+◌, ◌-◌, false, not, ◌||◌, List, [], ◌∷◌, map, length, Option, Some, None, option_map, refl, sym, ap, ◌∙◌, arith}
+use Rattle.dom_base.proofs.Std.{true≢false, if◌then◌else◌, nat_le, min, AllByRecursion, cond-false, or_parts, not-false, leb-false}
+use Rattle.dom_model.proofs.Model.{NodeName, name_eq, character_data, Part, Boundary, Range, at, map_ends, after_replace_data, queue_record, replace_data}
+use Rattle.dom_model.proofs.Model.{part_step, after, replacing_data, Trees, Node, times_in, node_in, kind_of, has_data, length_of, map_nodes}
+use Rattle.dom_model.proofs.Model.{with_data_replaced, name_eq-true}
+use Rattle.dom_worlds.specs.Definitions.{HasBounds, IsPart}
 use Rattle.dom_worlds.proofs.RangeLemmas.{Under, RangeUnder, reach, nowhere, HasRoom, length-like, ranges-more, room-of, bounds-of}
 use Rattle.dom_worlds.proofs.TreeLemmas.{kids-absent, kids-map_nodes, node-map_nodes, length-kids, length-absent, times-map_nodes}
 use Rattle.dom_worlds.proofs.CommandLemmas.{name-node_in}
 use Rattle.dom_worlds.proofs.PlanLemmas.{KeepsNames, some-keeps, leads-replacing_data}
 use Rattle.dom_worlds.proofs.ListLemmas.{by_cases, which_way}
-use Rattle.dom_laws.proofs.Counts.{Once, by_times}
+use Rattle.dom_laws.proofs.Laws.{Once, by_times}
 
 -- ends that fall back
 module _ (c : NodeName → ℕ) (x : NodeName) (offset count : ℕ) where

@@ -1,24 +1,14 @@
 -- Loops that normalize Texts, one after another.
-use Rattle.std.proofs.Common.{◌≡◌, ℕ, suc, Bool, true, false, ◌+◌, ◌<◌, get_or, drop-cons, add-one, List, [], ◌∷◌, drop, length, map, refl, sym}
-use Rattle.std.proofs.Common.{ap, subst, ◌∙◌}
-use Rattle.std.specs.List.{AllByRecursion}
-use Rattle.std.specs.Prelude.{filter, if◌then◌else◌}
-use Rattle.dom_base.specs.declared.NodeName.{NodeName}
-use Rattle.dom_model.specs.Changes.{in_turn}
-use Rattle.dom_model.specs.Steps.{after}
-use Rattle.dom_model.specs.TextChanges.{normalizing_text}
-use Rattle.dom_model.specs.Tree.{has_node, kind_of, is_text}
-use Rattle.dom_model.specs.Part.{Part}
-use Rattle.dom_model.specs.World.{part_of}
-use Rattle.dom_worlds.specs.Bounds.{HasBounds}
-use Rattle.dom_worlds.specs.Worlds.{IsPart}
-use Rattle.dom_tree.specs.Forest.{name_at}
-use Rattle.dom_parts.specs.Doc.{DocState, IsOwnNode, name_in, owner_in, trees_in, planned}
-use Rattle.dom_parts.specs.Hosting.{IsAlone}
+use Rattle.dom_base.proofs.Std.{◌≡◌, ℕ, suc, Bool, true, false, ◌+◌, ◌<◌, get_or, drop-cons, add-one, List, [], ◌∷◌, drop, length, map, refl, sym, ap, subst}
+use Rattle.dom_base.proofs.Std.{◌∙◌, AllByRecursion, filter, if◌then◌else◌}
+use Rattle.dom_model.proofs.Model.{NodeName, in_turn, after, normalizing_text, has_node, kind_of, is_text, Part, part_of}
+use Rattle.dom_worlds.specs.Definitions.{HasBounds, IsPart}
+use Rattle.dom_tree.specs.Definitions.{name_at}
+use Rattle.dom_parts.specs.Definitions.{DocState, IsOwnNode, name_in, owner_in, trees_in, planned, IsAlone}
 use Rattle.dom_worlds.proofs.CommandLemmas.{has_node-times}
 use Rattle.dom_worlds.proofs.PlanLemmas.{leads-normalizing_text}
 use Rattle.dom_parts.proofs.BoundedPlans.{normalized_text-keeps, normalized_text-leaves}
-use Rattle.dom_laws.proofs.Lists.{all_drop}
+use Rattle.dom_laws.proofs.Laws.{all_drop}
 use Rattle.dom_parts.proofs.Made.{alone_made, plan_alone, planned_turn}
 use Rattle.dom_parts.proofs.OwnPlans.{plans_normalizing_text}
 

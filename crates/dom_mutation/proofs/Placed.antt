@@ -1,24 +1,12 @@
 -- The trees after adoptions and placings, and what they keep.
-use Rattle.std.proofs.Common.{◌≡◌, ℕ, ◌<◌, ◌≤◌, ◌⊎◌, inl, inr, Bool, true, false, not, List, [], ◌∷◌, drop, length, Option, Some, None, option_map}
-use Rattle.std.proofs.Common.{refl, sym, ap, subst, ◌∙◌}
-use Rattle.std.specs.Prelude.{if◌then◌else◌, count_by}
-use Rattle.std.specs.Option.{option_map_or, ForSome}
-use Rattle.dom_base.specs.declared.NodeName.{NodeName}
-use Rattle.dom_base.specs.declared.Owner.{Owner}
-use Rattle.dom_model.specs.Names.{name_eq, first_of, is_in}
-use Rattle.dom_model.specs.Tree.{Trees, nodes, next_sibling, parent_of, inclusive_ancestors, is_inclusive_ancestor}
-use Rattle.dom_model.specs.TreeChanges.{taken_out, placed, change_subtree, with_document}
-use Rattle.dom_model.specs.Part.{Part}
-use Rattle.dom_model.specs.Steps.{place, take_out, set_document, after, part_step, leave}
-use Rattle.dom_model.specs.World.{part_of}
-use Rattle.dom_model.specs.Changes.{Observing, observed, suppressed, remove_plan, removing_from, changing_document, adopt_plan, has_document, only_if}
-use Rattle.dom_tree.specs.Forest.{name_at}
-use Rattle.dom_parts.specs.Doc.{DocState, planned, stepped, name_in, owner_in, trees_in, MayMove, IsChild, KeepsPaths}
-use Rattle.dom_parts.specs.Hosting.{IsAlone}
-use Rattle.dom_laws.proofs.Paths.{Lacks, lacks_from}
-use Rattle.dom_laws.proofs.Counts.{Once, once_counted}
-use Rattle.dom_laws.proofs.Moves.{path_taken, path_placed, parent_taken}
-use Rattle.dom_laws.proofs.Relatives.{path_mapped, parent_path, next_child}
+use Rattle.dom_base.proofs.Std.{◌≡◌, ℕ, ◌<◌, ◌≤◌, ◌⊎◌, inl, inr, Bool, true, false, not, List, [], ◌∷◌, drop, length, Option, Some, None, option_map, refl, sym}
+use Rattle.dom_base.proofs.Std.{ap, subst, ◌∙◌, if◌then◌else◌, count_by, option_map_or, ForSome}
+use Rattle.dom_model.proofs.Model.{NodeName, Owner, name_eq, first_of, is_in, Trees, nodes, next_sibling, parent_of, inclusive_ancestors, is_inclusive_ancestor}
+use Rattle.dom_model.proofs.Model.{taken_out, placed, change_subtree, with_document, Part, place, take_out, set_document, after, part_step, leave, part_of}
+use Rattle.dom_model.proofs.Model.{Observing, observed, suppressed, remove_plan, removing_from, changing_document, adopt_plan, has_document, only_if}
+use Rattle.dom_tree.specs.Definitions.{name_at}
+use Rattle.dom_parts.specs.Definitions.{DocState, planned, stepped, name_in, owner_in, trees_in, MayMove, IsChild, KeepsPaths, IsAlone}
+use Rattle.dom_laws.proofs.Laws.{Lacks, lacks_from, Once, once_counted, path_taken, path_placed, parent_taken, path_mapped, parent_path, next_child}
 use Rattle.dom_parts.proofs.Made.{after_append, trees_after, alone_made}
 use Rattle.dom_parts.proofs.OwnPlans.{plans_removing, plans_adopting}
 

@@ -1,36 +1,13 @@
 -- What a call of a `Doc` leaves is ready, by what its contract says of the world.
-use Rattle.std.proofs.Common.{◌≡◌, ◌↔◌, ◌<◌, ℕ, zero, suc, Bool, true, false, true≢false, List, [], ◌∷◌, length, Option, Some, Ok, Err, refl, sym, ap}
-use Rattle.std.proofs.Common.{◌∙◌, subst}
-use Rattle.std.specs.Prelude.{OnOk, OnErr, IfOk, Result, IsTrue, is_some, slice_get, slice_set}
-use Rattle.std.specs.List.{AllByRecursion}
-use Rattle.std.specs.Option.{option_flatten}
-use Rattle.std.proofs.lemmas.Result.{on_ok_weaker}
-use Rattle.dom_base.specs.declared.NodeName.{NodeName}
-use Rattle.dom_base.specs.declared.Owner.{Owner}
-use Rattle.dom_base.specs.declared.Refusal.{Refusal}
-use Rattle.dom_base.specs.declared.Refusal.TheVariants.{IndexSize}
-use Rattle.dom_model.specs.Changes.{Plan, doing}
-use Rattle.dom_model.specs.Command.{Command, NodeWord, own, effect}
-use Rattle.dom_model.specs.CommandNames.{named}
-use Rattle.dom_model.specs.CommandRefusals.{past_end}
-use Rattle.dom_model.specs.Names.{node_of}
-use Rattle.dom_model.specs.Output.{Value, Said, nothing}
-use Rattle.dom_model.specs.Part.{Part, first_node, range_at}
-use Rattle.dom_model.specs.Ranges.{Range}
-use Rattle.dom_model.specs.Steps.{Step, make, set_document, set_range, part_step, after}
-use Rattle.dom_model.specs.Tree.{Trees, Node, has_node, is_shadow}
-use Rattle.dom_model.specs.Turns.{notified}
-use Rattle.dom_model.specs.World.{World, part_of, with_part}
-use Rattle.dom_model.proofs.PartLaws.{owner-part_of}
-use Rattle.dom_model.proofs.StepLaws.{owner-part_step, part_of-stepped}
-use Rattle.dom_worlds.specs.Bounds.{EndsWithin}
-use Rattle.dom_worlds.specs.Tables.{EndsIn, IsNodeIn}
-use Rattle.dom_worlds.specs.Worlds.{IsPart}
+use Rattle.dom_base.proofs.Std.{◌≡◌, ◌↔◌, ◌<◌, ℕ, zero, suc, Bool, true, false, true≢false, List, [], ◌∷◌, length, Option, Some, Ok, Err, refl, sym, ap, ◌∙◌}
+use Rattle.dom_base.proofs.Std.{subst, OnOk, OnErr, IfOk, Result, IsTrue, is_some, slice_get, slice_set, AllByRecursion, option_flatten, on_ok_weaker}
+use Rattle.dom_model.proofs.Model.{NodeName, Owner, Refusal, IndexSize, Plan, doing, Command, NodeWord, own, effect, named, past_end, node_of, Value, Said}
+use Rattle.dom_model.proofs.Model.{nothing, Part, first_node, range_at, Range, Step, make, set_document, set_range, part_step, after, Trees, Node, has_node}
+use Rattle.dom_model.proofs.Model.{is_shadow, notified, World, part_of, with_part, owner-part_of, owner-part_step, part_of-stepped}
+use Rattle.dom_worlds.specs.Definitions.{EndsWithin, EndsIn, IsNodeIn, IsPart}
 use Rattle.dom_worlds.proofs.PlanLemmas.{Fits, MadeIn}
-use Rattle.dom_parts.specs.Calls.{SetsEnd}
-use Rattle.dom_parts.specs.Doc.{DocState, Makes, MakesSaying, made, planned, stepped, name_in, owner_in, trees_in}
-use Rattle.dom_parts.specs.Hosting.{IsAlone, SetsOwnDocuments}
-use Rattle.dom_mutation.specs.Ready.{IsReadyPart, AreReady, IsReady, MayStand}
+use Rattle.dom_parts.specs.Definitions.{SetsEnd, DocState, Makes, MakesSaying, made, planned, stepped, name_in, owner_in, trees_in, IsAlone, SetsOwnDocuments}
+use Rattle.dom_mutation.specs.Definitions.{IsReadyPart, AreReady, IsReady, MayStand}
 use Rattle.dom_mutation.proofs.ReadyPlans.{KeepReady, ready-make, ready-set_range}
 use Rattle.dom_mutation.proofs.ReadyTables.{ReadyEffect, ready-makes, ready-same}
 use Rattle.dom_mutation.proofs.ReadyWorlds.{ready-made, ready-written}

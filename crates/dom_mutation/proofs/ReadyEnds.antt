@@ -1,21 +1,11 @@
 -- Steps keep both ends of a live range at nodes of one tree, whatever else the part holds. The laws for this speak of all tables, so
 -- they are read of a part without the others.
-use Rattle.std.proofs.Common.{◌≡◌, ℕ, List, [], ◌∷◌, ◌++◌, fold, Option, Some, None, refl, sym, ap, subst, ◌∙◌}
-use Rattle.std.specs.Prelude.{nat_eq, slice_set}
-use Rattle.std.specs.List.{AllByRecursion}
-use Rattle.std.specs.Option.{option_map_or}
-use Rattle.dom_base.specs.declared.NodeName.{NodeName}
-use Rattle.dom_model.specs.Names.{append_once}
-use Rattle.dom_model.specs.Observers.{Registration, target_of}
-use Rattle.dom_model.specs.Output.{Change}
-use Rattle.dom_model.specs.Part.{Part, queue_of}
-use Rattle.dom_model.specs.Steps.{Step, make, make_room, place, take_out, set_document, set_attribute, replace_data, split_at, join_at, set_range}
-use Rattle.dom_model.specs.Steps.{queue_record, part_step, leave, after, record_in}
-use Rattle.dom_model.specs.Tree.{inclusive_ancestors, parent_of}
-use Rattle.dom_model.proofs.ObserverLaws.{none_interested, none_transient}
-use Rattle.dom_worlds.specs.Bounds.{HasBounds}
-use Rattle.dom_worlds.specs.Tables.{EndsIn, HasTables}
-use Rattle.dom_worlds.specs.Worlds.{IsPart}
+use Rattle.dom_base.proofs.Std.{◌≡◌, ℕ, List, [], ◌∷◌, ◌++◌, fold, Option, Some, None, refl, sym, ap, subst, ◌∙◌, nat_eq, slice_set, AllByRecursion}
+use Rattle.dom_base.proofs.Std.{option_map_or}
+use Rattle.dom_model.proofs.Model.{NodeName, append_once, Registration, target_of, Change, Part, queue_of, Step, make, make_room, place, take_out, set_document}
+use Rattle.dom_model.proofs.Model.{set_attribute, replace_data, split_at, join_at, set_range, queue_record, part_step, leave, after, record_in}
+use Rattle.dom_model.proofs.Model.{inclusive_ancestors, parent_of, none_interested, none_transient}
+use Rattle.dom_worlds.specs.Definitions.{HasBounds, EndsIn, HasTables, IsPart}
 use Rattle.dom_worlds.proofs.PlanLemmas.{tables-after, Fits, MadeIn}
 
 -- the part with its trees and live ranges alone

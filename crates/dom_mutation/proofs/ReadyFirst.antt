@@ -1,20 +1,12 @@
 -- A part with one node alone is ready, and so is one without nodes: the first world, what was given up, and a world with one component
 -- more.
-use Rattle.std.proofs.Common.{◌≡◌, List, [], ◌∷◌, ◌++◌, drop, length, Option, None, refl}
-use Rattle.dom_base.specs.declared.Kind.{Kind}
-use Rattle.dom_base.specs.declared.Kind.TheVariants.{Document, Shadow}
-use Rattle.dom_base.specs.declared.NodeName.{NodeName}
-use Rattle.dom_base.specs.declared.Owner.{Owner}
-use Rattle.dom_base.specs.declared.Owner.TheVariants.{Page, Component}
-use Rattle.dom_model.specs.DocumentMachine.{first_world, part_with_root, new_root, attaching}
-use Rattle.dom_model.specs.Names.{name_eq, node_of, first_of}
-use Rattle.dom_model.specs.Part.{Part, empty_part}
-use Rattle.dom_model.specs.Tree.{Trees, none, tree, Node, node_in, names_of, roots, trees_below, children_of, parent_of}
-use Rattle.dom_model.specs.World.{World, part_of, with_part, component_made}
-use Rattle.dom_model.proofs.PartLaws.{owner-part_of}
+use Rattle.dom_base.proofs.Std.{◌≡◌, List, [], ◌∷◌, ◌++◌, drop, length, Option, None, refl}
+use Rattle.dom_model.proofs.Model.{Kind, Document, Shadow, NodeName, Owner, Page, Component, first_world, part_with_root, new_root, attaching, name_eq, node_of}
+use Rattle.dom_model.proofs.Model.{first_of, Part, empty_part, Trees, none, tree, Node, node_in, names_of, roots, trees_below, children_of, parent_of, World}
+use Rattle.dom_model.proofs.Model.{part_of, with_part, component_made, owner-part_of}
 use Rattle.dom_worlds.proofs.ListLemmas.{either_way}
-use Rattle.dom_parts.specs.Doc.{nothing_left}
-use Rattle.dom_mutation.specs.Ready.{IsReadyPart, AreReady, IsReady}
+use Rattle.dom_parts.specs.Definitions.{nothing_left}
+use Rattle.dom_mutation.specs.Definitions.{IsReadyPart, AreReady, IsReady}
 use Rattle.dom_mutation.proofs.ReadyTables.{ready-same}
 use Rattle.dom_mutation.proofs.ReadyWorlds.{ready-written}
 

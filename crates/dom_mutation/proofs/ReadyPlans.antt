@@ -1,30 +1,14 @@
 -- The plans of changes keep an owner's part ready for calls.
-use Rattle.std.proofs.Common.{◌≡◌, ◌<◌, ℕ, length, Bool, true, false, not, ◌||◌, List, [], ◌∷◌, drop, filter, Option, Some}
-use Rattle.std.proofs.Common.{None, refl, sym, ap, ◌∙◌, arith, true≢false, subst}
-use Rattle.std.specs.Prelude.{IsTrue, if◌then◌else◌}
-use Rattle.std.specs.Option.{option_map_or}
-use Rattle.std.proofs.lemmas.Bool.{not-false}
-use Rattle.dom_base.specs.declared.Kind.{Kind}
-use Rattle.dom_base.specs.declared.Kind.TheVariants.{Document, Fragment, Shadow, Element, Text, Comment}
-use Rattle.dom_base.specs.declared.NodeName.{NodeName}
-use Rattle.dom_base.specs.declared.Refusal.TheVariants.{Hierarchy, NotFound}
-use Rattle.dom_model.specs.Changes.{Plan, observed, remove_plan, adopt_plan, insert_plan, replace_plan, setting_attribute}
-use Rattle.dom_model.specs.Changes.{unsetting_attribute}
-use Rattle.dom_model.specs.CommandRefusals.{of_range}
-use Rattle.dom_model.specs.Effects.{plan_of_range}
-use Rattle.dom_model.specs.Extract.{extracting}
-use Rattle.dom_model.specs.Names.{Word, DomString, name_eq}
-use Rattle.dom_model.specs.Part.{Part, range_at}
-use Rattle.dom_model.specs.RangeOps.{deleting, insert_node_refusal, insertion_parent, start_reference, cannot_take_node, inserting_into_range}
-use Rattle.dom_model.specs.Ranges.{Range}
-use Rattle.dom_model.specs.Steps.{Step, make, set_document, set_range, after}
-use Rattle.dom_model.specs.TextChanges.{replacing_data, replacing_all_data, replacing_children, splitting, normalizing, setting_text}
-use Rattle.dom_model.specs.Tree.{Trees, Node, has_node, kind_of, has_data, is_document, is_text, is_shadow, child_nodes, is_inclusive_ancestor}
-use Rattle.dom_model.specs.Validity.{first_refusal, has_parent, may_be_parent, may_be_inserted, placing_tests, pre_insert_refusal, replace_refusal}
-use Rattle.dom_model.proofs.KindLaws.{parent-open}
-use Rattle.dom_worlds.specs.Bounds.{HasBounds, IsWithin}
-use Rattle.dom_worlds.specs.Tables.{EndsIn, HasEnds}
-use Rattle.dom_worlds.specs.Worlds.{IsPart}
+use Rattle.dom_base.proofs.Std.{◌≡◌, ◌<◌, ℕ, length, Bool, true, false, not, ◌||◌, List, [], ◌∷◌, drop, filter, Option, Some, None, refl, sym, ap, ◌∙◌, arith}
+use Rattle.dom_base.proofs.Std.{true≢false, subst, IsTrue, if◌then◌else◌, option_map_or, not-false}
+use Rattle.dom_model.proofs.Model.{Kind, Document, Fragment, Shadow, Element, Text, Comment, NodeName, Hierarchy, NotFound, Plan, observed, remove_plan}
+use Rattle.dom_model.proofs.Model.{adopt_plan, insert_plan, replace_plan, setting_attribute, unsetting_attribute, of_range, plan_of_range, extracting, Word}
+use Rattle.dom_model.proofs.Model.{DomString, name_eq, Part, range_at, deleting, insert_node_refusal, insertion_parent, start_reference, cannot_take_node}
+use Rattle.dom_model.proofs.Model.{inserting_into_range, Range, Step, make, set_document, set_range, after, replacing_data, replacing_all_data}
+use Rattle.dom_model.proofs.Model.{replacing_children, splitting, normalizing, setting_text, Trees, Node, has_node, kind_of, has_data, is_document, is_text}
+use Rattle.dom_model.proofs.Model.{is_shadow, child_nodes, is_inclusive_ancestor, first_refusal, has_parent, may_be_parent, may_be_inserted, placing_tests}
+use Rattle.dom_model.proofs.Model.{pre_insert_refusal, replace_refusal, parent-open}
+use Rattle.dom_worlds.specs.Definitions.{HasBounds, IsWithin, EndsIn, HasEnds, IsPart}
 use Rattle.dom_worlds.proofs.CommandLemmas.{next-test, has_node-times, parent-of_range}
 use Rattle.dom_worlds.proofs.RangeLemmas.{under-at, RangeUnder, reach, nowhere, room-of, make-keeps, set_document-keeps, set_range-keeps, removal-keeps}
 use Rattle.dom_worlds.proofs.RangeLemmas.{adoption-keeps, insertion-keeps, replacement-keeps, attribute-keeps, attribute_removal-keeps, data-keeps, split-keeps}
@@ -38,7 +22,7 @@ use Rattle.dom_worlds.proofs.PlanLemmas.{leads-setting_attribute, leads-unsettin
 use Rattle.dom_worlds.proofs.PlanLemmas.{leads-setting_text, MadeIn}
 use Rattle.dom_worlds.proofs.ShadowTreeLemmas.{not_taken}
 use Rattle.dom_worlds.proofs.ListLemmas.{by_cases}
-use Rattle.dom_mutation.specs.Ready.{IsReadyPart}
+use Rattle.dom_mutation.specs.Definitions.{IsReadyPart}
 use Rattle.dom_mutation.proofs.NoData.{no_data-keeps}
 use Rattle.dom_mutation.proofs.ReadyEnds.{bare, bare-part, bare-bounds, bounds-bare, bare-tables, bare-after, made-bare, ends-after}
 use Rattle.dom_mutation.proofs.ReadyRoots.{LoneRoots, lone-rules, lone-before, lone-after}

@@ -1,38 +1,21 @@
 -- Commands that change tables alone keep an owner's part ready: those on iterators, walkers and observers leave its trees and live ranges,
 -- and those on live ranges set ends within nodes of one tree.
-use Rattle.std.proofs.Common.{◌≡◌, ℕ, Bool, true, false, not, ◌&&◌, List, [], ◌∷◌, Option, Some, None, option_map, refl, sym, arith, subst}
-use Rattle.std.specs.Prelude.{IsTrue, slice_get}
-use Rattle.std.specs.List.{AllByRecursion}
-use Rattle.std.specs.Option.{option_map_or}
-use Rattle.std.proofs.lemmas.Bool.{ltb-false}
-use Rattle.dom_base.specs.declared.Move.{Move}
-use Rattle.dom_base.specs.declared.NodeName.{NodeName}
-use Rattle.dom_base.specs.declared.Owner.{Owner}
-use Rattle.dom_model.specs.Command.{Command, NodeWord, effect}
-use Rattle.dom_model.specs.CommandNames.{named}
-use Rattle.dom_model.specs.CommandRefusals.{past_end}
-use Rattle.dom_model.specs.Effects.{Effect, tables, changes, answers, moves_iterator, sets_walker, node_or_null, with_range, collapsed_to}
-use Rattle.dom_model.specs.Extract.{both_at}
-use Rattle.dom_model.specs.Output.{Value, Said, nothing}
-use Rattle.dom_model.specs.Part.{Part, first_node, range_at}
-use Rattle.dom_model.specs.Place.{Boundary, same_root, is_before}
-use Rattle.dom_model.specs.Ranges.{Range, at, from_to, with_start, with_end}
-use Rattle.dom_model.specs.Traversal.{Walker, iterator_next_node, iterator_previous_node, walker_move}
-use Rattle.dom_model.specs.Tree.{Trees, length_of}
-use Rattle.dom_model.specs.World.{World, part_of}
-use Rattle.dom_model.proofs.PartLaws.{owner-part_of}
-use Rattle.dom_worlds.specs.Bounds.{IsWithin, EndsWithin}
-use Rattle.dom_worlds.specs.Tables.{IsNodeIn, HasEnds, EndsIn}
+use Rattle.dom_base.proofs.Std.{◌≡◌, ℕ, Bool, true, false, not, ◌&&◌, List, [], ◌∷◌, Option, Some, None, option_map, refl, sym, arith, subst, IsTrue, slice_get}
+use Rattle.dom_base.proofs.Std.{AllByRecursion, option_map_or, ltb-false}
+use Rattle.dom_model.proofs.Model.{Move, NodeName, Owner, Command, NodeWord, effect, named, past_end, Effect, tables, changes, answers, moves_iterator}
+use Rattle.dom_model.proofs.Model.{sets_walker, node_or_null, with_range, collapsed_to, both_at, Value, Said, nothing, Part, first_node, range_at, Boundary}
+use Rattle.dom_model.proofs.Model.{same_root, is_before, Range, at, from_to, with_start, with_end, Walker, iterator_next_node, iterator_previous_node}
+use Rattle.dom_model.proofs.Model.{walker_move, Trees, length_of, World, part_of, owner-part_of}
+use Rattle.dom_worlds.specs.Definitions.{IsWithin, EndsWithin, IsNodeIn, HasEnds, EndsIn, IsPart}
 use Rattle.dom_worlds.proofs.RangeLemmas.{under-at, RangeUnder, reach, nowhere, room-of}
 use Rattle.dom_worlds.proofs.ListLemmas.{all-append, all-set, either_way}
 use Rattle.dom_worlds.proofs.PlanLemmas.{ends-at}
 use Rattle.dom_worlds.proofs.TreeLemmas.{roots-same}
 use Rattle.dom_worlds.proofs.CommandLemmas.{ends-with_start, ends-with_end, ends-collapsed}
-use Rattle.dom_worlds.specs.Worlds.{IsPart}
-use Rattle.dom_mutation.specs.Ready.{IsReadyPart, AreReady}
+use Rattle.dom_mutation.specs.Definitions.{IsReadyPart, AreReady}
 use Rattle.dom_mutation.proofs.ReadyEnds.{bare, bare-tables}
 use Rattle.dom_mutation.proofs.ReadyWorlds.{ready-written}
-use Rattle.dom_parts.specs.Doc.{MakesSaying}
+use Rattle.dom_parts.specs.Definitions.{MakesSaying}
 
 -- a part with the same trees and live ranges
 pub ready-same : (p q : Part) → q.trees ≡ p.trees → q.ranges ≡ p.ranges → IsReadyPart p → IsReadyPart q

@@ -1,24 +1,15 @@
 -- What is ready stays so in the world: an owner's plan changes its own part as it does alone, and of other parts the node documents
 -- alone; and where an owner's part is written, the others stay.
-use Rattle.std.proofs.Common.{◌≡◌, ◌≢◌, Bool, true, false, List, [], ◌∷◌, fold, Option, Some, None, sym, ◌∙◌, subst}
-use Rattle.dom_base.specs.declared.NodeName.{NodeName}
-use Rattle.dom_base.specs.declared.Owner.{Owner}
-use Rattle.dom_model.specs.Changes.{Plan}
-use Rattle.dom_model.specs.Names.{owner_eq, max_depth}
-use Rattle.dom_model.specs.Part.{Part}
-use Rattle.dom_model.specs.Slots.{signals, with_signal}
-use Rattle.dom_model.specs.Steps.{Step, place, take_out, set_document, set_attribute, queue_record, part_step, after, is_taken}
-use Rattle.dom_model.specs.Tree.{parent_of}
-use Rattle.dom_model.specs.World.{World, part_of, with_part, components_below, shadow_root_of}
-use Rattle.dom_model.specs.WorldSteps.{world_step, world_after, stepped, with_removal_signals, with_notify_if, with_shadow_document}
-use Rattle.dom_model.proofs.OwnerLaws.{owner_eq-true, owner_eq-false}
-use Rattle.dom_model.proofs.PartLaws.{owner-part_of}
-use Rattle.dom_model.proofs.StepLaws.{owner-part_step, part_of-stepped-other}
-use Rattle.dom_worlds.specs.Worlds.{IsPart}
+use Rattle.dom_base.proofs.Std.{◌≡◌, ◌≢◌, Bool, true, false, List, [], ◌∷◌, fold, Option, Some, None, sym, ◌∙◌, subst}
+use Rattle.dom_model.proofs.Model.{NodeName, Owner, Plan, owner_eq, max_depth, Part, signals, with_signal, Step, place, take_out, set_document, set_attribute}
+use Rattle.dom_model.proofs.Model.{queue_record, part_step, after, is_taken, parent_of, World, part_of, with_part, components_below, shadow_root_of, world_step}
+use Rattle.dom_model.proofs.Model.{world_after, stepped, with_removal_signals, with_notify_if, with_shadow_document, owner_eq-true, owner_eq-false}
+use Rattle.dom_model.proofs.Model.{owner-part_of, owner-part_step, part_of-stepped-other}
+use Rattle.dom_worlds.specs.Definitions.{IsPart}
 use Rattle.dom_worlds.proofs.PlanLemmas.{part-step, MadeIn}
 use Rattle.dom_worlds.proofs.WorldLemmas.{each-part}
 use Rattle.dom_worlds.proofs.ListLemmas.{by_cases}
-use Rattle.dom_mutation.specs.Ready.{IsReadyPart, AreReady}
+use Rattle.dom_mutation.specs.Definitions.{IsReadyPart, AreReady}
 use Rattle.dom_mutation.proofs.ReadyPlans.{KeepReady, ready-after, ready-document}
 
 -- a part, and that it is ready

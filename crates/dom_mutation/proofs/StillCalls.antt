@@ -1,36 +1,20 @@
 -- What a call of a `Doc` leaves of its nodes and of what each owner has, by what its contract says of the world; and its new node.
-use Rattle.std.proofs.Common.{◌≡◌, ◌<◌, ℕ, true, false, List, [], ◌∷◌, ◌++◌, length, Some, refl, sym, ap, ◌∙◌, arith, subst, unwrap_or}
-use Rattle.std.proofs.Math.ListN.{get_or-append}
-use Rattle.std.proofs.Math.Seq.{get_or-append_seam}
-use Rattle.std.proofs.lemmas.List.{length-append}
-use Rattle.dom_base.specs.declared.NodeName.{NodeName}
-use Rattle.dom_base.specs.declared.Owner.{Owner}
-use Rattle.dom_base.specs.declared.Owner.TheVariants.{Page}
-use Rattle.dom_worlds.specs.Worlds.{AllNodes}
+use Rattle.dom_base.proofs.Std.{◌≡◌, ◌<◌, ℕ, true, false, List, [], ◌∷◌, ◌++◌, length, Some, refl, sym, ap, ◌∙◌, arith, subst, unwrap_or, get_or-append}
+use Rattle.dom_base.proofs.Std.{get_or-append_seam, length-append}
+use Rattle.dom_model.proofs.Model.{NodeName, Owner, Page, Plan, Command, attaching, first_of, node_of, Value, Said, Part, empty_part, next_name, Step, make}
+use Rattle.dom_model.proofs.Model.{Trees, Node, kind_of, has_node, with_name, notified, World, find_part, part_of, with_part, is_there, component_made}
+use Rattle.dom_model.proofs.Model.{world_after, stepped, owner-part_of, part_of-stepped}
+use Rattle.dom_worlds.specs.Definitions.{AllNodes}
 use Rattle.dom_worlds.proofs.CommandLemmas.{absent-any}
 use Rattle.dom_worlds.proofs.PlanLemmas.{next-absent}
 use Rattle.dom_worlds.proofs.WorldLemmas.{each-part}
 use Rattle.dom_worlds.proofs.TreeLemmas.{nodes-with_node}
-use Rattle.dom_model.specs.Changes.{Plan}
-use Rattle.dom_model.specs.Command.{Command}
-use Rattle.dom_model.specs.DocumentMachine.{attaching}
-use Rattle.dom_model.specs.Names.{first_of, node_of}
-use Rattle.dom_model.specs.Output.{Value, Said}
-use Rattle.dom_model.specs.Part.{Part, empty_part, next_name}
-use Rattle.dom_model.specs.Steps.{Step, make}
-use Rattle.dom_model.specs.Tree.{Trees, Node, kind_of, has_node}
-use Rattle.dom_model.specs.TreeChanges.{with_name}
-use Rattle.dom_model.specs.Turns.{notified}
-use Rattle.dom_model.specs.World.{World, find_part, part_of, with_part, is_there, component_made}
-use Rattle.dom_model.specs.WorldSteps.{world_after, stepped}
-use Rattle.dom_model.proofs.PartLaws.{owner-part_of}
-use Rattle.dom_model.proofs.StepLaws.{part_of-stepped}
-use Rattle.dom_parts.specs.Doc.{DocState, MakesSaying, made, name_in, owner_in, trees_in}
-use Rattle.dom_mutation.specs.Still.{HasNodes, HasStillAll, DropsNone}
+use Rattle.dom_parts.specs.Definitions.{DocState, MakesSaying, made, name_in, owner_in, trees_in}
+use Rattle.dom_mutation.specs.Definitions.{HasNodes, HasStillAll, DropsNone}
 use Rattle.dom_mutation.proofs.StillEffects.{KeepsTables, KeepsEffect, effect-still}
 use Rattle.dom_mutation.proofs.StillParts.{IsKindAt, kind-kept, kind-read, still-each, tables-same, tables-then}
 use Rattle.dom_mutation.proofs.StillWorlds.{KeepsWorld, keeps-world_after, keeps-attaching}
-use Rattle.dom_tree.specs.Forest.{name_at}
+use Rattle.dom_tree.specs.Definitions.{name_at}
 
 -- the names that were there
 names-still : (xs ys zs : List NodeName) → ys ≡ xs ++ zs → (k : ℕ) → k < length xs → name_at ys k ≡ name_at xs k

@@ -1,18 +1,9 @@
 -- What a command that changes its owner's tables alone leaves there.
-use Rattle.std.proofs.Common.{◌≡◌, ℕ, Bool, true, false, [], ◌∷◌, Option, Some, None, refl}
-use Rattle.std.specs.Prelude.{slice_get, option_map, ⊤}
-use Rattle.std.specs.Option.{option_map_or}
-use Rattle.dom_base.specs.declared.NodeName.{NodeName}
-use Rattle.dom_model.specs.Command.{Command, effect}
-use Rattle.dom_model.specs.CommandNames.{named}
-use Rattle.dom_model.specs.Effects.{Effect, tables, changes, answers, moves_iterator, sets_walker, node_or_null, with_range, collapsed_to}
-use Rattle.dom_model.specs.Extract.{both_at}
-use Rattle.dom_model.specs.Output.{Value, nothing, a_node, a_string, boundaries, reference}
-use Rattle.dom_model.specs.Part.{Part, first_node, range_at}
-use Rattle.dom_model.specs.RangeOps.{range_text_of}
-use Rattle.dom_model.specs.Ranges.{Range, at, with_start, with_end}
-use Rattle.dom_model.specs.Traversal.{Iterator, Walker, iterator_next_node, iterator_previous_node, moved_to, walker_move}
-use Rattle.dom_mutation.specs.Still.{HasStillTables, DropsNone}
+use Rattle.dom_base.proofs.Std.{◌≡◌, ℕ, Bool, true, false, [], ◌∷◌, Option, Some, None, refl, slice_get, option_map, ⊤, option_map_or}
+use Rattle.dom_model.proofs.Model.{NodeName, Command, effect, named, Effect, tables, changes, answers, moves_iterator, sets_walker, node_or_null, with_range}
+use Rattle.dom_model.proofs.Model.{collapsed_to, both_at, Value, nothing, a_node, a_string, boundaries, reference, Part, first_node, range_at, range_text_of}
+use Rattle.dom_model.proofs.Model.{Range, at, with_start, with_end, Iterator, Walker, iterator_next_node, iterator_previous_node, moved_to, walker_move}
+use Rattle.dom_mutation.specs.Definitions.{HasStillTables, DropsNone}
 use Rattle.dom_mutation.proofs.StillParts.{tables-same, still-set, still-more, still-longer, still-mapped}
 
 -- the trees stay, and all is there that was

@@ -1,19 +1,8 @@
 -- What was made is there under the number that was answered.
-use Rattle.std.proofs.Common.{◌≡◌, ℕ, true, List, [], ◌∷◌, ◌++◌, length, Option, Some, refl, subst}
-use Rattle.std.specs.Prelude.{slice_get, is_some}
-use Rattle.std.specs.Option.{option_flatten}
-use Rattle.dom_base.specs.declared.NodeName.{NodeName}
-use Rattle.dom_base.specs.declared.Owner.{Owner}
-use Rattle.dom_base.specs.declared.Owner.TheVariants.{Page}
-use Rattle.dom_model.specs.Command.{Command, Filter, NodeWord}
-use Rattle.dom_model.specs.CommandNames.{named}
-use Rattle.dom_model.specs.Effects.{Effect, tables, changes, new_iterator, new_walker}
-use Rattle.dom_model.specs.Extract.{both_at}
-use Rattle.dom_model.specs.Output.{Value, a_range, an_iterator, a_walker, an_observer}
-use Rattle.dom_model.specs.Part.{Part, empty_part, first_node, range_at}
-use Rattle.dom_model.specs.Ranges.{Range, at}
-use Rattle.dom_model.specs.World.{World, part_of}
-use Rattle.dom_parts.specs.Doc.{Makes}
+use Rattle.dom_base.proofs.Std.{◌≡◌, ℕ, true, List, [], ◌∷◌, ◌++◌, length, Option, Some, refl, subst, slice_get, is_some, option_flatten}
+use Rattle.dom_model.proofs.Model.{NodeName, Owner, Page, Command, Filter, NodeWord, named, Effect, tables, changes, new_iterator, new_walker, both_at, Value}
+use Rattle.dom_model.proofs.Model.{a_range, an_iterator, a_walker, an_observer, Part, empty_part, first_node, range_at, Range, at, World, part_of}
+use Rattle.dom_parts.specs.Definitions.{Makes}
 
 -- the part that an effect leaves, and the number that it answers
 abbrev part_in : Effect → Part

@@ -1,29 +1,18 @@
 -- What every step leaves in an owner's part, whether it fits there or not: kinds, and what the owner has beside its trees.
-use Rattle.std.proofs.Common.{◌≡◌, ◌≤◌, ◌<◌, ℕ, zero, suc, true, List, [], ◌∷◌, ◌++◌, fold, map, Option, Some, None, refl, sym, ap, ◌∙◌, arith}
-use Rattle.std.proofs.Common.{true≢false, subst, find, unwrap_or}
-use Rattle.std.specs.Prelude.{slice_get, slice_set, option_map, is_some, if◌then◌else◌}
-use Rattle.std.specs.List.{AllByRecursion}
-use Rattle.std.specs.Option.{option_flatten, option_map_or}
-use Rattle.std.proofs.lemmas.Bool.{cond-true, cond-false}
-use Rattle.std.proofs.lemmas.Option.{slice_get-map}
-use Rattle.dom_base.specs.declared.Kind.{Kind}
-use Rattle.dom_base.specs.declared.NodeName.{NodeName}
-use Rattle.dom_worlds.specs.Worlds.{AllNodes, IsPart}
+use Rattle.dom_base.proofs.Std.{◌≡◌, ◌≤◌, ◌<◌, ℕ, zero, suc, true, List, [], ◌∷◌, ◌++◌, fold, map, Option, Some, None, refl, sym, ap, ◌∙◌, arith, true≢false}
+use Rattle.dom_base.proofs.Std.{subst, find, unwrap_or, slice_get, slice_set, option_map, is_some, if◌then◌else◌, AllByRecursion, option_flatten, option_map_or}
+use Rattle.dom_base.proofs.Std.{cond-true, cond-false, slice_get-map}
+use Rattle.dom_model.proofs.Model.{Kind, NodeName, name_eq, is_in, Part, next_name, queue_of, Boundary, Range, map_ends, Step, make, make_room, place, take_out}
+use Rattle.dom_model.proofs.Model.{set_document, set_attribute, replace_data, split_at, join_at, set_range, queue_record, part_step, leave, after}
+use Rattle.dom_model.proofs.Model.{interested_in, record_in, Trees, Node, nodes, node_in, no_node, kind_of, has_node, parent_of, inclusive_descendants}
+use Rattle.dom_model.proofs.Model.{map_nodes, with_name, with_document, with_data_replaced, with_attribute, name_eq-true}
+use Rattle.dom_worlds.specs.Definitions.{AllNodes, IsPart}
 use Rattle.dom_worlds.proofs.CommandLemmas.{has_node-times, count-grows}
 use Rattle.dom_worlds.proofs.TreeLemmas.{read-all, nodes-with_node, nodes-taken_out, nodes-placed, nodes-map_nodes, nodes-listed, nodes-then}
 use Rattle.dom_worlds.proofs.PlanLemmas.{KeepsNames, some-keeps, attribute-keeps}
 use Rattle.dom_worlds.proofs.ShadowTreeLemmas.{found-there}
 use Rattle.dom_worlds.proofs.ListLemmas.{by_cases}
-use Rattle.dom_model.specs.Names.{name_eq, is_in}
-use Rattle.dom_model.specs.Part.{Part, next_name, queue_of}
-use Rattle.dom_model.specs.Place.{Boundary}
-use Rattle.dom_model.specs.Ranges.{Range, map_ends}
-use Rattle.dom_model.specs.Steps.{Step, make, make_room, place, take_out, set_document, set_attribute, replace_data, split_at, join_at, set_range}
-use Rattle.dom_model.specs.Steps.{queue_record, part_step, leave, after, interested_in, record_in}
-use Rattle.dom_model.specs.Tree.{Trees, Node, nodes, node_in, no_node, kind_of, has_node, parent_of, inclusive_descendants}
-use Rattle.dom_model.specs.TreeChanges.{map_nodes, with_name, with_document, with_data_replaced, with_attribute}
-use Rattle.dom_model.proofs.OwnerLaws.{name_eq-true}
-use Rattle.dom_mutation.specs.Still.{HasStill, HasStillTables}
+use Rattle.dom_mutation.specs.Definitions.{HasStill, HasStillTables}
 
 -- Places of lists.
 still-map : {X Y : Type 0} (f : X → Y) (xs : List X) (k : ℕ) → is_some (slice_get xs k) ≡ true → is_some (slice_get (map f xs) k) ≡ true

@@ -1,19 +1,8 @@
 -- What every step leaves in all parts of the world, and so every plan; and what an attaching leaves.
-use Rattle.std.proofs.Common.{◌≡◌, false, List, [], ◌∷◌, ◌++◌, length, Option, Some, None, refl, sym, subst, arith, unwrap_or}
-use Rattle.std.specs.Prelude.{is_some, ⊤}
-use Rattle.std.specs.List.{AllByRecursion}
-use Rattle.dom_base.specs.declared.Kind.TheVariants.{Shadow}
-use Rattle.dom_base.specs.declared.NodeName.{NodeName}
-use Rattle.dom_base.specs.declared.Owner.{Owner}
+use Rattle.dom_base.proofs.Std.{◌≡◌, false, List, [], ◌∷◌, ◌++◌, length, Option, Some, None, refl, sym, subst, arith, unwrap_or, is_some, ⊤, AllByRecursion}
+use Rattle.dom_model.proofs.Model.{Shadow, NodeName, Owner, attaching, part_with_root, Part, empty_part, Step, part_step, node_in, World, find_part, part_of}
+use Rattle.dom_model.proofs.Model.{with_part, is_there, component_made, world_after, owner-part_of, owner-part_step}
 use Rattle.dom_worlds.proofs.WorldLemmas.{each-part, IsKeptIn, holds-world_after}
-use Rattle.dom_model.specs.DocumentMachine.{attaching, part_with_root}
-use Rattle.dom_model.specs.Part.{Part, empty_part}
-use Rattle.dom_model.specs.Steps.{Step, part_step}
-use Rattle.dom_model.specs.Tree.{node_in}
-use Rattle.dom_model.specs.World.{World, find_part, part_of, with_part, is_there, component_made}
-use Rattle.dom_model.specs.WorldSteps.{world_after}
-use Rattle.dom_model.proofs.PartLaws.{owner-part_of}
-use Rattle.dom_model.proofs.StepLaws.{owner-part_step}
 use Rattle.dom_mutation.proofs.StillParts.{KeepsPart, keeps-same, keeps-then, keeps-step, tables-same}
 
 -- all parts keep what they have

@@ -1,17 +1,11 @@
 -- Loops that place nodes, or take them out, one after another.
-use Rattle.std.proofs.Common.{get_or, drop-cons, add-one, suc, ◌+◌, ◌≡◌, ℕ, ◌<◌, false, List, [], ◌∷◌, drop, length, map, Option, Some}
-use Rattle.std.proofs.Common.{option_map, refl, sym, ap, subst, ◌∙◌}
-use Rattle.std.specs.List.{AllByRecursion}
-use Rattle.std.specs.Option.{ForSome}
-use Rattle.dom_base.specs.declared.NodeName.{NodeName}
-use Rattle.dom_model.specs.Names.{name_eq, first_of, is_in}
-use Rattle.dom_model.specs.Tree.{parent_of, inclusive_ancestors, is_inclusive_ancestor}
-use Rattle.dom_model.specs.Changes.{Plan, Observing, in_turn, placing, remove_plan}
-use Rattle.dom_tree.specs.Forest.{name_at}
-use Rattle.dom_parts.specs.Doc.{DocState, planned, name_in, owner_in, trees_in, MayMove, IsChild, KeepsPaths, NoneAbove}
-use Rattle.dom_parts.specs.Hosting.{IsAlone}
-use Rattle.dom_laws.proofs.Lists.{all_drop}
-use Rattle.dom_laws.proofs.Paths.{lacks_to}
+use Rattle.dom_base.proofs.Std.{get_or, drop-cons, add-one, suc, ◌+◌, ◌≡◌, ℕ, ◌<◌, false, List, [], ◌∷◌, drop, length, map, Option, Some, option_map, refl, sym}
+use Rattle.dom_base.proofs.Std.{ap, subst, ◌∙◌, AllByRecursion, ForSome}
+use Rattle.dom_model.proofs.Model.{NodeName, name_eq, first_of, is_in, parent_of, inclusive_ancestors, is_inclusive_ancestor, Plan, Observing, in_turn, placing}
+use Rattle.dom_model.proofs.Model.{remove_plan}
+use Rattle.dom_tree.specs.Definitions.{name_at}
+use Rattle.dom_parts.specs.Definitions.{DocState, planned, name_in, owner_in, trees_in, MayMove, IsChild, KeepsPaths, NoneAbove, IsAlone}
+use Rattle.dom_laws.proofs.Laws.{all_drop, lacks_to}
 use Rattle.dom_mutation.proofs.Placed.{Counted, before_lacks, removal_keeps}
 use Rattle.dom_parts.proofs.Made.{planned_turn, alone_made}
 use Rattle.dom_parts.proofs.OwnPlans.{plans_removing, plans_placing}

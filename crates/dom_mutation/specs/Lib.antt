@@ -5,3 +5,4 @@ pub mod Making
 pub mod Observing
 pub mod Ready
 pub mod Still
+pub mod Definitions

@@ -1,16 +1,8 @@
 -- Attaching shadow roots: with an open turn as without.
-use Rattle.std.proofs.Common.{◌≡◌, ℕ, List, [], ◌∷◌, Option, None, Result, sym, ap, ◌∙◌}
-use Rattle.std.specs.Prelude.{length}
-use Rattle.dom_base.specs.declared.Fault.{Fault}
-use Rattle.dom_base.specs.declared.Owner.{Owner}
-use Rattle.dom_model.specs.Command.{Command, NodeWord, own_refusal}
-use Rattle.dom_model.specs.CommandNames.{named}
-use Rattle.dom_model.specs.DocumentMachine.{attaching}
-use Rattle.dom_model.specs.Output.{says, replied, a_component}
-use Rattle.dom_model.specs.Runs.{Run}
-use Rattle.dom_model.specs.Turns.{opening_turn}
-use Rattle.dom_model.specs.World.{World, part_of, component_made}
-use Rattle.dom_mutation.specs.Doc.{DocState}
+use Rattle.dom_base.proofs.Std.{◌≡◌, ℕ, List, [], ◌∷◌, Option, None, Result, sym, ap, ◌∙◌, length}
+use Rattle.dom_model.proofs.Model.{Fault, Owner, Command, NodeWord, own_refusal, named, attaching, says, replied, a_component, Run, opening_turn, World}
+use Rattle.dom_model.proofs.Model.{part_of, component_made}
+use Rattle.dom_mutation.specs.Definitions.{DocState}
 use Rattle.dom_admission.specs.Handled.{IsDone, IsHandled}
 use Rattle.dom_admission.specs.Turned.{with_turn, turned}
 use Rattle.dom_admission.proofs.Handling.{MayAct, in_state, finished, opened}

@@ -1,23 +1,11 @@
 -- What the commands that make nodes and change them do.
-use Rattle.std.proofs.Common.{◌≡◌, ℕ, false, List, [], ◌∷◌, ◌++◌, length, refl, sym, ap, ◌∙◌}
-use Rattle.std.proofs.Math.Seq.{get_or-append_seam}
-use Rattle.dom_base.specs.declared.Kind.{Kind}
-use Rattle.dom_base.specs.declared.Kind.TheVariants.{Document, Fragment, Shadow, Element, Text, Comment}
-use Rattle.dom_base.specs.declared.NodeName.{NodeName}
-use Rattle.dom_base.specs.declared.Owner.{Owner}
-use Rattle.dom_base.specs.declared.Owner.TheVariants.{Page}
-use Rattle.dom_base.specs.declared.Refusal.TheVariants.{Hierarchy, NotSupported}
-use Rattle.dom_model.specs.Command.{own_refusal, effect}
-use Rattle.dom_model.specs.DocumentMachine.{accepted}
-use Rattle.dom_model.specs.Effects.{makes, new_node}
-use Rattle.dom_model.specs.Names.{DomString, node_of, Word}
-use Rattle.dom_model.specs.Part.{Part}
-use Rattle.dom_model.specs.Tree.{is_shadow, is_document, is_element, has_data}
-use Rattle.dom_model.specs.Validity.{first_refusal}
-use Rattle.dom_model.specs.World.{World}
-use Rattle.dom_mutation.specs.Doc.{adding_refusal, adoption_refusal}
+use Rattle.dom_base.proofs.Std.{◌≡◌, ℕ, false, List, [], ◌∷◌, ◌++◌, length, refl, sym, ap, ◌∙◌, get_or-append_seam}
+use Rattle.dom_model.proofs.Model.{Kind, Document, Fragment, Shadow, Element, Text, Comment, NodeName, Owner, Page, Hierarchy, NotSupported, own_refusal}
+use Rattle.dom_model.proofs.Model.{effect, accepted, makes, new_node, DomString, node_of, Word, Part, is_shadow, is_document, is_element, has_data}
+use Rattle.dom_model.proofs.Model.{first_refusal, World}
+use Rattle.dom_mutation.specs.Definitions.{adding_refusal, adoption_refusal}
 use Rattle.dom_node_commands.specs.Making.{making, document_for}
-use Rattle.dom_tree.specs.Forest.{name_at}
+use Rattle.dom_tree.specs.Definitions.{name_at}
 use Rattle.dom_admission.proofs.Handling.{effecting}
 use Rattle.dom_admission.proofs.Refusing.{IsNaming, namings}
 

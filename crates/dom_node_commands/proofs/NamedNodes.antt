@@ -1,14 +1,8 @@
 -- What is said of two or three nodes by their keys, and by the owner of the first, is said of their names.
-use Rattle.std.proofs.Common.{◌≡◌, ℕ, Option}
-use Rattle.dom_base.specs.declared.NodeName.{NodeName}
-use Rattle.dom_base.specs.declared.Owner.{Owner}
-use Rattle.dom_model.specs.Changes.{Plan}
-use Rattle.dom_model.specs.Command.{NodeWord}
-use Rattle.dom_model.specs.CommandNames.{named}
-use Rattle.dom_model.specs.Part.{Part}
-use Rattle.dom_model.specs.World.{part_of}
-use Rattle.dom_mutation.specs.Doc.{DocState, made, name_in, owner_in}
-use Rattle.dom_tree.specs.Forest.{name_at}
+use Rattle.dom_base.proofs.Std.{◌≡◌, ℕ, Option}
+use Rattle.dom_model.proofs.Model.{NodeName, Owner, Plan, NodeWord, named, Part, part_of}
+use Rattle.dom_mutation.specs.Definitions.{DocState, made, name_in, owner_in}
+use Rattle.dom_tree.specs.Definitions.{name_at}
 use Rattle.dom_admission.specs.Turned.{turned}
 use Rattle.dom_admission.proofs.Finding.{KeyOf, key_of}
 

@@ -1,19 +1,11 @@
 -- The node documents of a tree, set one after another in tree order.
-use Rattle.std.proofs.Common.{◌≡◌, ℕ, ◌<◌, ◌≤◌, Bool, true, false, cond, ◌||◌, List, [], ◌∷◌, ◌++◌, length, Option, Some}
-use Rattle.std.proofs.Common.{option_map, refl, sym, ap, subst, ◌∙◌}
-use Rattle.std.specs.Option.{ForSome}
-use Rattle.std.proofs.lemmas.Bool.{cond-true}
-use Rattle.std.proofs.Math.Bool.{or-false}
-use Rattle.dom_base.specs.declared.NodeName.{NodeName}
-use Rattle.dom_model.specs.Names.{name_eq, is_in, first_of, items_before, items_after}
-use Rattle.dom_model.specs.Tree.{Trees, none, tree, Node, subtree, is_inclusive_ancestor, times_in}
-use Rattle.dom_model.specs.Tree.{inclusive_descendants}
-use Rattle.dom_model.specs.TreeChanges.{map_nodes, change_node, with_document, under_document}
-use Rattle.dom_model.proofs.OwnerLaws.{name_eq-same}
-use Rattle.dom_tree.specs.Forest.{NamedTrees, name_at}
-use Rattle.dom_laws.proofs.Counts.{Once, once_subtree}
-use Rattle.dom_laws.proofs.Relatives.{path_mapped, descendants_mapped, names_once}
-use Rattle.dom_laws.proofs.Walks.{StandsIn, walked, left, Walks, walks, above_inside, first_inside}
+use Rattle.dom_base.proofs.Std.{◌≡◌, ℕ, ◌<◌, ◌≤◌, Bool, true, false, cond, ◌||◌, List, [], ◌∷◌, ◌++◌, length, Option, Some, option_map, refl, sym, ap, subst}
+use Rattle.dom_base.proofs.Std.{◌∙◌, ForSome, cond-true, or-false}
+use Rattle.dom_model.proofs.Model.{NodeName, name_eq, is_in, first_of, items_before, items_after, Trees, none, tree, Node, subtree, is_inclusive_ancestor}
+use Rattle.dom_model.proofs.Model.{times_in, inclusive_descendants, map_nodes, change_node, with_document, under_document, name_eq-same}
+use Rattle.dom_tree.specs.Definitions.{NamedTrees, name_at}
+use Rattle.dom_laws.proofs.Laws.{Once, once_subtree, path_mapped, descendants_mapped, names_once, StandsIn, walked, left, Walks, walks, above_inside}
+use Rattle.dom_laws.proofs.Laws.{first_inside}
 
 or_group : (a b c : Bool) → (a || (b || c)) ≡ ((a || b) || c)
 or_group true b c = refl

@@ -1,20 +1,10 @@
 -- Names of nodes, by their keys; and more of them.
-use Rattle.std.proofs.Common.{◌≡◌, ℕ, suc, ◌+◌, ◌<◌, Bool, true, false, ◌||◌, inl, inr, List, [], ◌∷◌, ◌++◌, All, map, filter, fold, take, length}
-use Rattle.std.proofs.Common.{Some, unwrap_or, get_or, sym, ap, subst, ◌∙◌}
-use Rattle.std.specs.Prelude.{slice_get, if◌then◌else◌}
-use Rattle.std.proofs.lemmas.List.{get_or-map, length-map, map-append, take_more}
-use Rattle.std.proofs.lemmas.Option.{unwrap_or-slice_get}
-use Rattle.std.proofs.lemmas.Bool.{cases_Bool}
-use Rattle.std.proofs.lemmas.List.Elements.{All-nil, All-cons, All-push, All-head, All-tail, All-filter}
-use Rattle.std.proofs.lemmas.List.Folds.{list_any_at, list_any-append}
-use Rattle.std.specs.List.{list_any}
-use Rattle.dom_base.specs.declared.NodeName.{NodeName}
-use Rattle.dom_base.specs.declared.Owner.{Owner}
-use Rattle.dom_base.specs.declared.Owner.TheVariants.{Page}
-use Rattle.dom_model.specs.Names.{name_eq, is_in, append_once, node_of}
-use Rattle.dom_model.specs.Turns.{is_owned_by}
-use Rattle.dom_model.proofs.OwnerLaws.{name_eq-same, name_eq-true}
-use Rattle.dom_tree.specs.Forest.{name_at}
+use Rattle.dom_base.proofs.Std.{◌≡◌, ℕ, suc, ◌+◌, ◌<◌, Bool, true, false, ◌||◌, inl, inr, List, [], ◌∷◌, ◌++◌, All, map, filter, fold, take, length, Some}
+use Rattle.dom_base.proofs.Std.{unwrap_or, get_or, sym, ap, subst, ◌∙◌, slice_get, if◌then◌else◌, get_or-map, length-map, map-append, take_more}
+use Rattle.dom_base.proofs.Std.{unwrap_or-slice_get, cases_Bool, All-nil, All-cons, All-push, All-head, All-tail, All-filter, list_any_at, list_any-append}
+use Rattle.dom_base.proofs.Std.{list_any}
+use Rattle.dom_model.proofs.Model.{NodeName, Owner, Page, name_eq, is_in, append_once, node_of, is_owned_by, name_eq-same, name_eq-true}
+use Rattle.dom_tree.specs.Definitions.{name_at}
 use Rattle.dom_node_trees.specs.Signalled.{AreNames}
 
 -- what a node has is a name of a node

@@ -1,22 +1,11 @@
 -- The shadow roots of the hosts in the tree of a node, listed in tree order, behind each those in its own shadow tree.
-use Rattle.std.proofs.Common.{◌≡◌, ℕ, ◌<◌, ◌≤◌, ◌||◌, List, [], ◌∷◌, ◌++◌, All, map, filter_map, flat_map, length, Option, Some, None, option_map, sym}
-use Rattle.std.proofs.Common.{ap, subst, ◌∙◌}
-use Rattle.std.specs.List.{cons_option}
-use Rattle.std.specs.Option.{ForSome}
-use Rattle.std.proofs.lemmas.Bool.{cond-true}
-use Rattle.std.proofs.lemmas.List.{map-append, append-nil, append_assoc, flat_map_more}
-use Rattle.std.proofs.lemmas.List.Elements.{All-push, filter_map-append}
-use Rattle.dom_base.specs.declared.NodeName.{NodeName}
-use Rattle.dom_model.specs.Names.{name_eq, first_of, is_in, items_before, items_after}
-use Rattle.dom_model.specs.Tree.{inclusive_descendants, subtree, times_in}
-use Rattle.dom_model.proofs.OwnerLaws.{name_eq-same}
-use Rattle.dom_slots.specs.Hosts.{ShadowHost, HostsAreNodes, root_of_host, root_named}
+use Rattle.dom_base.proofs.Std.{◌≡◌, ℕ, ◌<◌, ◌≤◌, ◌||◌, List, [], ◌∷◌, ◌++◌, All, map, filter_map, flat_map, length, Option, Some, None, option_map, sym, ap}
+use Rattle.dom_base.proofs.Std.{subst, ◌∙◌, cons_option, ForSome, cond-true, map-append, append-nil, append_assoc, flat_map_more, All-push, filter_map-append}
+use Rattle.dom_model.proofs.Model.{NodeName, name_eq, first_of, is_in, items_before, items_after, inclusive_descendants, subtree, times_in, name_eq-same}
+use Rattle.dom_slots.specs.Definitions.{ShadowHost, HostsAreNodes, root_of_host, root_named}
 use Rattle.dom_slots.proofs.Hosted.{root-named, root-node}
-use Rattle.dom_tree.specs.Forest.{NamedTrees, name_at}
-use Rattle.dom_laws.proofs.Walks.{walked, left, StandsIn, Walks, walks, first_inside}
-use Rattle.dom_laws.proofs.Counts.{once_subtree, Once}
-use Rattle.dom_laws.proofs.Relatives.{names_once}
-use Rattle.dom_tree.specs.Apart.{TellApart}
+use Rattle.dom_tree.specs.Definitions.{NamedTrees, name_at, TellApart}
+use Rattle.dom_laws.proofs.Laws.{walked, left, StandsIn, Walks, walks, first_inside, once_subtree, Once, names_once}
 
 -- `deeper` has the names behind each shadow root, `earlier` those that were listed before
 module _ (f : NamedTrees) (hosts : List ShadowHost) (deeper : NodeName → List NodeName) (earlier : List NodeName) (top : ℕ) where

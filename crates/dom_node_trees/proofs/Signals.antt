@@ -1,22 +1,11 @@
 -- Slots that are signalled, one after another, by their keys as by their names.
-use Rattle.std.proofs.Common.{◌≡◌, ℕ, ◌+◌, ◌<◌, Bool, true, false, ◌||◌, inl, inr, Result, List, [], ◌∷◌, ◌++◌, map, fold, take, length, get_or}
-use Rattle.std.proofs.Common.{unwrap_or, refl, sym, ap, subst, ◌∙◌}
-use Rattle.std.specs.Prelude.{if◌then◌else◌, OnOk}
-use Rattle.std.specs.List.{AllByRecursion}
-use Rattle.std.proofs.lemmas.Bool.{cases_Bool}
-use Rattle.std.proofs.lemmas.List.Elements.{All-head, All-tail}
-use Rattle.std.proofs.lemmas.List.{take_more, map-append}
-use Rattle.std.proofs.lemmas.List.Sums.{fold-append}
-use Rattle.std.proofs.lemmas.Result.{on_ok_weaker}
-use Rattle.std.proofs.lemmas.Option.{slice_get_within, unwrap_or-slice_get}
-use Rattle.dom_base.specs.declared.NodeName.{NodeName}
-use Rattle.dom_base.specs.declared.Owner.TheVariants.{Page}
-use Rattle.dom_model.specs.Names.{name_eq, node_of, append_once, is_in}
-use Rattle.dom_model.specs.Tree.{Trees}
-use Rattle.dom_model.proofs.OwnerLaws.{name_eq-true}
+use Rattle.dom_base.proofs.Std.{◌≡◌, ℕ, ◌+◌, ◌<◌, Bool, true, false, ◌||◌, inl, inr, Result, List, [], ◌∷◌, ◌++◌, map, fold, take, length, get_or, unwrap_or}
+use Rattle.dom_base.proofs.Std.{refl, sym, ap, subst, ◌∙◌, if◌then◌else◌, OnOk, AllByRecursion, cases_Bool, All-head, All-tail, take_more, map-append}
+use Rattle.dom_base.proofs.Std.{fold-append, on_ok_weaker, slice_get_within, unwrap_or-slice_get}
+use Rattle.dom_model.proofs.Model.{NodeName, Page, name_eq, node_of, append_once, is_in, Trees, name_eq-true}
 use Rattle.dom_slots.specs.declared.step.Step.{Step}
 use Rattle.dom_slots.specs.declared.step.SlotChange.{SlotChange}
-use Rattle.dom_tree.specs.Forest.{NamedTrees, name_at}
+use Rattle.dom_tree.specs.Definitions.{NamedTrees, name_at}
 use Rattle.dom_node_trees.specs.declared.steps.NodeTrees.{NodeTrees}
 use Rattle.dom_node_trees.specs.Signalled.{AreNames, HasStepped}
 use Rattle.dom_node_trees.proofs.NamesByKey.{key_of_name}

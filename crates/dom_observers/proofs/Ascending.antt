@@ -1,23 +1,12 @@
 -- The keys of a node's inclusive ancestors, from the node upwards.
-use Rattle.std.proofs.Common.{inl, inr, ◌≡◌, ℕ, zero, suc, ◌<◌, Bool, true, false, List, [], ◌∷◌, ◌++◌, length, map, Option, Some, None, refl, sym}
-use Rattle.std.proofs.Common.{ap, ◌∙◌, subst, arith}
-use Rattle.std.specs.Prelude.{option_map, slice_get}
-use Rattle.std.proofs.lemmas.Option.{same_Some, none-some}
-use Rattle.std.specs.Option.{ForSome, option_map_or}
-use Rattle.std.proofs.lemmas.Bool.{cond-true, cond-false}
-use Rattle.std.proofs.lemmas.List.{append_assoc, append-nil, map_push}
-use Rattle.dom_base.specs.declared.NodeName.{NodeName}
-use Rattle.dom_model.specs.Names.{name_eq}
-use Rattle.dom_model.specs.Tree.{inclusive_ancestors, parent_of, nodes, names_of}
-use Rattle.dom_model.proofs.OwnerLaws.{name_eq-same, name_eq-other, name_eq-true}
-use Rattle.dom_tree.specs.Forest.{NamedTrees, name_at}
-use Rattle.dom_tree.specs.Apart.{TellApart}
+use Rattle.dom_base.proofs.Std.{inl, inr, ◌≡◌, ℕ, zero, suc, ◌<◌, Bool, true, false, List, [], ◌∷◌, ◌++◌, length, map, Option, Some, None, refl, sym, ap, ◌∙◌}
+use Rattle.dom_base.proofs.Std.{subst, arith, option_map, slice_get, same_Some, none-some, ForSome, option_map_or, cond-true, cond-false, append_assoc}
+use Rattle.dom_base.proofs.Std.{append-nil, map_push}
+use Rattle.dom_model.proofs.Model.{NodeName, name_eq, inclusive_ancestors, parent_of, nodes, names_of, name_eq-same, name_eq-other, name_eq-true}
+use Rattle.dom_tree.specs.Definitions.{NamedTrees, name_at, TellApart}
 use Rattle.dom_tree.proofs.Standing.{StandOnce, StandAlone, Once-forest, Has-forest}
-use Rattle.dom_laws.proofs.Shapes.{above-parent, above-root, Has-above}
-use Rattle.dom_laws.proofs.Lists.{In, is_in-from}
-use Rattle.dom_laws.proofs.Children.{In-names}
-use Rattle.dom_observers.specs.Paths.{key_of, path_keys}
-use Rattle.dom_observers.specs.Naming.{IsKey, AreAll}
+use Rattle.dom_laws.proofs.Laws.{above-parent, above-root, Has-above, In, is_in-from, In-names}
+use Rattle.dom_observers.specs.Definitions.{key_of, path_keys, IsKey, AreAll}
 
 -- a name has its key back
 pub key_of-name : (names : List NodeName) → TellApart names → (k : ℕ) → k < length names → key_of names (name_at names k) ≡ k

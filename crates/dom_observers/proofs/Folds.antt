@@ -1,13 +1,8 @@
 -- Folds and filters, and sets of numbers in order.
-use Rattle.std.proofs.Common.{◌≡◌, ℕ, Bool, true, false, not, ◌&&◌, ◌||◌, eqb, List, [], ◌∷◌, ◌++◌, map}
-use Rattle.std.proofs.Common.{inl, inr, refl, sym, ap, ◌∙◌, subst}
-use Rattle.std.specs.List.{fold, filter, list_any, flat_map}
-use Rattle.std.proofs.lemmas.List.{append_assoc, append-nil}
-use Rattle.std.proofs.lemmas.List.Elements.{filter-append, filter_agree}
-use Rattle.std.proofs.lemmas.List.Folds.{list_any-append}
-use Rattle.std.proofs.lemmas.Bool.{cond-true, cond-false, eqb-true, eq-eqb, ne_eqb, cases_eq, or_left, and_from, and_left, and_right, not_from_true}
-use Rattle.std.proofs.lemmas.Bool.{not_from_false}
-use Rattle.dom_model.specs.Names.{is_in, append_once, distinct}
+use Rattle.dom_base.proofs.Std.{◌≡◌, ℕ, Bool, true, false, not, ◌&&◌, ◌||◌, eqb, List, [], ◌∷◌, ◌++◌, map, inl, inr, refl, sym, ap, ◌∙◌, subst, fold, filter}
+use Rattle.dom_base.proofs.Std.{list_any, flat_map, append_assoc, append-nil, filter-append, filter_agree, list_any-append, cond-true, cond-false, eqb-true}
+use Rattle.dom_base.proofs.Std.{eq-eqb, ne_eqb, cases_eq, or_left, and_from, and_left, and_right, not_from_true, not_from_false}
+use Rattle.dom_model.proofs.Model.{is_in, append_once, distinct}
 
 -- a fold over two lists, one after the other
 pub fold-append : {A B : Type 0} (f : B → A → B) (b : B) (xs ys : List A) → fold f b (xs ++ ys) ≡ fold f (fold f b xs) ys

@@ -1,12 +1,9 @@
 -- What the walk over the registrations on a path gathers is what the rules say.
-use Rattle.std.proofs.Common.{◌≡◌, ℕ, Bool, true, false, ◌&&◌, ◌||◌, cond, eqb, List, [], ◌∷◌, ◌++◌, map, refl, sym, ap, ◌∙◌}
-use Rattle.std.specs.List.{fold, filter, list_any}
-use Rattle.std.proofs.lemmas.List.{append_assoc, append-nil}
-use Rattle.std.proofs.lemmas.Bool.{cond-true, cond-false}
-use Rattle.dom_model.specs.Names.{is_in, append_once, distinct, is_empty}
-use Rattle.dom_model.specs.Output.{Change}
-use Rattle.dom_model.specs.Observers.{Registration, registrations_on, fits, fitting, interested, asks_for_old, transients_for}
-use Rattle.dom_observers.specs.Taking.{Found, none_found, and_found, found_by, transient_copy, copied_by}
+use Rattle.dom_base.proofs.Std.{◌≡◌, ℕ, Bool, true, false, ◌&&◌, ◌||◌, cond, eqb, List, [], ◌∷◌, ◌++◌, map, refl, sym, ap, ◌∙◌, fold, filter, list_any}
+use Rattle.dom_base.proofs.Std.{append_assoc, append-nil, cond-true, cond-false}
+use Rattle.dom_model.proofs.Model.{is_in, append_once, distinct, is_empty, Change, Registration, registrations_on, fits, fitting, interested, asks_for_old}
+use Rattle.dom_model.proofs.Model.{transients_for}
+use Rattle.dom_observers.specs.Definitions.{Found, none_found, and_found, found_by, transient_copy, copied_by}
 use Rattle.dom_observers.proofs.Folds.{fold-flat_map, or_no, eqb-turned, is_in-append_once, fold-distinct}
 
 -- Two folds over one list.

@@ -1,15 +1,11 @@
 -- What is kept beside an owner's registrations, where some come or go.
-use Rattle.std.proofs.Common.{◌≡◌, ℕ, ◌+◌, ◌≤◌, true, not, eqb, List, ◌++◌, length, map, filter, Some, sym, ap, ◌∙◌, subst, arith}
-use Rattle.std.proofs.lemmas.List.{length-append, length-map}
-use Rattle.std.proofs.lemmas.List.Elements.{filter_map-append}
-use Rattle.dom_model.specs.Names.{is_in}
-use Rattle.dom_model.specs.Observers.{Registration}
+use Rattle.dom_base.proofs.Std.{◌≡◌, ℕ, ◌+◌, ◌≤◌, true, not, eqb, List, ◌++◌, length, map, filter, Some, sym, ap, ◌∙◌, subst, arith, length-append, length-map}
+use Rattle.dom_base.proofs.Std.{filter_map-append}
+use Rattle.dom_model.proofs.Model.{is_in, Registration}
 use Rattle.dom_observers.specs.declared.registered.Registered.{Registered}
 use Rattle.dom_observers.specs.declared.removal.Removal.{Removal}
 use Rattle.dom_observers.specs.declared.watched.Watched.{Watched}
-use Rattle.dom_observers.specs.Views.{registration_of, unless_gone, those_there, there_in, AreThere}
-use Rattle.dom_observers.specs.Removals.{goes, HaveLeft}
-use Rattle.dom_observers.specs.Watching.{among, AreNoted, AreKept}
+use Rattle.dom_observers.specs.Definitions.{registration_of, unless_gone, those_there, there_in, AreThere, goes, HaveLeft, among, AreNoted, AreKept}
 use Rattle.dom_observers.proofs.Leaving.{left-all}
 use Rattle.dom_observers.proofs.Once.{AreOnce, once-filter}
 use Rattle.dom_observers.proofs.Watching.{noted-append, noted-left, found-all}

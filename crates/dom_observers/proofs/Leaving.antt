@@ -1,21 +1,13 @@
 -- Lists in which some registrations have gone: what is there, and what is left where those in some places that go were taken away.
-use Rattle.std.proofs.Common.{inl, inr, ◌≡◌, ℕ, zero, suc, ◌+◌, ◌<◌, ◌≤◌, Bool, true, false, not, ◌&&◌, ◌||◌, cond, eqb, List, [], ◌∷◌, ◌++◌, length, map}
-use Rattle.std.proofs.Common.{get_or, set, Option, Some, None, refl, sym, ap, ◌∙◌, subst, arith}
-use Rattle.std.specs.Prelude.{slice_get}
-use Rattle.std.specs.List.{list_any, filter, cons_option}
-use Rattle.std.specs.Option.{option_map_or}
-use Rattle.std.proofs.Math.Seq.{set-append_seam}
-use Rattle.std.proofs.lemmas.Bool.{cond-true, cond-false, cases_eq, eqb-true, ne_eqb, eq-eqb, or_parts, or_from, true≢false, false≢true}
-use Rattle.std.proofs.lemmas.Option.{none-some, same_Some, slice_get_within, slice_get-get_or}
-use Rattle.std.proofs.lemmas.List.{length-append, map-append}
-use Rattle.std.proofs.lemmas.List.Elements.{filter-append, filter_map-append}
-use Rattle.std.proofs.lemmas.List.Folds.{list_any-append}
-use Rattle.dom_model.specs.Names.{is_in}
-use Rattle.dom_model.specs.Observers.{Registration}
+use Rattle.dom_base.proofs.Std.{inl, inr, ◌≡◌, ℕ, zero, suc, ◌+◌, ◌<◌, ◌≤◌, Bool, true, false, not, ◌&&◌, ◌||◌, cond, eqb, List, [], ◌∷◌, ◌++◌, length, map}
+use Rattle.dom_base.proofs.Std.{get_or, set, Option, Some, None, refl, sym, ap, ◌∙◌, subst, arith, slice_get, list_any, filter, cons_option, option_map_or}
+use Rattle.dom_base.proofs.Std.{set-append_seam, cond-true, cond-false, cases_eq, eqb-true, ne_eqb, eq-eqb, or_parts, or_from, true≢false, false≢true}
+use Rattle.dom_base.proofs.Std.{none-some, same_Some, slice_get_within, slice_get-get_or, length-append, map-append, filter-append, filter_map-append}
+use Rattle.dom_base.proofs.Std.{list_any-append}
+use Rattle.dom_model.proofs.Model.{is_in, Registration}
 use Rattle.dom_observers.specs.declared.registered.Registered.{Registered}
 use Rattle.dom_observers.specs.declared.removal.Removal.{Removal}
-use Rattle.dom_observers.specs.Views.{registration_of, unless_gone, those_there, there_in, AreThere}
-use Rattle.dom_observers.specs.Removals.{goes, HaveLeft}
+use Rattle.dom_observers.specs.Definitions.{registration_of, unless_gone, those_there, there_in, AreThere, goes, HaveLeft}
 use Rattle.dom_observers.proofs.Tables.{slice_get-set_other}
 
 -- ---- what is there

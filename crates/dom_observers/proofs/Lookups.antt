@@ -1,22 +1,12 @@
 -- An owner's tables in the map of all owners'.
-use Rattle.std.proofs.Common.{◌≡◌, ℕ, Bool, true, false, cond, ltb, List, [], ◌∷◌, map, Option, Some, None, refl, sym, ap, ◌∙◌, subst, arith}
-use Rattle.std.specs.Prelude.{unwrap_or, option_map, is_some}
-use Rattle.std.specs.Option.{option_map_or, IsSome}
-use Rattle.std.specs.Map.{lookup}
-use Rattle.std.specs.HashMap.{get}
-use Rattle.dom_base.specs.declared.Owner.{Owner}
+use Rattle.dom_base.proofs.Std.{◌≡◌, ℕ, Bool, true, false, cond, ltb, List, [], ◌∷◌, map, Option, Some, None, refl, sym, ap, ◌∙◌, subst, arith, unwrap_or}
+use Rattle.dom_base.proofs.Std.{option_map, is_some, option_map_or, IsSome, lookup, get, cond-true, cond-false, false_from_ne_true, ltb-true}
+use Rattle.dom_model.proofs.Model.{Owner, owner_eq, owner_eq-true, same_owner}
 use Rattle.dom_base.specs.contracts.OwnerPartialEq.TheImpl as OwnerImpl
-use Rattle.dom_model.specs.Names.{owner_eq}
 use Rattle.dom_observers.specs.declared.observers.Observers.TheInside.{Inside}
 use Rattle.dom_observers.specs.declared.table.Table.{Table}
-use Rattle.dom_observers.specs.Tables.{TablesOf, no_tables}
-use Rattle.dom_observers.specs.TableView.{table_of}
-use Rattle.dom_observers.specs.TablesByOwner.{TablesByOwner}
-use Rattle.dom_observers.specs.Owners.{tables_of, all_tables, ChangesTables, KeepsTables}
-use Rattle.dom_model.proofs.OwnerLaws.{owner_eq-true}
-use Rattle.dom_model.proofs.OwnerTests.{same_owner}
+use Rattle.dom_observers.specs.Definitions.{TablesOf, no_tables, table_of, TablesByOwner, tables_of, all_tables, ChangesTables, KeepsTables}
 use Rattle.dom_observers.proofs.Tables.{none_from, is_some-map}
-use Rattle.std.proofs.lemmas.Bool.{cond-true, cond-false, false_from_ne_true, ltb-true}
 
 -- a look-up among images, by a test that agrees
 lookup-map : {K X Y : Type 0} (f : X → Y) (p q : K → Bool) → ((k : K) → p k ≡ q k) → (es : List (K × X)) →

@@ -1,28 +1,16 @@
 -- The rules over keys, with every key replaced by its name, are the rules over names.
-use Rattle.std.proofs.Common.{◌≡◌, ℕ, Bool, true, false, not, ◌&&◌, ◌||◌, cond, eqb, List, [], ◌∷◌, ◌++◌, map, set, Option, Some, None, inl, inr}
-use Rattle.std.proofs.Common.{refl, sym, ap, ◌∙◌, subst}
-use Rattle.std.specs.Prelude.{slice_get, unwrap_or, option_map}
-use Rattle.std.specs.List.{fold, filter, list_any}
-use Rattle.std.proofs.lemmas.Bool.{cond-true, cond-false, cases_eq, eq-eqb, ne_eqb}
-use Rattle.std.proofs.lemmas.List.{map-append, map-set}
-use Rattle.std.proofs.lemmas.Option.{slice_get-map}
-use Rattle.dom_base.specs.declared.NodeName.{NodeName}
-use Rattle.dom_model.specs.Command.{ObserveWords}
-use Rattle.dom_model.specs.Names.{name_eq, is_in, append_once, distinct, is_empty}
-use Rattle.dom_model.specs.Output.{Change, child_list, attributes, character_data}
-use Rattle.dom_model.specs.Observers.{Registration, Source, asked_for, copied_from, copied_from_transient, is_transient, target_of, without_old}
-use Rattle.dom_model.specs.Observers.{registrations_on, fits, fitting, interested, asks_for, asks_for_old, record_for, transients_for, copied_source}
-use Rattle.dom_model.specs.Observers.{options_of, is_asked_for, stems_from, with_options, without_observer, without_transients}
-use Rattle.dom_model.proofs.OwnerLaws.{name_eq-same, name_eq-other}
-use Rattle.dom_tree.specs.Forest.{name_at}
-use Rattle.dom_tree.specs.Apart.{TellApart}
-use Rattle.dom_observers.specs.Tables.{TablesOf, queue_at}
-use Rattle.dom_observers.specs.Naming.{named_change, named_source, named_registration, named_tables, IsSourceOf, AreRegistered, AreAll, IsKey}
-use Rattle.dom_observers.specs.Naming.{ObservingLaw, TakenLaw, ToldLaw, LeftLaw, MakingLaw, EmptiedLaw, DisconnectedLaw, NotifiedLaw}
-use Rattle.dom_observers.specs.Naming.{NoticesLaw}
+use Rattle.dom_base.proofs.Std.{◌≡◌, ℕ, Bool, true, false, not, ◌&&◌, ◌||◌, cond, eqb, List, [], ◌∷◌, ◌++◌, map, set, Option, Some, None, inl, inr, refl, sym}
+use Rattle.dom_base.proofs.Std.{ap, ◌∙◌, subst, slice_get, unwrap_or, option_map, fold, filter, list_any, cond-true, cond-false, cases_eq, eq-eqb, ne_eqb}
+use Rattle.dom_base.proofs.Std.{map-append, map-set, slice_get-map, filter_agree}
+use Rattle.dom_model.proofs.Model.{NodeName, ObserveWords, name_eq, is_in, append_once, distinct, is_empty, Change, child_list, attributes, character_data}
+use Rattle.dom_model.proofs.Model.{Registration, Source, asked_for, copied_from, copied_from_transient, is_transient, target_of, without_old, registrations_on}
+use Rattle.dom_model.proofs.Model.{fits, fitting, interested, asks_for, asks_for_old, record_for, transients_for, copied_source, options_of, is_asked_for}
+use Rattle.dom_model.proofs.Model.{stems_from, with_options, without_observer, without_transients, name_eq-same, name_eq-other}
+use Rattle.dom_tree.specs.Definitions.{name_at, TellApart}
+use Rattle.dom_observers.specs.Definitions.{TablesOf, queue_at, named_change, named_source, named_registration, named_tables, IsSourceOf, AreRegistered, AreAll}
+use Rattle.dom_observers.specs.Definitions.{IsKey, ObservingLaw, TakenLaw, ToldLaw, LeftLaw, MakingLaw, EmptiedLaw, DisconnectedLaw, NotifiedLaw, NoticesLaw}
 use Rattle.dom_observers.proofs.Folds.{list_any_of_map}
 use Rattle.dom_observers.proofs.Tables.{filter_of_map}
-use Rattle.std.proofs.lemmas.List.Elements.{filter_agree}
 
 -- names are one where their keys are
 same_key : (names : List NodeName) → TellApart names → (j k : ℕ) → IsKey names j → IsKey names k → name_eq (name_at names j) (name_at names k) ≡ eqb j k

@@ -1,13 +1,8 @@
 -- No observer has two registrations on a node that it asked for.
-use Rattle.std.proofs.Common.{◌≡◌, ℕ, ◌+◌, ◌≤◌, Bool, true, false, not, ◌&&◌, cond, eqb, List, [], ◌∷◌, ◌++◌, length, map}
-use Rattle.std.proofs.Common.{refl, ap, ◌∙◌, subst, arith}
-use Rattle.std.specs.List.{list_any, filter}
-use Rattle.std.proofs.lemmas.Bool.{eqb-true, or_parts, and_right}
-use Rattle.std.proofs.lemmas.List.{length-append}
-use Rattle.std.proofs.lemmas.List.Elements.{filter-append}
-use Rattle.dom_model.specs.Command.{ObserveWords}
-use Rattle.dom_model.specs.Observers.{Registration, asked_for, copied_from, copied_from_transient, is_transient, is_asked_for, with_options}
-use Rattle.dom_observers.specs.Taking.{transient_copy}
+use Rattle.dom_base.proofs.Std.{◌≡◌, ℕ, ◌+◌, ◌≤◌, Bool, true, false, not, ◌&&◌, cond, eqb, List, [], ◌∷◌, ◌++◌, length, map, refl, ap, ◌∙◌, subst, arith}
+use Rattle.dom_base.proofs.Std.{list_any, filter, eqb-true, or_parts, and_right, length-append, filter-append}
+use Rattle.dom_model.proofs.Model.{ObserveWords, Registration, asked_for, copied_from, copied_from_transient, is_transient, is_asked_for, with_options}
+use Rattle.dom_observers.specs.Definitions.{transient_copy}
 
 -- how many an observer asked for on a node
 abbrev pub asked : ℕ → ℕ → List (Registration ℕ) → ℕ

@@ -1,23 +1,15 @@
 -- A registration that gets new options.
-use Rattle.std.proofs.Common.{◌≡◌, ℕ, zero, suc, ◌+◌, ◌≤◌, Bool, true, false, not, ◌&&◌, cond, eqb, List, [], ◌∷◌, ◌++◌, length, map, set}
-use Rattle.std.proofs.Common.{Option, Some, None, take, refl, sym, ap, ◌∙◌, subst, arith}
-use Rattle.std.specs.Prelude.{slice_get, is_some}
-use Rattle.std.specs.List.{list_any, filter, cons_option}
-use Rattle.std.specs.Option.{option_map_or}
-use Rattle.std.proofs.lemmas.Bool.{cond-true, cond-false, eqb-true, or_parts, or_from, or_left, or_right, and_left, and_right}
-use Rattle.std.proofs.lemmas.Bool.{true≢false, false≢true}
-use Rattle.std.proofs.lemmas.Option.{none-some, same_Some}
-use Rattle.std.proofs.lemmas.List.{length-map, length-set, map-append}
-use Rattle.std.proofs.lemmas.List.Elements.{filter_map-append}
-use Rattle.dom_model.specs.Command.{ObserveWords}
-use Rattle.dom_model.specs.Observers.{Registration, asked_for, is_transient, is_asked_for, stems_from, with_options, with_registration}
+use Rattle.dom_base.proofs.Std.{◌≡◌, ℕ, zero, suc, ◌+◌, ◌≤◌, Bool, true, false, not, ◌&&◌, cond, eqb, List, [], ◌∷◌, ◌++◌, length, map, set, Option, Some, None}
+use Rattle.dom_base.proofs.Std.{take, refl, sym, ap, ◌∙◌, subst, arith, slice_get, is_some, list_any, filter, cons_option, option_map_or, cond-true, cond-false}
+use Rattle.dom_base.proofs.Std.{eqb-true, or_parts, or_from, or_left, or_right, and_left, and_right, true≢false, false≢true, none-some, same_Some, length-map}
+use Rattle.dom_base.proofs.Std.{length-set, map-append, filter_map-append}
+use Rattle.dom_model.proofs.Model.{ObserveWords, Registration, asked_for, is_transient, is_asked_for, stems_from, with_options, with_registration}
 use Rattle.dom_observers.specs.declared.registered.Registered.{Registered}
 use Rattle.dom_observers.specs.declared.removal.Removal.{Removal}
 use Rattle.dom_observers.specs.declared.removal.Removal.TheVariants.{Of, TransientsOf, CopiesOf}
 use Rattle.dom_observers.specs.declared.watched.Watched.{Watched}
-use Rattle.dom_observers.specs.Views.{registration_of, unless_gone, those_there, there_in}
-use Rattle.dom_observers.specs.Removals.{goes}
-use Rattle.dom_observers.specs.Watching.{places_at, places_from, is_marked, is_above, AreThinned, AreNoted, AreKept}
+use Rattle.dom_observers.specs.Definitions.{registration_of, unless_gone, those_there, there_in, goes, places_at, places_from, is_marked, is_above, AreThinned}
+use Rattle.dom_observers.specs.Definitions.{AreNoted, AreKept}
 use Rattle.dom_observers.proofs.Leaving.{IsThere, IsParted, parted, parted-set, unless-there, there-got, there-set}
 use Rattle.dom_observers.proofs.Watching.{second}
 use Rattle.dom_observers.proofs.Thinning.{thinned-left}

@@ -1,17 +1,12 @@
 -- The nodes that an owner's registrations and records name: they stay of P after each call, and where two namings agree on
 -- P the tables are the same in names.
-use Rattle.std.proofs.Common.{◌≡◌, ℕ, zero, suc, Bool, true, false, not, cond, ◌&&◌, ◌==◌, List, [], ◌∷◌, ◌++◌, map, Option, Some, None, refl, ap, subst, ◌∙◌}
-use Rattle.std.specs.Prelude.{nat_eq, slice_get, slice_set, option_map, unwrap_or, if◌then◌else◌}
-use Rattle.std.specs.List.{fold, filter, list_any}
-use Rattle.std.specs.Option.{ForSome}
-use Rattle.dom_model.specs.Names.{is_in}
-use Rattle.dom_model.specs.Command.{ObserveWords}
-use Rattle.dom_model.specs.Output.{Change, child_list, attributes, character_data}
-use Rattle.dom_model.specs.Observers.{Registration, Source, asked_for, copied_from, copied_from_transient, is_transient, without_old}
-use Rattle.dom_model.specs.Observers.{registrations_on, record_for, interested, transients_for, copied_source, options_of, is_asked_for, stems_from}
-use Rattle.dom_model.specs.Observers.{with_options, with_registration, fitting, asks_for_old}
-use Rattle.dom_observers.specs.Tables.{TablesOf, no_tables, queue_at, with_observer, emptied, disconnected, observing, told, left, notified}
-use Rattle.dom_observers.specs.Naming.{named_change, named_source, named_registration, named_tables, IsSourceOf, AreRegistered, AreAll, IsChangeAt, SpeaksOf}
+use Rattle.dom_base.proofs.Std.{◌≡◌, ℕ, zero, suc, Bool, true, false, not, cond, ◌&&◌, ◌==◌, List, [], ◌∷◌, ◌++◌, map, Option, Some, None, refl, ap, subst, ◌∙◌}
+use Rattle.dom_base.proofs.Std.{nat_eq, slice_get, slice_set, option_map, unwrap_or, if◌then◌else◌, fold, filter, list_any, ForSome}
+use Rattle.dom_model.proofs.Model.{is_in, ObserveWords, Change, child_list, attributes, character_data, Registration, Source, asked_for, copied_from}
+use Rattle.dom_model.proofs.Model.{copied_from_transient, is_transient, without_old, registrations_on, record_for, interested, transients_for, copied_source}
+use Rattle.dom_model.proofs.Model.{options_of, is_asked_for, stems_from, with_options, with_registration, fitting, asks_for_old}
+use Rattle.dom_observers.specs.Definitions.{TablesOf, no_tables, queue_at, with_observer, emptied, disconnected, observing, told, left, notified, named_change}
+use Rattle.dom_observers.specs.Definitions.{named_source, named_registration, named_tables, IsSourceOf, AreRegistered, AreAll, IsChangeAt, SpeaksOf}
 
 -- ---- lists
 

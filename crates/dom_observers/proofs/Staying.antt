@@ -1,19 +1,10 @@
 -- Registrations stay on nodes of their owner, and records go on naming them.
-use Rattle.std.proofs.Common.{◌≡◌, ℕ, ◌<◌, Bool, true, false, List, ◌++◌, length, arith, refl, sym, ap, subst, ◌∙◌}
-use Rattle.std.specs.Prelude.{nat_eq, if◌then◌else◌}
-use Rattle.std.proofs.Math.ListN.{get_or-append}
-use Rattle.std.proofs.lemmas.List.{length-append}
-use Rattle.dom_base.specs.declared.NodeName.{NodeName}
-use Rattle.dom_base.specs.declared.Owner.{Owner}
-use Rattle.dom_base.specs.declared.Owner.TheVariants.{Page}
-use Rattle.dom_model.specs.Names.{owner_eq, node_of}
-use Rattle.dom_model.proofs.OwnerLaws.{owner_eq-true}
-use Rattle.dom_observers.specs.Naming.{AreAll, IsChangeAt, SpeaksOf}
-use Rattle.dom_observers.specs.Owners.{tables_of, ChangesTables}
-use Rattle.dom_observers.specs.Staying.{IsOwnKey, AreOwnTables, NoneStay, SameStay, MoreStay, KeysStay, RecordsStay, MadeStay, ObservingStay}
-use Rattle.dom_observers.specs.Staying.{DisconnectedStay, EmptiedStay, ToldStay, LeftStay, NotifiedStay}
-use Rattle.dom_observers.specs.Tables.{TablesOf, disconnected}
-use Rattle.dom_observers.specs.TablesByOwner.{TablesByOwner}
+use Rattle.dom_base.proofs.Std.{◌≡◌, ℕ, ◌<◌, Bool, true, false, List, ◌++◌, length, arith, refl, sym, ap, subst, ◌∙◌, nat_eq, if◌then◌else◌, get_or-append}
+use Rattle.dom_base.proofs.Std.{length-append}
+use Rattle.dom_model.proofs.Model.{NodeName, Owner, Page, owner_eq, node_of, owner_eq-true}
+use Rattle.dom_observers.specs.Definitions.{AreAll, IsChangeAt, SpeaksOf, tables_of, ChangesTables, IsOwnKey, AreOwnTables, NoneStay, SameStay, MoreStay}
+use Rattle.dom_observers.specs.Definitions.{KeysStay, RecordsStay, MadeStay, ObservingStay, DisconnectedStay, EmptiedStay, ToldStay, LeftStay, NotifiedStay}
+use Rattle.dom_observers.specs.Definitions.{TablesOf, disconnected, TablesByOwner}
 use Rattle.dom_observers.proofs.Speaking.{all_got, speaks_none, speaks_made, speaks_observing, speaks_disconnected, speaks_emptied, speaks_told}
 use Rattle.dom_observers.proofs.Speaking.{speaks_left, speaks_notified, speaks_more}
 

@@ -1,17 +1,10 @@
 -- What becomes of tables: records given one after the other, queues emptied, and registrations that are kept.
-use Rattle.std.proofs.Common.{◌≡◌, ℕ, zero, suc, ◌<◌, Bool, true, false, not, eqb, List, [], ◌∷◌, ◌++◌, length, map, get_or, set, take, Option, Some}
-use Rattle.std.proofs.Common.{None, refl, sym, ap, ◌∙◌, arith}
-use Rattle.std.specs.Prelude.{slice_get, unwrap_or, option_map, is_some, Vec}
-use Rattle.std.specs.List.{fold, filter, IsDistinct}
-use Rattle.std.proofs.lemmas.Bool.{cond-true, cond-false, or_parts, or_from, eq-eqb, ne_eqb, true≢false}
-use Rattle.std.proofs.lemmas.List.{append-nil}
-use Rattle.std.proofs.lemmas.List.Elements.{All-from_recursion}
-use Rattle.dom_model.specs.Names.{is_in, append_once, is_empty}
-use Rattle.dom_model.specs.Output.{Change as Changed}
-use Rattle.dom_model.specs.Observers.{Registration, interested, record_for, transients_for}
+use Rattle.dom_base.proofs.Std.{◌≡◌, ℕ, zero, suc, ◌<◌, Bool, true, false, not, eqb, List, [], ◌∷◌, ◌++◌, length, map, get_or, set, take, Option, Some, None}
+use Rattle.dom_base.proofs.Std.{refl, sym, ap, ◌∙◌, arith, slice_get, unwrap_or, option_map, is_some, Vec, fold, filter, IsDistinct, cond-true, cond-false}
+use Rattle.dom_base.proofs.Std.{or_parts, or_from, eq-eqb, ne_eqb, true≢false, append-nil, All-from_recursion}
+use Rattle.dom_model.proofs.Model.{is_in, append_once, is_empty, Change as Changed, Registration, interested, record_for, transients_for}
 use Rattle.dom_observers.specs.declared.change.Change.{Change}
-use Rattle.dom_observers.specs.Tables.{TablesOf, queue_at, given, told, is_taken, left}
-use Rattle.dom_observers.specs.Views.{change_of}
+use Rattle.dom_observers.specs.Definitions.{TablesOf, queue_at, given, told, is_taken, left, change_of}
 use Rattle.dom_observers.proofs.Folds.{eqb-turned}
 use Rattle.dom_observers.proofs.Gathering.{fold-agree}
 

@@ -1,21 +1,12 @@
 -- Registrations stay of observers that were made.
-use Rattle.std.proofs.Common.{◌≡◌, ℕ, ◌<◌, ◌≤◌, Bool, true, false, not, ◌&&◌, ◌==◌, List, [], ◌∷◌, ◌++◌, map, length, arith, refl, sym, ap, subst, ◌∙◌}
-use Rattle.std.specs.Prelude.{nat_eq, is_some, slice_set, if◌then◌else◌}
-use Rattle.std.specs.List.{All, filter, fold, list_any}
-use Rattle.std.proofs.lemmas.List.{length-append, length-set}
-use Rattle.std.proofs.lemmas.List.Elements.{All-nil, All-append, All-push, All-filter, All-map, All-weaker}
-use Rattle.std.proofs.lemmas.Option.{slice_get_within, get_or_from_slice_get, slice_get-get_or}
-use Rattle.dom_base.specs.declared.Owner.{Owner}
-use Rattle.dom_model.specs.Names.{owner_eq, is_in}
-use Rattle.dom_model.specs.Command.{ObserveWords}
-use Rattle.dom_model.specs.Output.{Change}
-use Rattle.dom_model.specs.Observers.{Registration, asked_for, registrations_on, copied_source, options_of, is_asked_for, is_transient, stems_from}
-use Rattle.dom_model.specs.Observers.{with_options, with_registration, transients_for, interested, record_for}
-use Rattle.dom_observers.specs.Owners.{tables_of, ChangesTables}
-use Rattle.dom_observers.specs.Tables.{TablesOf, disconnected, queue_at}
-use Rattle.dom_observers.specs.TablesByOwner.{TablesByOwner}
-use Rattle.dom_observers.specs.There.{AreMade, AreThere, NoneThere, SameThere, HasThere, MadeThere, ObservingThere, DisconnectedThere, EmptiedThere}
-use Rattle.dom_observers.specs.There.{ToldThere, LeftThere, NotifiedThere}
+use Rattle.dom_base.proofs.Std.{◌≡◌, ℕ, ◌<◌, ◌≤◌, Bool, true, false, not, ◌&&◌, ◌==◌, List, [], ◌∷◌, ◌++◌, map, length, arith, refl, sym, ap, subst, ◌∙◌}
+use Rattle.dom_base.proofs.Std.{nat_eq, is_some, slice_set, if◌then◌else◌, All, filter, fold, list_any, length-append, length-set, All-nil, All-append}
+use Rattle.dom_base.proofs.Std.{All-push, All-filter, All-map, All-weaker, slice_get_within, get_or_from_slice_get, slice_get-get_or}
+use Rattle.dom_model.proofs.Model.{Owner, owner_eq, is_in, ObserveWords, Change, Registration, asked_for, registrations_on, copied_source, options_of}
+use Rattle.dom_model.proofs.Model.{is_asked_for, is_transient, stems_from, with_options, with_registration, transients_for, interested, record_for}
+use Rattle.dom_observers.specs.Definitions.{tables_of, ChangesTables, TablesOf, disconnected, queue_at, TablesByOwner, AreMade, NoneThere, SameThere, HasThere}
+use Rattle.dom_observers.specs.Definitions.{MadeThere, ObservingThere, DisconnectedThere, EmptiedThere, ToldThere, LeftThere, NotifiedThere}
+use Rattle.dom_observers.specs.There.{AreThere}
 
 -- ---- lists
 

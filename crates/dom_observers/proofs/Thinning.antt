@@ -1,18 +1,10 @@
 -- Lists of places of which those of registrations that have gone may have been dropped.
-use Rattle.std.proofs.Common.{inl, inr, ◌≡◌, ℕ, ◌+◌, ◌<◌, Bool, true, false, ◌&&◌, cond, eqb, List, [], ◌∷◌, ◌++◌, length}
-use Rattle.std.proofs.Common.{Option, Some, None, refl, sym, ap, ◌∙◌, arith}
-use Rattle.std.specs.Prelude.{is_some, if◌then◌else◌}
-use Rattle.std.specs.List.{filter, cons_option}
-use Rattle.std.proofs.lemmas.Bool.{cond-true, cond-false, eqb-true, eq-eqb, or_cases, or_left, or_right, and_from, and_parts, true≢false, false≢true}
-use Rattle.std.proofs.lemmas.List.Elements.{filter-append}
-use Rattle.std.proofs.lemmas.List.Folds.{list_any-append}
-use Rattle.std.proofs.lemmas.Map.Views.{any-filter_same}
-use Rattle.dom_model.specs.Names.{is_in}
-use Rattle.dom_model.specs.Observers.{Registration}
+use Rattle.dom_base.proofs.Std.{inl, inr, ◌≡◌, ℕ, ◌+◌, ◌<◌, Bool, true, false, ◌&&◌, cond, eqb, List, [], ◌∷◌, ◌++◌, length, Option, Some, None, refl, sym, ap}
+use Rattle.dom_base.proofs.Std.{◌∙◌, arith, is_some, if◌then◌else◌, filter, cons_option, cond-true, cond-false, eqb-true, eq-eqb, or_cases, or_left, or_right}
+use Rattle.dom_base.proofs.Std.{and_from, and_parts, true≢false, false≢true, filter-append, list_any-append, any-filter_same}
+use Rattle.dom_model.proofs.Model.{is_in, Registration}
 use Rattle.dom_observers.specs.declared.registered.Registered.{Registered}
-use Rattle.dom_observers.specs.Views.{there_in}
-use Rattle.dom_observers.specs.Taking.{picked}
-use Rattle.dom_observers.specs.Watching.{places_from, there_of, AreThinned}
+use Rattle.dom_observers.specs.Definitions.{there_in, picked, places_from, there_of, AreThinned}
 
 -- ---- numbers that pass a test
 

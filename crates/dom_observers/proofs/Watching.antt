@@ -1,34 +1,21 @@
 -- What is noted of an owner's registrations: their places, and the nodes from which what is below is observed; what is found in these
 -- places, what a walk upwards may leave out, and what it gathers.
-use Rattle.std.proofs.Common.{inl, inr, ◌≡◌, ℕ, ◌+◌, ◌<◌, ◌≤◌, Bool, true, false, not, ◌&&◌, ◌||◌, cond, eqb, List, [], ◌∷◌, ◌++◌, length, map}
-use Rattle.std.proofs.Common.{get_or, take, Option, Some, None, Bor, refl, sym, ap, ◌∙◌, subst, arith}
-use Rattle.std.specs.Prelude.{option_map, slice_get, is_some, if◌then◌else◌}
-use Rattle.std.specs.Option.{ForSome}
-use Rattle.std.specs.List.{list_any, filter, cons_option, fold}
-use Rattle.std.proofs.lemmas.Bool.{cond-true, cond-false, cases_eq, or_parts, or_from, eqb-true, false≢true}
-use Rattle.std.proofs.lemmas.List.{append_assoc, length-append, length-map, length_push, length-take-le, map-append, take_all, take-append-le, take_more}
-use Rattle.std.proofs.lemmas.Option.{same_Some, slice_get-get_or}
-use Rattle.std.proofs.lemmas.List.Elements.{filter_map-append}
-use Rattle.std.proofs.lemmas.List.Folds.{list_any-append}
-use Rattle.std.proofs.lemmas.Map.Views.{any-filter_same}
-use Rattle.dom_model.specs.Names.{is_in}
-use Rattle.dom_model.specs.Tree.{parent_of}
-use Rattle.dom_model.specs.Output.{Change}
-use Rattle.dom_model.specs.Observers.{Registration, asks_for, asks_for_old, fits, transients_for, target_of, is_asked_for, is_transient}
-use Rattle.dom_tree.specs.Forest.{NamedTrees, name_at}
-use Rattle.dom_tree.specs.Apart.{TellApart}
-use Rattle.dom_laws.proofs.Options.{was_some}
+use Rattle.dom_base.proofs.Std.{inl, inr, ◌≡◌, ℕ, ◌+◌, ◌<◌, ◌≤◌, Bool, true, false, not, ◌&&◌, ◌||◌, cond, eqb, List, [], ◌∷◌, ◌++◌, length, map, get_or, take}
+use Rattle.dom_base.proofs.Std.{Option, Some, None, Bor, refl, sym, ap, ◌∙◌, subst, arith, option_map, slice_get, is_some, if◌then◌else◌, ForSome, list_any}
+use Rattle.dom_base.proofs.Std.{filter, cons_option, fold, cond-true, cond-false, cases_eq, or_parts, or_from, eqb-true, false≢true, append_assoc}
+use Rattle.dom_base.proofs.Std.{length-append, length-map, length_push, length-take-le, map-append, take_all, take-append-le, take_more, same_Some}
+use Rattle.dom_base.proofs.Std.{slice_get-get_or, filter_map-append, list_any-append, any-filter_same}
+use Rattle.dom_model.proofs.Model.{is_in, parent_of, Change, Registration, asks_for, asks_for_old, fits, transients_for, target_of, is_asked_for, is_transient}
+use Rattle.dom_tree.specs.Definitions.{NamedTrees, name_at, TellApart}
+use Rattle.dom_laws.proofs.Laws.{was_some}
 use Rattle.dom_tree.proofs.Standing.{StandOnce, StandAlone}
 use Rattle.dom_observers.specs.declared.places.Places.{Places}
 use Rattle.dom_observers.specs.declared.registered.Registered.{Registered}
 use Rattle.dom_observers.specs.declared.removal.Removal.{Removal}
 use Rattle.dom_observers.specs.declared.watched.Watched.{Watched}
-use Rattle.dom_observers.specs.Views.{registration_of, unless_gone, those_there, there_in}
-use Rattle.dom_observers.specs.Removals.{goes}
-use Rattle.dom_observers.specs.Naming.{IsKey}
-use Rattle.dom_observers.specs.Paths.{path_keys}
-use Rattle.dom_observers.specs.Taking.{transient_copy, picked, none_found, and_found, found_by, found_at, copied_by, copied_at}
-use Rattle.dom_observers.specs.Watching.{places_in, places_or, places_at, places_from, is_marked, looked_at, is_above, among, AreThinned, AreNoted, IsPlaceOf}
+use Rattle.dom_observers.specs.Definitions.{registration_of, unless_gone, those_there, there_in, goes, IsKey, path_keys, transient_copy, picked, none_found}
+use Rattle.dom_observers.specs.Definitions.{and_found, found_by, found_at, copied_by, copied_at, places_in, places_or, places_at, places_from, is_marked}
+use Rattle.dom_observers.specs.Definitions.{looked_at, is_above, among, AreThinned, AreNoted, IsPlaceOf}
 use Rattle.dom_observers.proofs.Ascending.{HasClimbed, climbs-first, climbs-more, climbs-all}
 use Rattle.dom_observers.proofs.Folds.{filter-filter, fold-append}
 use Rattle.dom_observers.proofs.Gathering.{fold-agree, walk-copies}

@@ -12,3 +12,4 @@ pub mod Owners
 pub mod Naming
 pub mod Staying
 pub mod There
+pub mod Definitions

@@ -1,35 +1,17 @@
 -- Whether a shadow root may be attached to a node, which component it will belong to, and the raw parts from which one is attached.
-use Rattle.std.proofs.Common.{◌≡◌, ◌≢◌, ℕ, ◌+◌, ◌<◌, ◌≤◌, inl, inr, Bool, true, false, not, ◌||◌, List, [], ◌∷◌, ◌++◌, Option, Some, None, length, refl}
-use Rattle.std.proofs.Common.{sym, ap, subst, ◌∙◌, arith}
-use Rattle.std.specs.Prelude.{nat_eq, nat_lt, find, option_map, is_some, if◌then◌else◌}
-use Rattle.std.proofs.lemmas.Bool.{cases_Bool, cases_lt, lt-ltb, le-ltb, ltb-false}
-use Rattle.std.proofs.lemmas.List.{length-map}
-use Rattle.dom_base.specs.declared.Kind.TheVariants.{Shadow}
-use Rattle.dom_base.specs.declared.NodeName.{NodeName}
-use Rattle.dom_base.specs.declared.Owner.{Owner}
-use Rattle.dom_base.specs.declared.Owner.TheVariants.{Page}
-use Rattle.dom_base.specs.declared.Refusal.{Refusal}
-use Rattle.dom_base.specs.declared.Refusal.TheVariants.{NotSupported, Limit}
-use Rattle.dom_model.specs.Names.{owner_eq, name_eq, is_in, node_of}
-use Rattle.dom_model.specs.Tree.{Node, node_in}
-use Rattle.dom_model.specs.TreeChanges.{with_node}
-use Rattle.dom_model.specs.DocumentMachine.{new_root, attaching}
-use Rattle.dom_model.specs.CommandRefusals.{may_be_host}
-use Rattle.dom_model.specs.Part.{Part}
-use Rattle.dom_base.specs.Owners.{has_word, may_attach, owner_depth, max_depth}
-use Rattle.dom_model.specs.World.{MayAttach, is_there, part_of, component_made, shadow_root_of}
-use Rattle.dom_model.proofs.OwnerLaws.{owner_eq-false, word-made, may_attach-word, may_attach-from, name_eq-other}
-use Rattle.dom_slots.specs.Hosts.{ShadowHost, HostsAreNodes, root_of_host}
-use Rattle.dom_slots.specs.Kept.{SlotsNow, AreSlotsOf}
+use Rattle.dom_base.proofs.Std.{◌≡◌, ◌≢◌, ℕ, ◌+◌, ◌<◌, ◌≤◌, inl, inr, Bool, true, false, not, ◌||◌, List, [], ◌∷◌, ◌++◌, Option, Some, None, length, refl, sym}
+use Rattle.dom_base.proofs.Std.{ap, subst, ◌∙◌, arith, nat_eq, nat_lt, find, option_map, is_some, if◌then◌else◌, cases_Bool, cases_lt, lt-ltb, le-ltb}
+use Rattle.dom_base.proofs.Std.{ltb-false, length-map}
+use Rattle.dom_model.proofs.Model.{Shadow, NodeName, Owner, Page, Refusal, NotSupported, Limit, owner_eq, name_eq, is_in, node_of, Node, node_in, with_node}
+use Rattle.dom_model.proofs.Model.{new_root, attaching, may_be_host, Part, may_attach, owner_depth, max_depth, MayAttach, is_there, part_of, component_made}
+use Rattle.dom_model.proofs.Model.{shadow_root_of, owner_eq-false, word-made, may_attach-word, may_attach-from, name_eq-other}
+use Rattle.dom_base.specs.Owners.{has_word}
+use Rattle.dom_slots.specs.Definitions.{ShadowHost, HostsAreNodes, root_of_host, SlotsNow, AreSlotsOf}
 use Rattle.dom_slots.proofs.Hosted.{key-test}
-use Rattle.dom_tree.specs.Forest.{NamedTrees, name_at, next_name, count_of}
-use Rattle.dom_tree.specs.Owners.{trees_of_owner}
+use Rattle.dom_tree.specs.Definitions.{NamedTrees, name_at, next_name, count_of, trees_of_owner, TellApart}
 use Rattle.dom_tree.proofs.Owned.{read_own}
-use Rattle.dom_tree.specs.Apart.{TellApart}
-use Rattle.dom_parts.specs.Contents.{part_in}
-use Rattle.dom_parts.specs.Hosting.{maker_of, hosts_of, host_names, attached_of, host_owners, AreMadeBehind}
-use Rattle.dom_parts.specs.AllTables.{AllTables}
-use Rattle.dom_parts.specs.Doc.{DocState, contents, world_from, state_from, IsDoc, name_in, owner_in, attaching_refusal}
+use Rattle.dom_parts.specs.Definitions.{part_in, maker_of, hosts_of, host_names, attached_of, host_owners, AreMadeBehind, AllTables, DocState, contents}
+use Rattle.dom_parts.specs.Definitions.{world_from, state_from, IsDoc, name_in, owner_in, attaching_refusal}
 use Rattle.dom_parts.proofs.Attached.{HasOneHostMore, component_for, attached_held, attached_state}
 use Rattle.dom_parts.proofs.AttachedWorlds.{count_none, component_absent}
 use Rattle.dom_parts.proofs.DocInvariant.{are_hosts}

@@ -1,40 +1,18 @@
 -- A shadow root is attached: what is held has one host more, so it is still a legal `Doc`, and its world is that of the
 -- definitions.
-use Rattle.std.proofs.Common.{◌≡◌, ◌≢◌, ℕ, ◌<◌, ◌≤◌, ◌⊎◌, inl, inr, true, false, List, [], ◌∷◌, ◌++◌, Option, length}
-use Rattle.std.proofs.Common.{refl, sym, ap, subst, ◌∙◌, arith}
-use Rattle.std.specs.List.{AllByRecursion}
-use Rattle.std.proofs.lemmas.Bool.{cases_Bool, false_from_ne_true}
-use Rattle.std.proofs.lemmas.List.{length_push, map-append}
+use Rattle.dom_base.proofs.Std.{◌≡◌, ◌≢◌, ℕ, ◌<◌, ◌≤◌, ◌⊎◌, inl, inr, true, false, List, [], ◌∷◌, ◌++◌, Option, length, refl, sym, ap, subst, ◌∙◌, arith}
+use Rattle.dom_base.proofs.Std.{AllByRecursion, cases_Bool, false_from_ne_true, length_push, map-append, get_or-append, eq-or-lt_of_le, get_or-append_seam}
 use Rattle.dom_node_trees.specs.Signalled.{AreNames}
 use Rattle.dom_node_trees.proofs.NamesByKey.{names_grown}
-use Rattle.std.proofs.Math.ListN.{get_or-append}
-use Rattle.std.proofs.Math.Nat.{eq-or-lt_of_le}
-use Rattle.std.proofs.Math.Seq.{get_or-append_seam}
-use Rattle.dom_base.specs.declared.Kind.TheVariants.{Shadow}
-use Rattle.dom_base.specs.declared.NodeName.{NodeName}
-use Rattle.dom_base.specs.declared.Owner.{Owner}
-use Rattle.dom_base.specs.declared.Owner.TheVariants.{Page}
-use Rattle.dom_model.specs.Names.{owner_eq, node_of}
-use Rattle.dom_model.specs.Tree.{node_in}
-use Rattle.dom_model.specs.TreeChanges.{with_node}
-use Rattle.dom_model.specs.DocumentMachine.{new_root, attaching}
-use Rattle.dom_model.specs.World.{Task, MayAttach, is_there, component_made, shadow_root_of}
-use Rattle.dom_model.proofs.OwnerLaws.{owner_eq-true, owner_eq-false, owner_eq-same, ne-owner_eq, component_made-other}
-use Rattle.dom_slots.specs.Hosts.{ShadowHost}
-use Rattle.dom_slots.specs.Kept.{AreSlotsOf}
-use Rattle.dom_observers.specs.Tables.{TablesOf, no_tables as no_observers}
-use Rattle.dom_observers.specs.Naming.{IsKey, SpeaksOf}
-use Rattle.dom_tree.specs.Forest.{NamedTrees, name_at, count_of}
-use Rattle.dom_ranges.specs.Settings.{named_ranges}
-use Rattle.dom_ranges.specs.Tables.{ranges_of}
-use Rattle.dom_model.specs.Ranges.{Range}
-use Rattle.dom_parts.specs.Contents.{Tables}
-use Rattle.dom_parts.specs.Numbering.{AreNumbered}
-use Rattle.dom_parts.specs.Ranging.{AreRangesOf}
-use Rattle.dom_traversal.specs.OwnTables.{KeyedTables, no_keyed_tables}
-use Rattle.dom_parts.specs.AllTables.{AllTables, tables_view, AreTablesOf}
-use Rattle.dom_parts.specs.Hosting.{maker_of, hosts_of, AreMadeBehind, host_names, host_owners, attached_of, AreHostsOf, IsAttached}
-use Rattle.dom_parts.specs.Doc.{named_trees, contents, world_from, IsDoc, IsDue}
+use Rattle.dom_model.proofs.Model.{Shadow, NodeName, Owner, Page, owner_eq, node_of, node_in, with_node, new_root, attaching, Task, MayAttach, is_there}
+use Rattle.dom_model.proofs.Model.{component_made, shadow_root_of, owner_eq-true, owner_eq-false, owner_eq-same, ne-owner_eq, component_made-other, Range}
+use Rattle.dom_slots.specs.Definitions.{ShadowHost, AreSlotsOf}
+use Rattle.dom_observers.specs.Definitions.{TablesOf, no_tables as no_observers, IsKey, SpeaksOf}
+use Rattle.dom_tree.specs.Definitions.{NamedTrees, name_at, count_of}
+use Rattle.dom_ranges.specs.Definitions.{named_ranges, ranges_of}
+use Rattle.dom_parts.specs.Definitions.{Tables, AreNumbered, AreRangesOf, AllTables, tables_view, AreTablesOf, maker_of, hosts_of, AreMadeBehind, host_names}
+use Rattle.dom_parts.specs.Definitions.{host_owners, attached_of, AreHostsOf, IsAttached, named_trees, contents, world_from, IsDoc, IsDue}
+use Rattle.dom_traversal.specs.Definitions.{KeyedTables, no_keyed_tables}
 use Rattle.dom_parts.proofs.AttachedWorlds.{count_none, counted_other, counted_new, component_new, attached_world, attached_hosts}
 use Rattle.dom_parts.proofs.DocInvariant.{are_hosts, due_kept}
 use Rattle.dom_parts.proofs.HostsOfOwners.{count_hosts, own-pushed, other-pushed}

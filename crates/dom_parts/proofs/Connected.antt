@@ -1,31 +1,19 @@
 -- A node is connected where the last root is a document that is found by going up from its root: from a root to its host, and
 -- to the root of that one's tree.
-use Rattle.std.proofs.Common.{◌≡◌, ℕ, ◌<◌, ◌≤◌, zero, suc, Bool, true, false, List, [], ◌∷◌, ◌++◌, length, Option, Some, None, flat_map, unwrap_or, refl}
-use Rattle.std.proofs.Common.{sym, ap, subst, ◌∙◌, inl, inr, arith}
-use Rattle.std.specs.Prelude.{option_to_list, count_by}
-use Rattle.std.specs.Option.{option_and_then, option_map_or}
-use Rattle.std.proofs.lemmas.Bool.{cases_Bool, true≢false}
-use Rattle.std.proofs.lemmas.List.{append-nil}
-use Rattle.dom_base.specs.declared.NodeName.{NodeName}
-use Rattle.dom_base.specs.declared.Owner.{Owner}
-use Rattle.std.specs.List.{last_or}
-use Rattle.dom_model.specs.Names.{name_eq, last_of, owner_depth}
-use Rattle.dom_model.specs.Tree.{Trees, Node, nodes, inclusive_ancestors, kind_of, is_document, root_of, times_in}
-use Rattle.dom_model.specs.World.{World, part_of, host_of, host_above, some_if, shadow_root_of, hosts_from, ancestors_at, kind_at, root_at, is_connected}
-use Rattle.dom_model.proofs.OwnerLaws.{name_eq-true}
-use Rattle.dom_slots.specs.Hosts.{host_named}
-use Rattle.dom_slots.specs.Shadows.{ShadowTrees, IsShownBy, shadows}
+use Rattle.dom_base.proofs.Std.{◌≡◌, ℕ, ◌<◌, ◌≤◌, zero, suc, Bool, true, false, List, [], ◌∷◌, ◌++◌, length, Option, Some, None, flat_map, unwrap_or, refl, sym}
+use Rattle.dom_base.proofs.Std.{ap, subst, ◌∙◌, inl, inr, arith, option_to_list, count_by, option_and_then, option_map_or, cases_Bool, true≢false, append-nil}
+use Rattle.dom_base.proofs.Std.{last_or}
+use Rattle.dom_model.proofs.Model.{NodeName, Owner, name_eq, last_of, owner_depth, Trees, Node, nodes, inclusive_ancestors, kind_of, is_document, root_of}
+use Rattle.dom_model.proofs.Model.{times_in, World, part_of, host_of, host_above, some_if, shadow_root_of, hosts_from, ancestors_at, kind_at, root_at}
+use Rattle.dom_model.proofs.Model.{is_connected, name_eq-true}
+use Rattle.dom_slots.specs.Definitions.{host_named, ShadowTrees, IsShownBy, shadows}
 use Rattle.dom_slots.proofs.Hosted.{host-key}
-use Rattle.dom_laws.proofs.Lists.{name_eq-from}
-use Rattle.dom_tree.specs.Forest.{NamedTrees, name_at}
+use Rattle.dom_laws.proofs.Laws.{name_eq-from, times_count, path_gone}
+use Rattle.dom_tree.specs.Definitions.{NamedTrees, name_at}
 use Rattle.dom_tree.proofs.Owned.{read_own, stays_own}
-use Rattle.dom_parts.specs.AllTables.{AllTables}
-use Rattle.dom_parts.specs.Doc.{IsDoc, contents, world_from}
-use Rattle.dom_parts.specs.Hosting.{outermost_root}
+use Rattle.dom_parts.specs.Definitions.{AllTables, IsDoc, contents, world_from, outermost_root}
 use Rattle.dom_parts.proofs.DocInvariant.{are_hosts}
 use Rattle.dom_parts.proofs.HostedWorlds.{world_shown}
-use Rattle.dom_laws.proofs.Counts.{times_count}
-use Rattle.dom_laws.proofs.Paths.{path_gone}
 
 -- ---- the host of a node's root
 

@@ -1,36 +1,18 @@
 -- An owner's tables written: what holds then, the world then, and that it is what a command of the model does.
-use Rattle.std.proofs.Common.{◌≡◌, ℕ, zero, suc, inl, inr, Bool, true, false, List, [], ◌∷◌, ◌++◌, length, Option, Some, None, option_map}
-use Rattle.std.proofs.Common.{map, refl, sym, ap, subst, ◌∙◌}
-use Rattle.std.specs.Prelude.{is_some, slice_get, slice_set}
-use Rattle.std.specs.Option.{option_map_or}
-use Rattle.std.proofs.lemmas.Bool.{cases_Bool, true≢false, cond-true, cond-false}
-use Rattle.std.proofs.lemmas.List.{map-set, map-append, length-map}
-use Rattle.std.proofs.lemmas.Option.{slice_get-map, same_Some}
-use Rattle.dom_base.specs.declared.NodeName.{NodeName}
-use Rattle.dom_base.specs.declared.Owner.{Owner}
-use Rattle.dom_base.specs.declared.Move.{Move}
-use Rattle.dom_model.specs.Names.{owner_eq, node_of}
-use Rattle.dom_model.specs.Tree.{Trees}
-use Rattle.dom_model.specs.Command.{Command, Filter, own, effect}
-use Rattle.dom_model.specs.Output.{Value, nothing, a_node, an_iterator, a_walker, reference}
-use Rattle.dom_model.specs.Traversal.{Iterator, Walker, iterator_next_node, iterator_previous_node, moved_to, walker_move}
-use Rattle.dom_model.specs.Part.{Part}
-use Rattle.dom_model.specs.World.{part_of, with_part, is_there}
-use Rattle.dom_model.specs.Effects.{Effect, keeps, answers, node_or_null, moves_iterator, sets_walker, new_iterator, new_walker}
-use Rattle.dom_model.proofs.OwnerLaws.{owner_eq-true}
-use Rattle.dom_tree.specs.Forest.{name_at, count_of}
-use Rattle.dom_tree.specs.Owners.{trees_of_owner}
+use Rattle.dom_base.proofs.Std.{◌≡◌, ℕ, zero, suc, inl, inr, Bool, true, false, List, [], ◌∷◌, ◌++◌, length, Option, Some, None, option_map, map, refl, sym, ap}
+use Rattle.dom_base.proofs.Std.{subst, ◌∙◌, is_some, slice_get, slice_set, option_map_or, cases_Bool, true≢false, cond-true, cond-false, map-set, map-append}
+use Rattle.dom_base.proofs.Std.{length-map, slice_get-map, same_Some}
+use Rattle.dom_model.proofs.Model.{NodeName, Owner, Move, owner_eq, node_of, Trees, Command, Filter, own, effect, Value, nothing, a_node, an_iterator, a_walker}
+use Rattle.dom_model.proofs.Model.{reference, Iterator, Walker, iterator_next_node, iterator_previous_node, moved_to, walker_move, Part, part_of, with_part}
+use Rattle.dom_model.proofs.Model.{is_there, Effect, keeps, answers, node_or_null, moves_iterator, sets_walker, new_iterator, new_walker, owner_eq-true}
+use Rattle.dom_tree.specs.Definitions.{name_at, count_of, trees_of_owner}
 use Rattle.dom_tree.proofs.Owned.{stays_own}
-use Rattle.dom_traversal.specs.Iterators.{KeyedIterator, iterator_view, iterator_at}
-use Rattle.dom_traversal.specs.Walkers.{KeyedWalker, walker_view, walker_at}
-use Rattle.dom_parts.specs.Contents.{part_with}
-use Rattle.dom_traversal.specs.OwnTables.{KeyedTables, no_keyed_tables}
+use Rattle.dom_traversal.specs.Definitions.{KeyedIterator, iterator_view, iterator_at, KeyedWalker, walker_view, walker_at, KeyedTables, no_keyed_tables}
+use Rattle.dom_parts.specs.Definitions.{part_with, AreTablesOf, AllTables, with_table, named_trees, shown_tables, contents, world_from, IsDoc, Makes}
 use Rattle.dom_traversal.proofs.Owners.{with-own, with-other}
-use Rattle.dom_parts.specs.AllTables.{AreTablesOf, AllTables, with_table}
-use Rattle.dom_parts.specs.Doc.{named_trees, shown_tables, contents, world_from, IsDoc, Makes}
 use Rattle.dom_parts.proofs.Worlds.{part_at, part_off, there_same, changed}
 use Rattle.dom_parts.proofs.OwnNodes.{next_own, previous_own, move_own}
-use Rattle.dom_ranges.specs.Tables.{ranges_of}
+use Rattle.dom_ranges.specs.Definitions.{ranges_of}
 use Rattle.dom_parts.proofs.DocInvariant.{held_with, single_owners, still_named}
 use Rattle.dom_parts.proofs.RangedKeeping.{ranges_stay}
 

@@ -1,32 +1,18 @@
 -- What holds of a `Doc` stays so when one owner's trees change, and then its world has that owner's part changed.
-use Rattle.std.proofs.Common.{◌≡◌, ℕ, ◌<◌, ◌≤◌, true, false, List, [], ◌∷◌, length}
-use Rattle.std.proofs.Common.{refl, sym, ap, subst, ◌∙◌, ◌≢◌, arith}
-use Rattle.std.specs.List.{AllByRecursion}
-use Rattle.std.proofs.lemmas.Option.{none-some}
-use Rattle.dom_base.specs.declared.NodeName.{NodeName}
-use Rattle.dom_base.specs.declared.Owner.{Owner}
-use Rattle.dom_base.specs.declared.Owner.TheVariants.{Page}
-use Rattle.dom_model.specs.Tree.{Trees}
-use Rattle.dom_model.specs.World.{World, is_there, Task, micro_task, notify_task}
-use Rattle.dom_tree.specs.Forest.{NamedTrees, name_at, count_of}
-use Rattle.dom_tree.specs.Owners.{AreOwned, trees_of_owner, IsOwnChange}
-use Rattle.dom_observers.specs.Tables.{TablesOf, no_tables as no_observers}
-use Rattle.dom_observers.specs.Naming.{IsKey, SpeaksOf}
-use Rattle.dom_traversal.specs.OwnTables.{no_keyed_tables}
-use Rattle.dom_parts.specs.AllTables.{AreTablesOf, AllTables, trees_with, with_queue, with_observers, with_live}
+use Rattle.dom_base.proofs.Std.{◌≡◌, ℕ, ◌<◌, ◌≤◌, true, false, List, [], ◌∷◌, length, refl, sym, ap, subst, ◌∙◌, ◌≢◌, arith, AllByRecursion, none-some}
+use Rattle.dom_model.proofs.Model.{NodeName, Owner, Page, Trees, World, is_there, Task, micro_task, notify_task, ne-owner_eq}
+use Rattle.dom_tree.specs.Definitions.{NamedTrees, name_at, count_of, AreOwned, trees_of_owner, IsOwnChange}
+use Rattle.dom_observers.specs.Definitions.{TablesOf, no_tables as no_observers, IsKey, SpeaksOf}
+use Rattle.dom_traversal.specs.Definitions.{no_keyed_tables}
+use Rattle.dom_parts.specs.Definitions.{AreTablesOf, AllTables, trees_with, with_queue, with_observers, with_live, maker_of, hosts_of, host_names, host_owners}
+use Rattle.dom_parts.specs.Definitions.{AreMadeBehind, AreHostsOf, AreNumbered, AreRangesOf, named_trees, contents, world_from, IsDoc, IsDue}
 use Rattle.dom_node_trees.specs.Signalled.{AreSignals, AreNames}
-use Rattle.dom_parts.specs.Hosting.{maker_of, hosts_of, host_names, host_owners, AreMadeBehind, AreHostsOf}
-use Rattle.dom_parts.specs.Numbering.{AreNumbered}
-use Rattle.dom_parts.specs.Ranging.{AreRangesOf}
-use Rattle.dom_ranges.specs.Tables.{RangeLists}
-use Rattle.dom_slots.specs.Hosts.{ShadowHost, HostsAreNodes}
-use Rattle.dom_slots.specs.Kept.{AreSlotsOf}
-use Rattle.dom_model.proofs.OwnerLaws.{ne-owner_eq}
+use Rattle.dom_ranges.specs.Definitions.{RangeLists}
+use Rattle.dom_slots.specs.Definitions.{ShadowHost, HostsAreNodes, AreSlotsOf}
 use Rattle.dom_parts.proofs.HostedWorlds.{single_hosted}
 use Rattle.dom_parts.proofs.HostsOfOwners.{other-host}
-use Rattle.dom_parts.specs.Doc.{named_trees, contents, world_from, IsDoc, IsDue}
 use Rattle.dom_parts.proofs.Worlds.{Single, there_same}
-use Rattle.dom_laws.proofs.KeptAncestors.{KeepsAbove}
+use Rattle.dom_laws.proofs.Laws.{KeepsAbove}
 use Rattle.dom_parts.proofs.Keeping.{tables_kept}
 use Rattle.dom_parts.proofs.RangedKeeping.{ranges_stay}
 

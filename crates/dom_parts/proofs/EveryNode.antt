@@ -1,11 +1,7 @@
 -- What holds of each node of trees holds of each after the elementary changes.
-use Rattle.std.proofs.Common.{Bool, true, false, List, [], ◌∷◌, ◌++◌, Option}
-use Rattle.std.specs.Prelude.{if◌then◌else◌}
-use Rattle.std.specs.List.{AllByRecursion}
-use Rattle.dom_base.specs.declared.NodeName.{NodeName}
-use Rattle.dom_model.specs.Names.{name_eq, name_before}
-use Rattle.dom_model.specs.Tree.{Trees, none, tree, Node, or_else, subtree}
-use Rattle.dom_model.specs.TreeChanges.{followed_by, without, is_given, put_before, put_below, put_root, placed, taken_out, map_nodes}
+use Rattle.dom_base.proofs.Std.{Bool, true, false, List, [], ◌∷◌, ◌++◌, Option, if◌then◌else◌, AllByRecursion}
+use Rattle.dom_model.proofs.Model.{NodeName, name_eq, name_before, Trees, none, tree, Node, or_else, subtree, followed_by, without, is_given, put_before}
+use Rattle.dom_model.proofs.Model.{put_below, put_root, placed, taken_out, map_nodes}
 
 -- each node
 abbrev pub EachNode : (Node → Type 0) → Trees → Type 0

@@ -1,44 +1,20 @@
 -- What holds of a `Doc` holds with one node more, and at first.
-use Rattle.std.proofs.Common.{◌≡◌, ℕ, ◌+◌, ◌<◌, ◌≤◌, ◌⊎◌, inl, inr, true, cond, List, [], ◌∷◌, ◌++◌, length, Option}
-use Rattle.std.proofs.Common.{Result, Ok, Err, refl, sym, ap, subst, ◌∙◌, ◌≢◌, arith, add-one, suc}
-use Rattle.std.specs.Prelude.{OnOk, OnErr, ◌↔◌}
-use Rattle.std.proofs.lemmas.Bool.{cases_Bool}
-use Rattle.std.proofs.lemmas.List.{length_push}
-use Rattle.std.proofs.Math.Nat.{eq-or-lt_of_le, add-zero}
-use Rattle.std.proofs.Math.ListN.{get_or-append}
-use Rattle.std.proofs.Math.Seq.{get_or-append_seam}
-use Rattle.dom_base.specs.declared.Fault.{Fault}
-use Rattle.dom_base.specs.declared.Fault.TheVariants.{Refused}
-use Rattle.dom_base.specs.declared.Refusal.TheVariants.{Limit}
-use Rattle.dom_base.specs.declared.NodeName.{NodeName}
-use Rattle.dom_base.specs.declared.Owner.{Owner}
-use Rattle.dom_base.specs.declared.Owner.TheVariants.{Page}
-use Rattle.dom_model.specs.Names.{name_eq, is_in, owner_eq, node_of}
-use Rattle.dom_model.specs.Tree.{Trees, none, Node}
-use Rattle.dom_model.specs.TreeChanges.{with_node, with_name}
-use Rattle.dom_model.specs.Steps.{make}
-use Rattle.dom_model.specs.World.{part_of, is_there}
-use Rattle.dom_model.specs.WorldSteps.{world_step}
-use Rattle.dom_model.specs.Part.{empty_part, next_name as part_next}
-use Rattle.dom_model.specs.Ranges.{Range}
-use Rattle.dom_model.proofs.OwnerLaws.{owner_eq-same, owner_eq-true, ne-owner_eq}
-use Rattle.dom_tree.specs.Forest.{NamedTrees, name_at, next_name, count_of}
-use Rattle.dom_tree.specs.Owners.{trees_of_owner, IsOwnChange}
+use Rattle.dom_base.proofs.Std.{◌≡◌, ℕ, ◌+◌, ◌<◌, ◌≤◌, ◌⊎◌, inl, inr, true, cond, List, [], ◌∷◌, ◌++◌, length, Option, Result, Ok, Err, refl, sym, ap, subst}
+use Rattle.dom_base.proofs.Std.{◌∙◌, ◌≢◌, arith, add-one, suc, OnOk, OnErr, ◌↔◌, cases_Bool, length_push, eq-or-lt_of_le, add-zero, get_or-append}
+use Rattle.dom_base.proofs.Std.{get_or-append_seam, All-nil}
+use Rattle.dom_model.proofs.Model.{Fault, Refused, Limit, NodeName, Owner, Page, name_eq, is_in, owner_eq, node_of, Trees, none, Node, with_node, with_name}
+use Rattle.dom_model.proofs.Model.{make, part_of, is_there, world_step, empty_part, next_name as part_next, Range, owner_eq-same, owner_eq-true, ne-owner_eq}
+use Rattle.dom_tree.specs.Definitions.{NamedTrees, name_at, next_name, count_of, trees_of_owner, IsOwnChange, TellApart}
 use Rattle.dom_tree.proofs.OwnPlacings.{added}
-use Rattle.dom_tree.specs.Apart.{TellApart}
-use Rattle.dom_ranges.specs.Settings.{named_ranges}
-use Rattle.dom_ranges.specs.Tables.{RangeList, RangeLists, ranges_of}
-use Rattle.dom_observers.specs.Naming.{IsKey}
+use Rattle.dom_ranges.specs.Definitions.{named_ranges, RangeList, RangeLists, ranges_of}
+use Rattle.dom_observers.specs.Definitions.{IsKey}
 use Rattle.dom_observers.proofs.Speaking.{speaks_none}
-use Rattle.dom_parts.specs.Contents.{Tables, part_with}
-use Rattle.dom_parts.specs.AllTables.{tables_view, AllTables, no_slots, first_tables, AreFirst, with_live}
-use Rattle.dom_slots.specs.Kept.{AreSlotsOf, StandsOnce, HasOneMore}
+use Rattle.dom_parts.specs.Definitions.{Tables, part_with, tables_view, AllTables, no_slots, first_tables, AreFirst, with_live, DocState, named_trees}
+use Rattle.dom_parts.specs.Definitions.{shown_tables, contents, world_from, state_from, nothing_left, IsDoc, attached_of}
+use Rattle.dom_slots.specs.Definitions.{AreSlotsOf, StandsOnce, HasOneMore}
 use Rattle.dom_slots.proofs.Added.{slots-more}
 use Rattle.dom_parts.proofs.HostedSteps.{names_pushed, made_renamed, attached_renamed, plain_step}
-use Rattle.std.proofs.lemmas.List.Elements.{All-nil}
 use Rattle.dom_node_trees.proofs.NamesByKey.{names_grown}
-use Rattle.dom_parts.specs.Doc.{DocState, named_trees, shown_tables, contents, world_from, state_from, nothing_left, IsDoc}
-use Rattle.dom_parts.specs.Hosting.{attached_of}
 use Rattle.dom_parts.proofs.Worlds.{part_at}
 use Rattle.dom_parts.proofs.Keeping.{tables_more, view_same, speaks_grown}
 use Rattle.dom_parts.proofs.Numbers.{count_more, numbered_more}

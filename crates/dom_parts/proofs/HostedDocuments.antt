@@ -1,23 +1,13 @@
 -- Node documents in the world of what is held with hosts: a tree's, and those of the shadow trees of the hosts in it, at any depth.
-use Rattle.std.proofs.Common.{◌≡◌, ℕ, zero, suc, true, List, [], ◌∷◌, ◌++◌, Option, Some, None, fold, map, filter_map, flat_map, refl, sym, ap, ◌∙◌}
-use Rattle.std.specs.Prelude.{option_map}
-use Rattle.std.specs.List.{AllByRecursion, cons_option}
-use Rattle.std.proofs.lemmas.List.{map-append}
-use Rattle.dom_base.specs.declared.NodeName.{NodeName}
-use Rattle.dom_base.specs.declared.Owner.{Owner}
-use Rattle.dom_model.specs.Names.{max_depth}
-use Rattle.dom_model.specs.Tree.{inclusive_descendants}
-use Rattle.dom_model.specs.TreeChanges.{change_subtree, with_document}
-use Rattle.dom_model.specs.Steps.{set_document, part_step}
-use Rattle.dom_model.specs.World.{World, is_there, components_below, shadow_root_of}
-use Rattle.dom_model.specs.WorldSteps.{world_step, stepped, with_shadow_document}
+use Rattle.dom_base.proofs.Std.{◌≡◌, ℕ, zero, suc, true, List, [], ◌∷◌, ◌++◌, Option, Some, None, fold, map, filter_map, flat_map, refl, sym, ap, ◌∙◌}
+use Rattle.dom_base.proofs.Std.{option_map, AllByRecursion, cons_option, map-append}
+use Rattle.dom_model.proofs.Model.{NodeName, Owner, max_depth, inclusive_descendants, change_subtree, with_document, set_document, part_step, World, is_there}
+use Rattle.dom_model.proofs.Model.{components_below, shadow_root_of, world_step, stepped, with_shadow_document}
 use Rattle.dom_node_trees.specs.Documents.{roots_within}
-use Rattle.dom_slots.specs.Hosts.{ShadowHost, root_named}
-use Rattle.dom_tree.specs.Forest.{count_of}
-use Rattle.dom_tree.specs.Owners.{IsOwnChange}
+use Rattle.dom_slots.specs.Definitions.{ShadowHost, root_named}
+use Rattle.dom_tree.specs.Definitions.{count_of, IsOwnChange}
 use Rattle.dom_tree.proofs.OwnPlacings.{changed_subtree}
-use Rattle.dom_parts.specs.Contents.{Contents, part_in, part_with, world_of}
-use Rattle.dom_parts.specs.Hosting.{component_named, AreHostsOf, document_in, documents_in, forest_in}
+use Rattle.dom_parts.specs.Definitions.{Contents, part_in, part_with, world_of, component_named, AreHostsOf, document_in, documents_in, forest_in}
 use Rattle.dom_parts.proofs.Worlds.{IsChangeOf, there_same}
 use Rattle.dom_parts.proofs.HostedWorlds.{root-component, near_looked, below_there}
 use Rattle.dom_parts.proofs.HostedSteps.{names_same, hosts_stepped, stepped_hosted}

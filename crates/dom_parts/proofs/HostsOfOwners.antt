@@ -1,20 +1,10 @@
 -- The hosts of one owner among all hosts, and where a component stands among those of its maker.
-use Rattle.std.proofs.Common.{◌≡◌, ℕ, suc, ◌+◌, ◌<◌, ◌≤◌, ◌⊎◌, Bool, true, false, List, [], ◌∷◌, ◌++◌, length, Some}
-use Rattle.std.proofs.Common.{sym, ap, subst, ◌∙◌, inl, inr, arith}
-use Rattle.std.specs.Prelude.{if◌then◌else◌}
-use Rattle.std.proofs.Math.Nat.{eq-or-lt_of_le}
-use Rattle.std.proofs.lemmas.Bool.{cases_Bool}
-use Rattle.std.proofs.lemmas.List.{length_push, append-nil}
-use Rattle.std.proofs.lemmas.List.Elements.{filter-append}
-use Rattle.std.proofs.lemmas.Option.{same_Some}
-use Rattle.dom_base.specs.declared.NodeName.{NodeName}
-use Rattle.dom_base.specs.declared.Owner.{Owner}
-use Rattle.dom_base.specs.declared.Owner.TheVariants.{Page}
-use Rattle.dom_model.specs.Names.{owner_eq}
-use Rattle.dom_model.specs.World.{MayAttach, component_made, made_by}
-use Rattle.dom_model.proofs.OwnerLaws.{owner_eq-same, owner_eq-true, made_by-made, component_made-no_page}
-use Rattle.dom_slots.specs.Hosts.{ShadowHost}
-use Rattle.dom_parts.specs.Hosting.{maker_of, hosts_of, IsMadeAs, AreMadeBehind, host_owners}
+use Rattle.dom_base.proofs.Std.{◌≡◌, ℕ, suc, ◌+◌, ◌<◌, ◌≤◌, ◌⊎◌, Bool, true, false, List, [], ◌∷◌, ◌++◌, length, Some, sym, ap, subst, ◌∙◌, inl, inr, arith}
+use Rattle.dom_base.proofs.Std.{if◌then◌else◌, eq-or-lt_of_le, cases_Bool, length_push, append-nil, filter-append, same_Some}
+use Rattle.dom_model.proofs.Model.{NodeName, Owner, Page, owner_eq, MayAttach, component_made, made_by, owner_eq-same, owner_eq-true, made_by-made}
+use Rattle.dom_model.proofs.Model.{component_made-no_page}
+use Rattle.dom_slots.specs.Definitions.{ShadowHost}
+use Rattle.dom_parts.specs.Definitions.{maker_of, hosts_of, IsMadeAs, AreMadeBehind, host_owners}
 use Rattle.dom_parts.proofs.Worlds.{In, Single}
 
 -- where a component stands: who made it, and as which one, between the numbers of hosts

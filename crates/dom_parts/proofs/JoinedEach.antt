@@ -1,22 +1,12 @@
 -- Loops that join Texts to a first one, one after another.
-use Rattle.std.proofs.Common.{◌≡◌, ℕ, suc, ◌+◌, ◌<◌, ◌≤◌, get_or, drop-cons, add-one, List, [], ◌∷◌, drop, length, map, refl, sym}
-use Rattle.std.proofs.Common.{ap, subst, ◌∙◌}
-use Rattle.std.specs.List.{AllByRecursion}
-use Rattle.dom_base.specs.declared.NodeName.{NodeName}
-use Rattle.dom_base.specs.declared.Owner.{Owner}
-use Rattle.dom_model.specs.Changes.{steps_of}
-use Rattle.dom_model.specs.Steps.{join_at, part_step}
-use Rattle.dom_model.specs.TextChanges.{joins}
-use Rattle.dom_model.specs.Tree.{index_of, length_of}
-use Rattle.dom_model.specs.Part.{Part}
-use Rattle.dom_model.specs.World.{part_of}
-use Rattle.dom_worlds.specs.Bounds.{HasBounds}
-use Rattle.dom_worlds.specs.Worlds.{IsPart}
-use Rattle.dom_tree.specs.Forest.{name_at}
-use Rattle.dom_parts.specs.Doc.{DocState, JoinsFit, IsOwnNode, name_in, owner_in, trees_in, stepped, planned}
-use Rattle.dom_parts.specs.Hosting.{IsAlone}
+use Rattle.dom_base.proofs.Std.{◌≡◌, ℕ, suc, ◌+◌, ◌<◌, ◌≤◌, get_or, drop-cons, add-one, List, [], ◌∷◌, drop, length, map, refl, sym, ap, subst, ◌∙◌}
+use Rattle.dom_base.proofs.Std.{AllByRecursion}
+use Rattle.dom_model.proofs.Model.{NodeName, Owner, steps_of, join_at, part_step, joins, index_of, length_of, Part, part_of}
+use Rattle.dom_worlds.specs.Definitions.{HasBounds, IsPart}
+use Rattle.dom_tree.specs.Definitions.{name_at}
+use Rattle.dom_parts.specs.Definitions.{DocState, JoinsFit, IsOwnNode, name_in, owner_in, trees_in, stepped, planned, IsAlone}
 use Rattle.dom_worlds.proofs.RangeLemmas.{join_at-keeps}
-use Rattle.dom_laws.proofs.Lists.{all_drop}
+use Rattle.dom_laws.proofs.Laws.{all_drop}
 use Rattle.dom_parts.proofs.Made.{alone_after}
 
 -- ---- joins

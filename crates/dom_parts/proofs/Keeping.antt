@@ -1,29 +1,15 @@
 -- What holds of owners' tables stays so when trees change.
-use Rattle.std.proofs.Common.{◌≡◌, ◌≢◌, ℕ, zero, suc, ◌<◌, inl, inr, true, false, List, [], ◌∷◌, ◌++◌, length, map, refl, sym, ap, subst, ◌∙◌, arith}
-use Rattle.std.specs.Prelude.{slice_get}
-use Rattle.std.proofs.lemmas.Bool.{cases_Bool}
-use Rattle.std.proofs.lemmas.List.{length_push}
-use Rattle.std.proofs.lemmas.Option.{none-some, same_Some}
-use Rattle.std.proofs.Math.ListN.{get_or-append}
-use Rattle.dom_base.specs.declared.NodeName.{NodeName}
-use Rattle.dom_base.specs.declared.Owner.{Owner}
-use Rattle.dom_base.specs.declared.Owner.TheVariants.{Page}
-use Rattle.dom_model.specs.Names.{node_of}
-use Rattle.dom_model.specs.Tree.{Trees, Node, is_inclusive_ancestor}
-use Rattle.dom_model.specs.TreeChanges.{with_node}
-use Rattle.dom_model.specs.Traversal.{Iterator, Walker, adjusted_iterator}
-use Rattle.dom_tree.specs.Forest.{NamedTrees, name_at}
-use Rattle.dom_tree.specs.Owners.{AreOwned, trees_of_owner}
+use Rattle.dom_base.proofs.Std.{◌≡◌, ◌≢◌, ℕ, zero, suc, ◌<◌, inl, inr, true, false, List, [], ◌∷◌, ◌++◌, length, map, refl, sym, ap, subst, ◌∙◌, arith}
+use Rattle.dom_base.proofs.Std.{slice_get, cases_Bool, length_push, none-some, same_Some, get_or-append}
+use Rattle.dom_model.proofs.Model.{NodeName, Owner, Page, node_of, Trees, Node, is_inclusive_ancestor, with_node, Iterator, Walker, adjusted_iterator}
+use Rattle.dom_tree.specs.Definitions.{NamedTrees, name_at, AreOwned, trees_of_owner}
 use Rattle.dom_tree.proofs.Owned.{stays_own}
-use Rattle.dom_traversal.specs.Iterators.{KeyedIterator, iterator_view, IsIteratorOf, HasLeft, with_taken_out}
-use Rattle.dom_traversal.specs.Walkers.{KeyedWalker, walker_view}
-use Rattle.dom_observers.specs.Tables.{TablesOf}
-use Rattle.dom_observers.specs.Naming.{named_tables, IsKey, SpeaksOf}
+use Rattle.dom_traversal.specs.Definitions.{KeyedIterator, iterator_view, IsIteratorOf, HasLeft, with_taken_out, KeyedWalker, walker_view, KeyedTables}
+use Rattle.dom_traversal.specs.Definitions.{EachItem, IsLeft, AreLeft}
+use Rattle.dom_observers.specs.Definitions.{TablesOf, named_tables, IsKey, SpeaksOf}
 use Rattle.dom_observers.proofs.Speaking.{same_tables, speaks_more}
-use Rattle.dom_traversal.specs.OwnTables.{KeyedTables, EachItem, IsLeft, AreLeft}
-use Rattle.dom_parts.specs.AllTables.{tables_with, tables_view, IsOwnIterator, IsOwnWalker, AreTablesOf}
-use Rattle.dom_parts.specs.Doc.{named_trees}
-use Rattle.dom_laws.proofs.KeptAncestors.{KeepsAbove, above_added}
+use Rattle.dom_parts.specs.Definitions.{tables_with, tables_view, IsOwnIterator, IsOwnWalker, AreTablesOf, named_trees}
+use Rattle.dom_laws.proofs.Laws.{KeepsAbove, above_added}
 use Rattle.dom_parts.proofs.OwnNodes.{adjusted_own}
 
 -- ---- where nothing that stands above a node ceases to

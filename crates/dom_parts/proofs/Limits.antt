@@ -1,18 +1,9 @@
 -- No owner has more nodes than it may, and when there is no room for one more.
-use Rattle.std.proofs.Common.{◌≡◌, ℕ, ◌+◌, ◌≤◌, inl, inr, true, false, List}
-use Rattle.std.proofs.Common.{sym, ap, subst, ◌∙◌, arith}
-use Rattle.std.specs.Prelude.{◌↔◌}
-use Rattle.std.proofs.lemmas.Bool.{cases_Bool, false_from_ne_true}
+use Rattle.dom_base.proofs.Std.{◌≡◌, ℕ, ◌+◌, ◌≤◌, inl, inr, true, false, List, sym, ap, subst, ◌∙◌, arith, ◌↔◌, cases_Bool, false_from_ne_true}
 use borrow.Author.Tests.{ltb-true}
-use Rattle.dom_base.specs.declared.NodeName.{NodeName}
-use Rattle.dom_base.specs.declared.Owner.{Owner}
-use Rattle.dom_model.specs.Tree.{Trees}
-use Rattle.dom_model.specs.World.{part_of, is_there}
-use Rattle.dom_model.specs.Part.{Part}
-use Rattle.dom_model.specs.CommandRefusals.{past_limit}
-use Rattle.dom_tree.specs.Forest.{NamedTrees, count_of}
-use Rattle.dom_parts.specs.AllTables.{AllTables}
-use Rattle.dom_parts.specs.Doc.{DocState, contents, world_from, state_from, IsDoc}
+use Rattle.dom_model.proofs.Model.{NodeName, Owner, Trees, part_of, is_there, Part, past_limit}
+use Rattle.dom_tree.specs.Definitions.{NamedTrees, count_of}
+use Rattle.dom_parts.specs.Definitions.{AllTables, DocState, contents, world_from, state_from, IsDoc}
 use Rattle.dom_parts.proofs.Worlds.{part_at, part_off}
 
 pub limit_count : (n m : ℕ) → m ≡ n → n ≤ 1000000 → (n ≡ 1000000) ↔ (past_limit m 1 ≡ true)

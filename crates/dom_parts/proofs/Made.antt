@@ -1,16 +1,8 @@
 -- Plans made one after another in a world, by an owner whose own steps do in its part what they do in a part alone.
-use Rattle.std.proofs.Common.{◌≡◌, List, [], ◌∷◌, ◌++◌, refl, sym, ap, subst, ◌∙◌}
-use Rattle.std.specs.List.{AllByRecursion}
-use Rattle.dom_base.specs.declared.Owner.{Owner}
-use Rattle.dom_model.specs.Steps.{Step, after, part_step}
-use Rattle.dom_model.specs.Part.{Part}
-use Rattle.dom_model.specs.World.{World, part_of}
-use Rattle.dom_model.specs.WorldSteps.{world_after}
-use Rattle.dom_model.specs.Changes.{Plan, ◌and_then◌, in_turn}
-use Rattle.dom_model.proofs.PartLaws.{owner-part_of}
-use Rattle.dom_tree.specs.Owners.{AreOf}
-use Rattle.dom_parts.specs.Doc.{DocState, made, planned}
-use Rattle.dom_parts.specs.Hosting.{SetsOwnDocuments, IsOwnPart, PlansOwn, IsAlone}
+use Rattle.dom_base.proofs.Std.{◌≡◌, List, [], ◌∷◌, ◌++◌, refl, sym, ap, subst, ◌∙◌, AllByRecursion}
+use Rattle.dom_model.proofs.Model.{Owner, Step, after, part_step, Part, World, part_of, world_after, Plan, ◌and_then◌, in_turn, owner-part_of}
+use Rattle.dom_tree.specs.Definitions.{AreOf}
+use Rattle.dom_parts.specs.Definitions.{DocState, made, planned, SetsOwnDocuments, IsOwnPart, PlansOwn, IsAlone}
 use Rattle.dom_parts.proofs.OwnSteps.{after_more, made_then_alone}
 use Rattle.dom_parts.proofs.OwnPlans.{all_own_both, own_after}
 

@@ -1,19 +1,9 @@
 -- The numbers of nodes: how many an owner has, and that each is below that count, where one comes.
-use Rattle.std.proofs.Common.{◌≡◌, ℕ, ◌+◌, ◌≤◌, ◌<◌, ◌⊎◌, Bool, true, false, cond, List, [], ◌∷◌, ◌++◌, length, sym, ap, subst, ◌∙◌, inl, inr, arith}
-use Rattle.std.proofs.Common.{eq-or-lt_of_le, zero-add}
-use Rattle.std.specs.Prelude.{if◌then◌else◌}
-use Rattle.std.proofs.lemmas.Bool.{cond-true, cond-false}
-use Rattle.std.proofs.lemmas.List.{length_push}
-use Rattle.std.proofs.lemmas.List.Sums.{sum_by-append}
-use Rattle.std.proofs.Math.Seq.{get_or-append_seam}
-use Rattle.std.proofs.Math.ListN.{get_or-append}
-use Rattle.dom_base.specs.declared.NodeName.{NodeName}
-use Rattle.dom_base.specs.declared.Owner.{Owner}
-use Rattle.dom_base.specs.declared.Owner.TheVariants.{Page}
-use Rattle.dom_model.specs.Names.{owner_eq, node_of}
-use Rattle.dom_model.proofs.OwnerLaws.{owner_eq-same}
-use Rattle.dom_tree.specs.Forest.{name_at, count_of}
-use Rattle.dom_parts.specs.Numbering.{AreNumbered}
+use Rattle.dom_base.proofs.Std.{◌≡◌, ℕ, ◌+◌, ◌≤◌, ◌<◌, ◌⊎◌, Bool, true, false, cond, List, [], ◌∷◌, ◌++◌, length, sym, ap, subst, ◌∙◌, inl, inr, arith}
+use Rattle.dom_base.proofs.Std.{eq-or-lt_of_le, zero-add, if◌then◌else◌, cond-true, cond-false, length_push, sum_by-append, get_or-append_seam, get_or-append}
+use Rattle.dom_model.proofs.Model.{NodeName, Owner, Page, owner_eq, node_of, owner_eq-same}
+use Rattle.dom_tree.specs.Definitions.{name_at, count_of}
+use Rattle.dom_parts.specs.Definitions.{AreNumbered}
 
 -- a choice of numbers
 pub pick_first : (b : Bool) (m k : ℕ) → b ≡ true → (if b then m else k) ≡ m

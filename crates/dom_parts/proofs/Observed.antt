@@ -1,30 +1,13 @@
 -- One owner's observers change: what holds of all owners' then, and the world then.
-use Rattle.std.proofs.Common.{◌≡◌, ◌≢◌, ℕ, inl, inr, true, false, true≢false, List, Option, Some, None, option_map, map, refl, sym, ap, subst, ◌∙◌}
-use Rattle.std.specs.Prelude.{is_some, slice_get, if◌then◌else◌}
-use Rattle.std.proofs.lemmas.Bool.{cases_Bool, cond-true, cond-false}
-use Rattle.std.proofs.lemmas.Option.{slice_get-map}
-use Rattle.dom_base.specs.declared.NodeName.{NodeName}
-use Rattle.dom_base.specs.declared.Owner.{Owner}
-use Rattle.dom_model.specs.Names.{owner_eq}
-use Rattle.dom_model.specs.Tree.{Trees}
-use Rattle.dom_model.specs.Command.{Command, effect}
-use Rattle.dom_model.specs.Output.{Value, Said}
-use Rattle.dom_model.specs.Part.{Part}
-use Rattle.dom_model.specs.World.{part_of, with_part, is_there}
-use Rattle.dom_model.specs.Effects.{Effect}
-use Rattle.dom_model.proofs.OwnerLaws.{owner_eq-same, owner_eq-true, ne-owner_eq}
-use Rattle.dom_tree.specs.Forest.{name_at, count_of}
-use Rattle.dom_tree.specs.Owners.{trees_of_owner}
-use Rattle.dom_traversal.specs.Iterators.{iterator_view}
-use Rattle.dom_traversal.specs.Walkers.{walker_view}
-use Rattle.dom_observers.specs.Tables.{TablesOf, no_tables as no_observers}
-use Rattle.dom_observers.specs.Naming.{named_tables, named_change, IsKey, SpeaksOf}
-use Rattle.dom_ranges.specs.Settings.{named_ranges}
-use Rattle.dom_ranges.specs.Tables.{ranges_of}
-use Rattle.dom_parts.specs.Contents.{part_with}
-use Rattle.dom_parts.specs.AllTables.{tables_with, AllTables, with_observers}
-use Rattle.dom_parts.specs.Doc.{shown_tables, contents, world_from, IsDoc, MakesSaying}
-use Rattle.dom_parts.specs.Hosting.{attached_of}
+use Rattle.dom_base.proofs.Std.{◌≡◌, ◌≢◌, ℕ, inl, inr, true, false, true≢false, List, Option, Some, None, option_map, map, refl, sym, ap, subst, ◌∙◌, is_some}
+use Rattle.dom_base.proofs.Std.{slice_get, if◌then◌else◌, cases_Bool, cond-true, cond-false, slice_get-map}
+use Rattle.dom_model.proofs.Model.{NodeName, Owner, owner_eq, Trees, Command, effect, Value, Said, Part, part_of, with_part, is_there, Effect, owner_eq-same}
+use Rattle.dom_model.proofs.Model.{owner_eq-true, ne-owner_eq}
+use Rattle.dom_tree.specs.Definitions.{name_at, count_of, trees_of_owner}
+use Rattle.dom_traversal.specs.Definitions.{iterator_view, walker_view}
+use Rattle.dom_observers.specs.Definitions.{TablesOf, no_tables as no_observers, named_tables, named_change, IsKey, SpeaksOf}
+use Rattle.dom_ranges.specs.Definitions.{named_ranges, ranges_of}
+use Rattle.dom_parts.specs.Definitions.{part_with, tables_with, AllTables, with_observers, shown_tables, contents, world_from, IsDoc, MakesSaying, attached_of}
 use Rattle.dom_parts.proofs.Worlds.{IsChangeOf, there_same, part_at, part_off, changed}
 use Rattle.dom_parts.proofs.DocInvariant.{held_observers, single_owners}
 

@@ -1,36 +1,18 @@
 -- Calls that pass a command on to an owner's observers: what they ask, what holds after them, and that they do what the
 -- model says of the command.
-use Rattle.std.proofs.Common.{◌≡◌, ℕ, ◌<◌, ◌⊎◌, inl, inr, Bool, true, false, true≢false, List, [], ◌∷◌, length, map, Result, Ok, Err, Option, Some}
-use Rattle.std.proofs.Common.{None, option_map, unwrap_or, refl, sym, ap, subst, ◌∙◌}
-use Rattle.std.specs.Prelude.{Vec, is_some, slice_get, nat_eq, nat_lt, IfOk, IfErr, OnOk, OnErr, ◌↔◌, if◌then◌else◌}
-use Rattle.std.specs.List.{AllByRecursion}
-use Rattle.std.proofs.lemmas.List.{length-map}
-use Rattle.std.proofs.lemmas.Bool.{lt-ltb}
-use Rattle.std.proofs.lemmas.Option.{slice_get-map, slice_get_within}
-use Rattle.dom_base.specs.declared.NodeName.{NodeName}
-use Rattle.dom_base.specs.declared.Owner.{Owner}
-use Rattle.dom_base.specs.declared.Fault.{Fault}
-use Rattle.dom_base.specs.declared.Fault.TheVariants.{Refused, Memory}
-use Rattle.dom_base.specs.declared.Refusal.TheVariants.{TypeFault, Unknown}
-use Rattle.dom_model.specs.Names.{owner_eq, name_eq, node_of}
-use Rattle.dom_model.specs.Command.{Command, ObserveWords, own, effect}
-use Rattle.dom_model.specs.Output.{Value, Said, Change, nothing, an_observer, a_count, recorded}
-use Rattle.dom_model.specs.Part.{Part, queue_of}
-use Rattle.dom_model.specs.Turns.{notified}
-use Rattle.dom_model.specs.World.{part_of, with_part, is_there}
-use Rattle.dom_model.specs.Effects.{Effect}
-use Rattle.dom_tree.specs.Forest.{NamedTrees, name_at}
-use Rattle.dom_tree.specs.Apart.{TellApart}
-use Rattle.dom_observers.specs.Tables.{TablesOf, no_tables as no_observers, with_observer, observing, disconnected, emptied, notices as keyed_notices}
-use Rattle.dom_observers.specs.Tables.{notified as keyed_notified}
-use Rattle.dom_observers.specs.Naming.{named_tables, named_change, IsKey, SpeaksOf, IsChangeAt, AreAll}
+use Rattle.dom_base.proofs.Std.{◌≡◌, ℕ, ◌<◌, ◌⊎◌, inl, inr, Bool, true, false, true≢false, List, [], ◌∷◌, length, map, Result, Ok, Err, Option, Some, None}
+use Rattle.dom_base.proofs.Std.{option_map, unwrap_or, refl, sym, ap, subst, ◌∙◌, Vec, is_some, slice_get, nat_eq, nat_lt, IfOk, IfErr, OnOk, OnErr, ◌↔◌}
+use Rattle.dom_base.proofs.Std.{if◌then◌else◌, AllByRecursion, length-map, lt-ltb, slice_get-map, slice_get_within}
+use Rattle.dom_model.proofs.Model.{NodeName, Owner, Fault, Refused, Memory, TypeFault, Unknown, owner_eq, name_eq, node_of, Command, ObserveWords, own, effect}
+use Rattle.dom_model.proofs.Model.{Value, Said, Change, nothing, an_observer, a_count, recorded, Part, queue_of, notified, part_of, with_part, is_there, Effect}
+use Rattle.dom_tree.specs.Definitions.{NamedTrees, name_at, TellApart}
+use Rattle.dom_observers.specs.Definitions.{TablesOf, no_tables as no_observers, with_observer, observing, disconnected, emptied, notices as keyed_notices}
+use Rattle.dom_observers.specs.Definitions.{notified as keyed_notified, named_tables, named_change, IsKey, SpeaksOf, IsChangeAt, AreAll, change_of, notice_of}
 use Rattle.dom_observers.proofs.Naming.{making_law, observing_law, disconnected_law, emptied_law, notified_law, notices_law}
-use Rattle.dom_observers.specs.Views.{change_of, notice_of}
 use Rattle.dom_observers.specs.declared.change.Change.{Change as Record}
 use Rattle.dom_observers.proofs.Speaking.{speaks_none, speaks_made, speaks_observing, speaks_disconnected, speaks_emptied, speaks_notified, all_queued, all_got}
-use Rattle.dom_parts.specs.AllTables.{AllTables, with_observers}
-use Rattle.dom_parts.specs.Contents.{part_in}
-use Rattle.dom_parts.specs.Doc.{DocState, contents, owner_in, world_from, state_from, IsDoc, Makes, MakesSaying, NamesNodes, notice_in, notices_of}
+use Rattle.dom_parts.specs.Definitions.{AllTables, with_observers, part_in, DocState, contents, owner_in, world_from, state_from, IsDoc, Makes, MakesSaying}
+use Rattle.dom_parts.specs.Definitions.{NamesNodes, notice_in, notices_of}
 use Rattle.dom_parts.proofs.DocInvariant.{held_observers}
 use Rattle.dom_parts.proofs.Worlds.{read_same}
 use Rattle.dom_parts.proofs.Observed.{with_seen, has_observer, there_observer, queues_in, part_seen, held_seen, makes_seen, seen_world}

@@ -1,12 +1,8 @@
 -- What cursors read of an owner's nodes in the trees of all owners is what they read in the owner's own trees.
-use Rattle.std.proofs.Common.{◌≡◌, Bool, true, false, ◌&&◌, ◌||◌, List, [], ◌∷◌, ◌++◌, Option, Some, refl, ap, subst, ◌∙◌, inl, inr}
-use Rattle.std.specs.Prelude.{filter, find, drop, if◌then◌else◌}
-use Rattle.std.specs.List.{list_any, list_all, last_or}
-use Rattle.std.proofs.lemmas.Option.{none-some, same_Some}
-use Rattle.dom_base.specs.declared.NodeName.{NodeName}
-use Rattle.dom_model.specs.Names.{name_eq, items_before, first_of, last_of}
-use Rattle.dom_laws.proofs.Lists.{In}
-use Rattle.dom_laws.proofs.Relatives.{Each}
+use Rattle.dom_base.proofs.Std.{◌≡◌, Bool, true, false, ◌&&◌, ◌||◌, List, [], ◌∷◌, ◌++◌, Option, Some, refl, ap, subst, ◌∙◌, inl, inr, filter, find, drop}
+use Rattle.dom_base.proofs.Std.{if◌then◌else◌, list_any, list_all, last_or, none-some, same_Some}
+use Rattle.dom_model.proofs.Model.{NodeName, name_eq, items_before, first_of, last_of}
+use Rattle.dom_laws.proofs.Laws.{In, Each}
 
 -- ---- lists whose items two tests treat alike
 

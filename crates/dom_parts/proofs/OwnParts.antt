@@ -1,21 +1,14 @@
 -- Each owner's part of what is held is a part as every reached world has them: its nodes are its own, numbered below their count,
 -- each once; and no node of it has more children than it has nodes.
-use Rattle.std.proofs.Common.{◌≡◌, ℕ, zero, suc, ◌+◌, ◌≤◌, ◌<◌, ◌⊎◌, true, length, Some, refl, sym, ap, subst, ◌∙◌, inl, inr, arith, eq-or-lt_of_le}
-use Rattle.std.specs.Prelude.{slice_get, count_by, if◌then◌else◌}
-use Rattle.std.proofs.lemmas.Bool.{cases_Bool}
-use Rattle.dom_base.specs.declared.NodeName.{NodeName}
-use Rattle.dom_base.specs.declared.Owner.{Owner}
-use Rattle.dom_model.specs.Names.{name_eq, node_of}
-use Rattle.dom_model.specs.Part.{Part}
-use Rattle.dom_model.specs.Tree.{Trees, none, tree, Node, nodes, has_node, children_of, times_in}
-use Rattle.dom_model.proofs.OwnerLaws.{name_eq-same, name_eq-true}
-use Rattle.dom_worlds.specs.Worlds.{IsPart}
+use Rattle.dom_base.proofs.Std.{◌≡◌, ℕ, zero, suc, ◌+◌, ◌≤◌, ◌<◌, ◌⊎◌, true, length, Some, refl, sym, ap, subst, ◌∙◌, inl, inr, arith, eq-or-lt_of_le}
+use Rattle.dom_base.proofs.Std.{slice_get, count_by, if◌then◌else◌, cases_Bool}
+use Rattle.dom_model.proofs.Model.{NodeName, Owner, name_eq, node_of, Part, Trees, none, tree, Node, nodes, has_node, children_of, times_in, name_eq-same}
+use Rattle.dom_model.proofs.Model.{name_eq-true}
+use Rattle.dom_worlds.specs.Definitions.{IsPart}
 use Rattle.dom_worlds.proofs.TreeLemmas.{times-has_node, kids, kids-absent, rooted, length-children}
-use Rattle.dom_tree.specs.Forest.{name_at, count_of}
-use Rattle.dom_tree.specs.Owners.{AreOf, AreOwned, trees_of_owner}
+use Rattle.dom_tree.specs.Definitions.{name_at, count_of, AreOf, AreOwned, trees_of_owner}
 use Rattle.dom_tree.proofs.Owned.{own_trees}
-use Rattle.dom_parts.specs.Contents.{Contents, part_in}
-use Rattle.dom_parts.specs.Numbering.{AreNumbered}
+use Rattle.dom_parts.specs.Definitions.{Contents, part_in, AreNumbered}
 use Rattle.dom_parts.proofs.Numbers.{pick_first, pick_second}
 use Rattle.dom_tree.proofs.Standing.{name_found, Once-forest, once_own, times_own}
 

@@ -1,24 +1,14 @@
 -- The plans of changes set the node documents of their owner's nodes alone.
-use Rattle.std.proofs.Common.{◌≡◌, ℕ, Bool, true, false, not, List, [], ◌∷◌, ◌++◌, Option, Some, None, drop, length, flat_map, ◌+◌, ◌-◌, ◌∙◌}
-use Rattle.std.specs.Prelude.{if◌then◌else◌, ◌==◌}
-use Rattle.std.specs.List.{AllByRecursion}
-use Rattle.std.specs.Option.{option_map_or}
-use Rattle.dom_base.specs.declared.NodeName.{NodeName}
-use Rattle.dom_base.specs.declared.Owner.{Owner}
-use Rattle.dom_model.specs.Names.{DomString, is_empty}
-use Rattle.dom_model.specs.Tree.{Trees, roots, names_of, node_in, children_of, kind_of, is_fragment}
-use Rattle.dom_model.specs.Tree.{length_of, index_of, next_sibling, parent_of, subtree, trees_below, none, tree}
-use Rattle.dom_model.specs.Output.{Change, child_list}
-use Rattle.dom_model.specs.Part.{Part, next_name}
-use Rattle.dom_model.specs.Steps.{Step, make, make_room, place, set_document, queue_record, split_at, part_step, after}
-use Rattle.dom_model.specs.Changes.{Plan, ◌and_then◌, in_turn, doing, steps_of, Observing, observed, suppressed, telling, remove_plan}
-use Rattle.dom_model.specs.Changes.{removing_from, document_below, has_document, changing_document, adopt_plan, placed_nodes, emptying, making_room}
-use Rattle.dom_model.specs.Changes.{placing, sibling_before, inserting_nodes, insert_plan}
-use Rattle.dom_model.specs.TextChanges.{replacing_data, new_text_node, placing_tail, splitting, joins, joining, contiguous_texts_after}
-use Rattle.dom_model.specs.TextChanges.{normalizing_text}
-use Rattle.dom_model.proofs.StepLaws.{owner-part_step}
-use Rattle.dom_tree.specs.Owners.{AreOf}
-use Rattle.dom_parts.specs.Hosting.{SetsOwnDocuments, IsOwnPart, PlansOwn}
+use Rattle.dom_base.proofs.Std.{◌≡◌, ℕ, Bool, true, false, not, List, [], ◌∷◌, ◌++◌, Option, Some, None, drop, length, flat_map, ◌+◌, ◌-◌, ◌∙◌, if◌then◌else◌}
+use Rattle.dom_base.proofs.Std.{◌==◌, AllByRecursion, option_map_or}
+use Rattle.dom_model.proofs.Model.{NodeName, Owner, DomString, is_empty, Trees, roots, names_of, node_in, children_of, kind_of, is_fragment, length_of}
+use Rattle.dom_model.proofs.Model.{index_of, next_sibling, parent_of, subtree, trees_below, none, tree, Change, child_list, Part, next_name, Step, make}
+use Rattle.dom_model.proofs.Model.{make_room, place, set_document, queue_record, split_at, part_step, after, Plan, ◌and_then◌, in_turn, doing, steps_of}
+use Rattle.dom_model.proofs.Model.{Observing, observed, suppressed, telling, remove_plan, removing_from, document_below, has_document, changing_document}
+use Rattle.dom_model.proofs.Model.{adopt_plan, placed_nodes, emptying, making_room, placing, sibling_before, inserting_nodes, insert_plan, replacing_data}
+use Rattle.dom_model.proofs.Model.{new_text_node, placing_tail, splitting, joins, joining, contiguous_texts_after, normalizing_text, owner-part_step}
+use Rattle.dom_tree.specs.Definitions.{AreOf}
+use Rattle.dom_parts.specs.Definitions.{SetsOwnDocuments, IsOwnPart, PlansOwn}
 use Rattle.dom_parts.proofs.OwnSteps.{own_step, own_subtree}
 
 module _ (o : Owner) where

@@ -1,25 +1,13 @@
 -- An owner's steps do in its own part what they do in a part alone, where they set the node documents of its own nodes.
-use Rattle.std.proofs.Common.{◌≡◌, Bool, true, false, List, [], ◌∷◌, ◌++◌, Option, Some, None, refl, sym, ap, ◌∙◌}
-use Rattle.std.specs.Prelude.{if◌then◌else◌}
-use Rattle.std.specs.List.{AllByRecursion}
-use Rattle.std.specs.Option.{option_map_or}
-use Rattle.dom_base.specs.declared.NodeName.{NodeName}
-use Rattle.dom_base.specs.declared.Owner.{Owner}
-use Rattle.dom_model.specs.Names.{name_eq, is_in}
-use Rattle.dom_model.specs.Tree.{Trees, none, tree, Node, subtree, parent_of, inclusive_descendants}
-use Rattle.dom_model.specs.TreeChanges.{with_name, with_node, placed, taken_out, map_nodes, with_document, with_attribute, with_data_replaced}
-use Rattle.dom_model.specs.Changes.{Plan, ◌and_then◌}
-use Rattle.dom_model.specs.Part.{Part, next_name}
-use Rattle.dom_model.specs.Steps.{Step, make, make_room, place, take_out, set_document, set_attribute, replace_data, split_at, join_at, set_range}
-use Rattle.dom_model.specs.Steps.{queue_record, part_step, after, leave}
-use Rattle.dom_model.specs.World.{World, part_of}
-use Rattle.dom_model.specs.WorldSteps.{world_step, world_after}
-use Rattle.dom_model.proofs.PartLaws.{owner-part_of}
-use Rattle.dom_model.proofs.StepLaws.{part_of-own_step}
+use Rattle.dom_base.proofs.Std.{◌≡◌, Bool, true, false, List, [], ◌∷◌, ◌++◌, Option, Some, None, refl, sym, ap, ◌∙◌, if◌then◌else◌, AllByRecursion}
+use Rattle.dom_base.proofs.Std.{option_map_or}
+use Rattle.dom_model.proofs.Model.{NodeName, Owner, name_eq, is_in, Trees, none, tree, Node, subtree, parent_of, inclusive_descendants, with_name, with_node}
+use Rattle.dom_model.proofs.Model.{placed, taken_out, map_nodes, with_document, with_attribute, with_data_replaced, Plan, ◌and_then◌, Part, next_name, Step}
+use Rattle.dom_model.proofs.Model.{make, make_room, place, take_out, set_document, set_attribute, replace_data, split_at, join_at, set_range, queue_record}
+use Rattle.dom_model.proofs.Model.{part_step, after, leave, World, part_of, world_step, world_after, owner-part_of, part_of-own_step}
 use Rattle.dom_worlds.proofs.WorldLemmas.{Ground, ground-world_step, part-own_step}
-use Rattle.dom_tree.specs.Owners.{AreOf}
-use Rattle.dom_parts.specs.Doc.{made}
-use Rattle.dom_parts.specs.Hosting.{SetsOwnDocuments}
+use Rattle.dom_tree.specs.Definitions.{AreOf}
+use Rattle.dom_parts.specs.Definitions.{made, SetsOwnDocuments}
 use Rattle.dom_parts.proofs.EveryNode.{EachNode, each_subtree, each_placed, each_taken, each_put_root, each_mapped}
 
 -- ---- a step keeps nodes an owner's

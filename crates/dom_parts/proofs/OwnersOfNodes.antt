@@ -1,14 +1,8 @@
 -- Whoever has nodes is there, and the page.
-use Rattle.std.proofs.Common.{◌≡◌, ◌≢◌, ◌<◌, Bool, true, false, inl, inr, [], ◌∷◌, sym, ap, subst, refl, ◌∙◌, arith}
-use Rattle.std.specs.Prelude.{nat_lt}
-use Rattle.std.proofs.lemmas.Bool.{lt-ltb, le-ltb}
-use Rattle.dom_base.specs.declared.Owner.{Owner}
-use Rattle.dom_base.specs.declared.Owner.TheVariants.{Page}
-use Rattle.dom_model.specs.World.{is_there}
-use Rattle.dom_tree.specs.Forest.{NamedTrees, count_of}
-use Rattle.dom_parts.specs.AllTables.{AllTables}
-use Rattle.dom_parts.specs.Doc.{DocState, contents, world_from, state_from, IsDoc}
-use Rattle.dom_parts.specs.Hosting.{host_owners}
+use Rattle.dom_base.proofs.Std.{◌≡◌, ◌≢◌, ◌<◌, Bool, true, false, inl, inr, [], ◌∷◌, sym, ap, subst, refl, ◌∙◌, arith, nat_lt, lt-ltb, le-ltb}
+use Rattle.dom_model.proofs.Model.{Owner, Page, is_there}
+use Rattle.dom_tree.specs.Definitions.{NamedTrees, count_of}
+use Rattle.dom_parts.specs.Definitions.{AllTables, DocState, contents, world_from, state_from, IsDoc, host_owners}
 use Rattle.dom_parts.proofs.Attachable.{owner_node}
 use Rattle.dom_parts.proofs.AttachedWorlds.{count_none}
 use Rattle.dom_parts.proofs.DocInvariant.{are_hosts}

@@ -1,39 +1,20 @@
 -- Calls that pass a command on to an owner's tables: what they ask, what holds after them, and that they do what the model
 -- says of the command.
-use Rattle.std.proofs.Common.{◌≡◌, ◌≢◌, ℕ, ◌<◌, ◌≤◌, Bool, true, List, [], ◌∷◌, ◌++◌, length, Option, Some, None, Result, Ok, Err, option_map}
-use Rattle.std.proofs.Common.{refl, sym, ap, subst, ◌∙◌, arith}
-use Rattle.std.specs.Prelude.{is_some, slice_get, slice_set, IfOk, OnOk, OnErr, ◌↔◌}
-use Rattle.std.proofs.lemmas.Result.{on_err_weaker}
-use Rattle.std.proofs.lemmas.List.{length-set, length-map, length_push}
-use Rattle.dom_base.specs.declared.Fault.{Fault}
-use Rattle.dom_base.specs.declared.Fault.TheVariants.{Refused}
-use Rattle.dom_base.specs.declared.Refusal.TheVariants.{Limit}
-use Rattle.dom_base.specs.declared.NodeName.{NodeName}
-use Rattle.dom_base.specs.declared.Owner.{Owner}
-use Rattle.dom_base.specs.declared.Move.{Move}
-use Rattle.dom_model.specs.Command.{Command, Filter, own, effect}
-use Rattle.dom_model.specs.Traversal.{Iterator, Walker, walker_move}
-use Rattle.dom_model.specs.Output.{Value, an_iterator, a_walker}
-use Rattle.dom_model.specs.CommandRefusals.{past_limit}
-use Rattle.dom_model.specs.World.{part_of, is_there}
-use Rattle.dom_model.specs.Effects.{Effect, node_or_null}
-use Rattle.dom_tree.specs.Forest.{NamedTrees, name_at}
-use Rattle.dom_traversal.specs.Iterators.{KeyedIterator, IsIteratorOf, iterator_view, iterator_at}
-use Rattle.dom_traversal.specs.Walkers.{KeyedWalker, IsWalkerOf, walker_view, walker_at}
+use Rattle.dom_base.proofs.Std.{◌≡◌, ◌≢◌, ℕ, ◌<◌, ◌≤◌, Bool, true, List, [], ◌∷◌, ◌++◌, length, Option, Some, None, Result, Ok, Err, option_map, refl, sym, ap}
+use Rattle.dom_base.proofs.Std.{subst, ◌∙◌, arith, is_some, slice_get, slice_set, IfOk, OnOk, OnErr, ◌↔◌, on_err_weaker, length-set, length-map, length_push}
+use Rattle.dom_model.proofs.Model.{Fault, Refused, Limit, NodeName, Owner, Move, Command, Filter, own, effect, Iterator, Walker, walker_move, Value}
+use Rattle.dom_model.proofs.Model.{an_iterator, a_walker, past_limit, part_of, is_there, Effect, node_or_null}
+use Rattle.dom_tree.specs.Definitions.{NamedTrees, name_at, AreOwned}
+use Rattle.dom_traversal.specs.Definitions.{KeyedIterator, IsIteratorOf, iterator_view, iterator_at, KeyedWalker, IsWalkerOf, walker_view, walker_at}
+use Rattle.dom_traversal.specs.Definitions.{KeyedTables, EachItem, with_cursors}
 use Rattle.dom_tree.proofs.Standing.{StandOnce}
-use Rattle.dom_laws.proofs.Shapes.{above-itself}
-use Rattle.dom_traversal.specs.OwnTables.{KeyedTables, EachItem}
-use Rattle.dom_traversal.specs.Cursors.{with_cursors}
-use Rattle.dom_parts.specs.AllTables.{IsOwnIterator, IsOwnWalker, AreTablesOf, AllTables}
-use Rattle.dom_parts.specs.Calls.{MovesTo}
-use Rattle.dom_parts.specs.Doc.{DocState, owner_in, world_from, state_from, IsDoc, Makes}
+use Rattle.dom_laws.proofs.Laws.{above-itself, was_some}
+use Rattle.dom_parts.specs.Definitions.{IsOwnIterator, IsOwnWalker, AreTablesOf, AllTables, MovesTo, DocState, owner_in, world_from, state_from, IsDoc, Makes}
 use Rattle.dom_traversal.proofs.Items.{set_items, push_items}
-use Rattle.dom_tree.specs.Owners.{AreOwned}
 use Rattle.dom_parts.proofs.OwnNodes.{moved_own}
 use Rattle.dom_parts.proofs.Limits.{limit_count}
 use Rattle.dom_parts.proofs.Cursors.{iterators_in, walkers_in, iterator_effect_new, walker_effect_new, has_iterator, has_walker, there_iterator}
 use Rattle.dom_parts.proofs.Cursors.{there_walker, with_own, with_iterator, with_walker, walk_effect, makes_read, makes_set, held_set}
-use Rattle.dom_laws.proofs.Options.{was_some}
 
 module _ (f : NamedTrees) {tables : AllTables} (held : IsDoc f.names f.trees tables) {d : DocState}
     (is_d : state_from f.names f.trees tables ≡ d) (o : Owner) where

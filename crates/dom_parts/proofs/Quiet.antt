@@ -1,14 +1,7 @@
 -- Where there are no registrations no record is taken.
-use Rattle.std.proofs.Common.{◌≡◌, ℕ, false, not, List, [], ◌∷◌, ◌++◌, map, filter, fold, ap, ◌∙◌}
-use Rattle.std.specs.Prelude.{slice_set, nat_eq}
-use Rattle.dom_base.specs.declared.NodeName.{NodeName}
-use Rattle.dom_model.specs.Names.{name_eq, distinct, append_once, is_empty}
-use Rattle.dom_model.specs.Tree.{inclusive_ancestors}
-use Rattle.dom_model.specs.Observers.{Registration, target_of, fits, interested}
-use Rattle.dom_model.specs.Output.{Change}
-use Rattle.dom_model.specs.Part.{Part, queue_of}
-use Rattle.dom_model.specs.Steps.{queue_record, part_step, interested_in, is_taken, record_in}
-use Rattle.dom_model.proofs.ObserverLaws.{registrations_none}
+use Rattle.dom_base.proofs.Std.{◌≡◌, ℕ, false, not, List, [], ◌∷◌, ◌++◌, map, filter, fold, ap, ◌∙◌, slice_set, nat_eq}
+use Rattle.dom_model.proofs.Model.{NodeName, name_eq, distinct, append_once, is_empty, inclusive_ancestors, Registration, target_of, fits, interested, Change}
+use Rattle.dom_model.proofs.Model.{Part, queue_of, queue_record, part_step, interested_in, is_taken, record_in, registrations_none}
 
 -- no observer is interested
 none_interested : (p : Part) → p.registrations ≡ [] → (c : Change NodeName) → interested_in p c ≡ []

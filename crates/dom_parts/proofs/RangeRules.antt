@@ -1,14 +1,9 @@
 -- Each rule for boundary points rewrites those of the owner of the changed nodes alone.
-use Rattle.std.proofs.Common.{◌≡◌, ◌≢◌, ℕ, ◌+◌, ◌-◌, Bool, true, false, not, cond, ◌&&◌, ◌||◌, eqb, nat_lt, nat_le, sym, ap, ◌∙◌}
-use Rattle.dom_base.specs.declared.NodeName.{NodeName}
-use Rattle.dom_base.specs.declared.Owner.{Owner}
-use Rattle.dom_model.specs.Names.{name_eq}
-use Rattle.dom_model.specs.Tree.{Trees, is_inclusive_ancestor}
-use Rattle.dom_model.specs.Place.{Boundary}
-use Rattle.dom_model.specs.Ranges.{at, boundary_eq, after_insert, after_removal, after_replace_data, after_split, after_join}
-use Rattle.dom_model.proofs.OwnerLaws.{name_eq-other}
-use Rattle.dom_tree.specs.Owners.{AreOwned}
-use Rattle.dom_parts.specs.Ranging.{IsRuleOf}
+use Rattle.dom_base.proofs.Std.{◌≡◌, ◌≢◌, ℕ, ◌+◌, ◌-◌, Bool, true, false, not, cond, ◌&&◌, ◌||◌, eqb, nat_lt, nat_le, sym, ap, ◌∙◌}
+use Rattle.dom_model.proofs.Model.{NodeName, Owner, name_eq, Trees, is_inclusive_ancestor, Boundary, at, boundary_eq, after_insert, after_removal}
+use Rattle.dom_model.proofs.Model.{after_replace_data, after_split, after_join, name_eq-other}
+use Rattle.dom_tree.specs.Definitions.{AreOwned}
+use Rattle.dom_parts.specs.Definitions.{IsRuleOf}
 use Rattle.dom_parts.proofs.Keeping.{apart_above}
 
 -- nodes of different owners are different

@@ -1,22 +1,12 @@
 -- The step that gives a live range its ends.
-use Rattle.std.proofs.Common.{◌≡◌, ℕ, ◌<◌, ◌^◌, true, length, List, Option, Some, None, is_some, refl, sym, ap, subst, ◌∙◌}
-use Rattle.std.specs.Prelude.{slice_get, slice_set, option_map}
-use Rattle.std.specs.Option.{option_flatten}
-use Rattle.dom_base.specs.declared.NodeName.{NodeName}
-use Rattle.dom_base.specs.declared.Owner.{Owner}
-use Rattle.dom_model.specs.Part.{Part, range_at}
-use Rattle.dom_model.specs.Place.{Boundary}
-use Rattle.dom_model.specs.Ranges.{Range}
-use Rattle.dom_model.specs.Steps.{set_range}
-use Rattle.dom_model.specs.World.{World, part_of, with_part, is_there}
-use Rattle.dom_ranges.specs.Settings.{named_range, named_ranges}
-use Rattle.dom_ranges.specs.Tables.{RangeList, RangeLists, EachRange, BothEnds, ranges_of, range_in, with_ranges}
+use Rattle.dom_base.proofs.Std.{◌≡◌, ℕ, ◌<◌, ◌^◌, true, length, List, Option, Some, None, is_some, refl, sym, ap, subst, ◌∙◌, slice_get, slice_set, option_map}
+use Rattle.dom_base.proofs.Std.{option_flatten}
+use Rattle.dom_model.proofs.Model.{NodeName, Owner, Part, range_at, Boundary, Range, set_range, World, part_of, with_part, is_there}
+use Rattle.dom_ranges.specs.Definitions.{named_range, named_ranges, RangeList, RangeLists, EachRange, BothEnds, ranges_of, range_in, with_ranges}
 use Rattle.dom_ranges.proofs.Naming.{rewritten-named}
-use Rattle.dom_tree.specs.Forest.{NamedTrees}
-use Rattle.dom_parts.specs.Contents.{Contents, part_in}
-use Rattle.dom_parts.specs.Doc.{DocState, contents, world_from, state_from, IsDoc, owner_in, stepped}
-use Rattle.dom_parts.specs.AllTables.{AllTables, with_live}
-use Rattle.dom_parts.specs.Ranging.{IsOwnPoint, ranged}
+use Rattle.dom_tree.specs.Definitions.{NamedTrees}
+use Rattle.dom_parts.specs.Definitions.{Contents, part_in, DocState, contents, world_from, state_from, IsDoc, owner_in, stepped, AllTables, with_live}
+use Rattle.dom_parts.specs.Definitions.{IsOwnPoint, ranged}
 use Rattle.dom_parts.proofs.DocInvariant.{single_owners}
 use Rattle.dom_parts.proofs.RangedCalls.{set_change, rewritten_own, written_few}
 use Rattle.dom_parts.proofs.RangedPassing.{range_is, there_range, live_held}

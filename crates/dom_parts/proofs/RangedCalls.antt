@@ -1,36 +1,18 @@
 -- What the commands on ranges do to what is held: a range more, one that is dropped, and one with other ends.
-use Rattle.std.proofs.Common.{◌≡◌, ◌≢◌, ℕ, ◌+◌, ◌≤◌, ◌<◌, Bool, true, false, cond, List, [], ◌∷◌, ◌++◌, length, Option, Some, None, refl, sym, ap}
-use Rattle.std.proofs.Common.{subst, ◌∙◌, inl, inr, arith, true≢false}
-use Rattle.std.specs.Prelude.{slice_get, slice_set, option_map}
-use Rattle.std.specs.Option.{option_flatten, option_map_or}
-use Rattle.std.proofs.lemmas.Bool.{cases_Bool, ltb-false}
-use Rattle.std.proofs.lemmas.List.{length-map, length-set, length_push}
-use Rattle.std.proofs.lemmas.Option.{slice_get-map}
-use Rattle.dom_base.specs.declared.NodeName.{NodeName}
-use Rattle.dom_base.specs.declared.Owner.{Owner}
-use Rattle.dom_model.specs.Command.{Command, NodeWord, effect}
-use Rattle.dom_model.specs.CommandRefusals.{past_limit}
-use Rattle.dom_model.specs.Effects.{Effect, changes_range, collapsed_to}
-use Rattle.dom_model.specs.Extract.{both_at}
-use Rattle.dom_model.specs.Names.{owner_eq, node_of}
-use Rattle.dom_model.specs.Output.{Value, nothing, a_range, boundaries}
-use Rattle.dom_model.specs.Part.{range_at}
-use Rattle.dom_model.specs.Place.{Boundary}
-use Rattle.dom_model.specs.Tree.{Trees}
-use Rattle.dom_model.specs.Ranges.{Range, at, from_to, with_start, with_end}
-use Rattle.dom_model.specs.World.{part_of, with_part, is_there}
-use Rattle.dom_model.proofs.OwnerLaws.{owner_eq-same, owner_eq-true, owner_eq-false, ne-owner_eq}
-use Rattle.dom_ranges.specs.Settings.{named_boundary, named_range, named_ranges, start_set, end_set}
-use Rattle.dom_ranges.specs.Tables.{RangeList, RangeLists, EachRange, BothEnds, ranges_of, range_in, with_ranges, collapsed_range}
+use Rattle.dom_base.proofs.Std.{◌≡◌, ◌≢◌, ℕ, ◌+◌, ◌≤◌, ◌<◌, Bool, true, false, cond, List, [], ◌∷◌, ◌++◌, length, Option, Some, None, refl, sym, ap, subst, ◌∙◌}
+use Rattle.dom_base.proofs.Std.{inl, inr, arith, true≢false, slice_get, slice_set, option_map, option_flatten, option_map_or, cases_Bool, ltb-false, length-map}
+use Rattle.dom_base.proofs.Std.{length-set, length_push, slice_get-map}
+use Rattle.dom_model.proofs.Model.{NodeName, Owner, Command, NodeWord, effect, past_limit, Effect, changes_range, collapsed_to, both_at, owner_eq, node_of}
+use Rattle.dom_model.proofs.Model.{Value, nothing, a_range, boundaries, range_at, Boundary, Trees, Range, at, from_to, with_start, with_end, part_of, with_part}
+use Rattle.dom_model.proofs.Model.{is_there, owner_eq-same, owner_eq-true, owner_eq-false, ne-owner_eq}
+use Rattle.dom_ranges.specs.Definitions.{named_boundary, named_range, named_ranges, start_set, end_set, RangeList, RangeLists, EachRange, BothEnds, ranges_of}
+use Rattle.dom_ranges.specs.Definitions.{range_in, with_ranges, collapsed_range}
 use Rattle.dom_ranges.proofs.Naming.{made-named, removed-named, rewritten-named, start-named, end-named}
 use Rattle.dom_ranges.proofs.EndsAfterCalls.{stand-made, stand-cleared, stand-at, stand-rewritten}
 use Rattle.dom_tree.proofs.Standing.{StandOnce, StandAlone, Once-forest, Has-forest}
-use Rattle.dom_laws.proofs.Counts.{Once}
-use Rattle.dom_tree.specs.Forest.{NamedTrees, name_at}
-use Rattle.dom_tree.specs.Owners.{AreOwned, trees_of_owner}
-use Rattle.dom_parts.specs.Contents.{Contents, part_in, world_of}
-use Rattle.dom_parts.specs.Doc.{Makes, named_trees}
-use Rattle.dom_parts.specs.Ranging.{IsOwnPoint, AreRangesOf, ranged}
+use Rattle.dom_laws.proofs.Laws.{Once}
+use Rattle.dom_tree.specs.Definitions.{NamedTrees, name_at, AreOwned, trees_of_owner}
+use Rattle.dom_parts.specs.Definitions.{Contents, part_in, world_of, Makes, named_trees, IsOwnPoint, AreRangesOf, ranged}
 use Rattle.dom_ranges.proofs.OwnOrder.{IsOwnIn, with_start-own, with_end-own}
 use Rattle.dom_parts.proofs.Worlds.{Single, IsChangeOf, part_at, there_same, changed}
 

@@ -1,14 +1,10 @@
 -- What is held keeps its table of ranges where names are added, and where nothing of the ranges changes.
-use Rattle.std.proofs.Common.{◌≡◌, ℕ, List, [], ◌∷◌, ◌++◌, sym, ap, subst, ◌∙◌, arith}
-use Rattle.dom_base.specs.declared.NodeName.{NodeName}
-use Rattle.dom_base.specs.declared.Owner.{Owner}
-use Rattle.dom_model.specs.Place.{Boundary}
-use Rattle.dom_ranges.specs.Settings.{named_ranges}
-use Rattle.dom_ranges.specs.Tables.{RangeLists, ranges_of}
+use Rattle.dom_base.proofs.Std.{◌≡◌, ℕ, List, [], ◌∷◌, ◌++◌, sym, ap, subst, ◌∙◌, arith}
+use Rattle.dom_model.proofs.Model.{NodeName, Owner, Boundary}
+use Rattle.dom_ranges.specs.Definitions.{named_ranges, RangeLists, ranges_of}
 use Rattle.dom_ranges.proofs.Naming.{grown-named}
 use Rattle.dom_ranges.proofs.EndsAfterCalls.{EachRange-weaker}
-use Rattle.dom_parts.specs.Contents.{Contents}
-use Rattle.dom_parts.specs.Ranging.{IsOwnPoint, AreOwnRanges, AreRangesOf}
+use Rattle.dom_parts.specs.Definitions.{Contents, IsOwnPoint, AreOwnRanges, AreRangesOf}
 use Rattle.dom_parts.proofs.HostedSteps.{KeepsNames, names_pushed}
 use Rattle.dom_parts.proofs.RangedLists.{own_at_nodes}
 use Rattle.dom_parts.proofs.Worlds.{there_same}

@@ -1,23 +1,14 @@
 -- A rule that rewrites one owner's boundary points, over the lists of all owners: by names the owner's ranges are rewritten,
 -- the others' stay, and all ends stay at nodes of their owners.
-use Rattle.std.proofs.Common.{◌≡◌, ◌≢◌, ℕ, zero, suc, List, [], ◌∷◌, length, Option, Some, None, option_map, refl, sym, ap, subst, ◌∙◌, inl, inr}
-use Rattle.std.proofs.lemmas.Bool.{cases_Bool}
-use Rattle.std.proofs.lemmas.List.{length-map}
-use Rattle.std.proofs.lemmas.Option.{same_Some}
-use Rattle.dom_base.specs.declared.NodeName.{NodeName}
-use Rattle.dom_base.specs.declared.Owner.{Owner}
-use Rattle.dom_model.specs.Names.{owner_eq}
-use Rattle.dom_model.specs.Place.{Boundary}
-use Rattle.dom_model.specs.Ranges.{Range, from_to, map_ends}
-use Rattle.dom_model.proofs.OwnerLaws.{owner_eq-true, owner_eq-false}
-use Rattle.dom_ranges.specs.Naming.{StandAtNodes, IsNamedRule, KeepsNodes, named_ends_by}
-use Rattle.dom_ranges.specs.Rules.{Fits, IsAtNode}
-use Rattle.dom_ranges.specs.Settings.{named_boundary, named_range, named_ranges}
-use Rattle.dom_ranges.specs.Tables.{RangeList, RangeLists, EachRange, BothEnds, ends_by, ranges_of}
+use Rattle.dom_base.proofs.Std.{◌≡◌, ◌≢◌, ℕ, zero, suc, List, [], ◌∷◌, length, Option, Some, None, option_map, refl, sym, ap, subst, ◌∙◌, inl, inr, cases_Bool}
+use Rattle.dom_base.proofs.Std.{length-map, same_Some}
+use Rattle.dom_model.proofs.Model.{NodeName, Owner, owner_eq, Boundary, Range, from_to, map_ends, owner_eq-true, owner_eq-false}
+use Rattle.dom_ranges.specs.Definitions.{StandAtNodes, IsNamedRule, KeepsNodes, named_ends_by, Fits, IsAtNode, named_boundary, named_range, named_ranges}
+use Rattle.dom_ranges.specs.Definitions.{RangeList, RangeLists, EachRange, BothEnds, ends_by, ranges_of}
 use Rattle.dom_ranges.proofs.Lists.{cons_same}
 use Rattle.dom_ranges.proofs.Naming.{EachRange-ends}
 use Rattle.dom_ranges.proofs.EndsAfterCalls.{EachRange-weaker}
-use Rattle.dom_parts.specs.Ranging.{IsOwnPoint, AreOwnRanges, IsRuleOf}
+use Rattle.dom_parts.specs.Definitions.{IsOwnPoint, AreOwnRanges, IsRuleOf}
 
 -- ---- lists
 

@@ -1,17 +1,9 @@
 -- The table of ranges where owners come: of the first one there are no ranges, and a new component has none.
-use Rattle.std.proofs.Common.{◌≡◌, ℕ, true, false, List, [], ◌∷◌, ◌++◌, length, Option, sym, ap, subst, ◌∙◌, ◌⊎◌, inl, inr, true≢false, arith}
-use Rattle.std.proofs.lemmas.Bool.{cases_Bool, false_from_ne_true}
-use Rattle.dom_base.specs.declared.NodeName.{NodeName}
-use Rattle.dom_base.specs.declared.Owner.{Owner}
-use Rattle.dom_model.specs.Names.{owner_eq}
-use Rattle.dom_model.specs.Ranges.{Range}
-use Rattle.dom_model.specs.World.{is_there, shadow_root_of}
-use Rattle.dom_model.proofs.OwnerLaws.{owner_eq-true, owner_eq-false}
-use Rattle.dom_ranges.specs.Settings.{named_ranges}
-use Rattle.dom_ranges.specs.Tables.{RangeLists, EachRange, BothEnds, ranges_of}
-use Rattle.dom_parts.specs.Contents.{Contents, Tables, world_of}
-use Rattle.dom_parts.specs.Hosting.{IsAttached}
-use Rattle.dom_parts.specs.Ranging.{IsOwnPoint, AreOwnRanges, AreRangesOf}
+use Rattle.dom_base.proofs.Std.{◌≡◌, ℕ, true, false, List, [], ◌∷◌, ◌++◌, length, Option, sym, ap, subst, ◌∙◌, ◌⊎◌, inl, inr, true≢false, arith, cases_Bool}
+use Rattle.dom_base.proofs.Std.{false_from_ne_true}
+use Rattle.dom_model.proofs.Model.{NodeName, Owner, owner_eq, Range, is_there, shadow_root_of, owner_eq-true, owner_eq-false}
+use Rattle.dom_ranges.specs.Definitions.{named_ranges, RangeLists, EachRange, BothEnds, ranges_of}
+use Rattle.dom_parts.specs.Definitions.{Contents, Tables, world_of, IsAttached, IsOwnPoint, AreOwnRanges, AreRangesOf}
 use Rattle.dom_parts.proofs.RangedKeeping.{named_grown, own_grown}
 use Rattle.dom_parts.proofs.Worlds.{In, there_in, in_there}
 

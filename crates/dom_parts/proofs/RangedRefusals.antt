@@ -1,20 +1,10 @@
 -- What the commands on ranges are refused for, as the table of ranges tests it and as the definitions say it.
-use Rattle.std.proofs.Common.{◌≡◌, ℕ, ◌<◌, true, length, Option, sym, ap, ◌∙◌}
-use Rattle.std.specs.Prelude.{nat_lt, option_map, ◌↔◌}
-use Rattle.std.proofs.lemmas.Bool.{lt-ltb, ltb-true}
-use Rattle.std.proofs.lemmas.List.{length-map}
-use Rattle.dom_base.specs.declared.NodeName.{NodeName}
-use Rattle.dom_base.specs.declared.Owner.{Owner}
-use Rattle.dom_model.specs.CommandRefusals.{past_limit, past_end}
-use Rattle.dom_model.specs.Ranges.{Range}
-use Rattle.dom_model.specs.Tree.{length_of}
-use Rattle.dom_ranges.specs.Settings.{named_range}
-use Rattle.dom_ranges.specs.Tables.{RangeLists, ranges_of}
-use Rattle.dom_tree.specs.Forest.{name_at}
-use Rattle.dom_tree.specs.Owners.{AreOwned}
+use Rattle.dom_base.proofs.Std.{◌≡◌, ℕ, ◌<◌, true, length, Option, sym, ap, ◌∙◌, nat_lt, option_map, ◌↔◌, lt-ltb, ltb-true, length-map}
+use Rattle.dom_model.proofs.Model.{NodeName, Owner, past_limit, past_end, Range, length_of}
+use Rattle.dom_ranges.specs.Definitions.{named_range, RangeLists, ranges_of}
+use Rattle.dom_tree.specs.Definitions.{name_at, AreOwned}
 use Rattle.dom_tree.proofs.Owned.{read_own}
-use Rattle.dom_parts.specs.Contents.{Contents, part_in}
-use Rattle.dom_parts.specs.Ranging.{AreRangesOf}
+use Rattle.dom_parts.specs.Definitions.{Contents, part_in, AreRangesOf}
 
 module _ (c : Contents) (t : RangeLists) (ranges : AreRangesOf c t) (o : Owner) where
   -- the ranges that an owner has made, dropped ones counted

@@ -1,31 +1,14 @@
 -- Steps that move boundary points, over what is held: where the table of ranges is told of a step, the owner's part has the
 -- ends that the step says, no other part changes, and the table is that of what is held.
-use Rattle.std.proofs.Common.{◌≡◌, ◌≢◌, ℕ, ◌<◌, cond, ◌++◌, length, Some, map, refl, sym, ap, subst, ◌∙◌, arith}
-use Rattle.std.specs.Prelude.{nat_eq, nat_lt, ◌&&◌, ◌-◌}
-use Rattle.std.specs.Option.{option_map_or}
-use Rattle.dom_base.specs.declared.NodeName.{NodeName}
-use Rattle.dom_base.specs.declared.Owner.{Owner}
-use Rattle.dom_model.specs.Names.{name_eq, is_in}
-use Rattle.dom_model.specs.Observers.{transients_for}
-use Rattle.dom_model.specs.Part.{Part}
-use Rattle.dom_model.specs.Place.{Boundary}
-use Rattle.dom_model.specs.Ranges.{at, after_removal}
-use Rattle.dom_model.specs.Steps.{take_out, part_step, leave}
-use Rattle.dom_model.specs.Traversal.{adjusted_iterator}
-use Rattle.dom_model.specs.Tree.{parent_of, index_of, inclusive_ancestors, is_inclusive_ancestor}
-use Rattle.dom_model.specs.TreeChanges.{taken_out}
-use Rattle.dom_ranges.specs.Naming.{IsNamedRule, KeepsNodes, named_ends_by}
-use Rattle.dom_ranges.specs.Rules.{Fits, is_inside}
-use Rattle.dom_ranges.specs.Settings.{named_ranges}
-use Rattle.dom_ranges.specs.Tables.{RangeLists, EachRange, BothEnds, ends_by, ranges_of}
+use Rattle.dom_base.proofs.Std.{◌≡◌, ◌≢◌, ℕ, ◌<◌, cond, ◌++◌, length, Some, map, refl, sym, ap, subst, ◌∙◌, arith, nat_eq, nat_lt, ◌&&◌, ◌-◌, option_map_or}
+use Rattle.dom_model.proofs.Model.{NodeName, Owner, name_eq, is_in, transients_for, Part, Boundary, at, after_removal, take_out, part_step, leave}
+use Rattle.dom_model.proofs.Model.{adjusted_iterator, parent_of, index_of, inclusive_ancestors, is_inclusive_ancestor, taken_out}
+use Rattle.dom_ranges.specs.Definitions.{IsNamedRule, KeepsNodes, named_ends_by, Fits, is_inside, named_ranges, RangeLists, EachRange, BothEnds, ends_by}
+use Rattle.dom_ranges.specs.Definitions.{ranges_of}
 use Rattle.dom_ranges.proofs.Naming.{removal-named}
-use Rattle.dom_tree.specs.Forest.{name_at}
-use Rattle.dom_tree.specs.Owners.{AreOwned}
+use Rattle.dom_tree.specs.Definitions.{name_at, AreOwned, TellApart}
 use Rattle.dom_tree.proofs.Owned.{read_own, stays_own}
-use Rattle.dom_tree.specs.Apart.{TellApart}
-use Rattle.dom_parts.specs.Contents.{Contents, part_in}
-use Rattle.dom_parts.specs.Doc.{named_trees}
-use Rattle.dom_parts.specs.Ranging.{AreOwnRanges, AreRangesOf, ranged, IsRuleOf}
+use Rattle.dom_parts.specs.Definitions.{Contents, part_in, named_trees, AreOwnRanges, AreRangesOf, ranged, IsRuleOf}
 use Rattle.dom_parts.proofs.RangeRules.{removal_rule}
 use Rattle.dom_parts.proofs.RangedLists.{agreed, named_own, named_others, own_moved, as_many}
 use Rattle.dom_parts.proofs.Worlds.{IsChangeOf, there_same}

@@ -1,30 +1,17 @@
 -- The record of a change, and what a `Doc` holds after it.
-use Rattle.std.proofs.Common.{◌≡◌, ℕ, ◌<◌, Bool, true, false, List, length, map, Result, Ok, Err, refl, sym, ap, subst, ◌∙◌}
-use Rattle.std.specs.Prelude.{nat_eq, if◌then◌else◌, OnOk, OnErr}
-use Rattle.std.specs.List.{AllByRecursion}
-use Rattle.dom_base.specs.declared.NodeName.{NodeName}
-use Rattle.dom_base.specs.declared.Owner.{Owner}
-use Rattle.dom_model.specs.Names.{name_eq, owner_eq}
-use Rattle.dom_model.specs.Tree.{inclusive_ancestors}
-use Rattle.dom_model.specs.Output.{Change, child_list, attributes, character_data}
-use Rattle.dom_model.specs.Observers.{target_of}
-use Rattle.dom_model.specs.Steps.{part_step, queue_record, is_taken}
-use Rattle.dom_model.specs.World.{Task, is_there, queued_notify}
-use Rattle.dom_model.specs.WorldSteps.{world_step}
-use Rattle.dom_tree.specs.Forest.{NamedTrees, name_at}
-use Rattle.dom_tree.specs.Owners.{trees_of_owner}
+use Rattle.dom_base.proofs.Std.{◌≡◌, ℕ, ◌<◌, Bool, true, false, List, length, map, Result, Ok, Err, refl, sym, ap, subst, ◌∙◌, nat_eq, if◌then◌else◌, OnOk}
+use Rattle.dom_base.proofs.Std.{OnErr, AllByRecursion}
+use Rattle.dom_model.proofs.Model.{NodeName, Owner, name_eq, owner_eq, inclusive_ancestors, Change, child_list, attributes, character_data, target_of}
+use Rattle.dom_model.proofs.Model.{part_step, queue_record, is_taken, Task, is_there, queued_notify, world_step}
+use Rattle.dom_tree.specs.Definitions.{NamedTrees, name_at, trees_of_owner, TellApart}
 use Rattle.dom_tree.proofs.Owned.{read_own}
-use Rattle.dom_tree.specs.Apart.{TellApart}
 use Rattle.dom_tree.proofs.Standing.{StandOnce, StandAlone}
-use Rattle.dom_observers.specs.Tables.{TablesOf, is_taken as keyed_taken, told as keyed_told}
-use Rattle.dom_observers.specs.Paths.{path_keys}
-use Rattle.dom_observers.specs.Naming.{named_tables, named_change, IsKey, IsChangeAt}
+use Rattle.dom_observers.specs.Definitions.{TablesOf, is_taken as keyed_taken, told as keyed_told, path_keys, named_tables, named_change, IsKey, IsChangeAt}
 use Rattle.dom_observers.proofs.Naming.{taken_law, told_law}
 use Rattle.dom_observers.proofs.Ascending.{path_keys-named}
 use Rattle.dom_observers.proofs.Speaking.{speaks_told}
-use Rattle.dom_parts.specs.Contents.{part_in}
-use Rattle.dom_parts.specs.AllTables.{AllTables, with_observers, with_queue}
-use Rattle.dom_parts.specs.Doc.{DocState, contents, world_from, state_from, IsDoc, IsDue, name_in, owner_in, stepped}
+use Rattle.dom_parts.specs.Definitions.{part_in, AllTables, with_observers, with_queue, DocState, contents, world_from, state_from, IsDoc, IsDue, name_in}
+use Rattle.dom_parts.specs.Definitions.{owner_in, stepped}
 use Rattle.dom_parts.proofs.Worlds.{there_same}
 use Rattle.dom_parts.proofs.HostedSteps.{record_hosted}
 use Rattle.dom_parts.proofs.DocInvariant.{are_hosts, held_tasks}

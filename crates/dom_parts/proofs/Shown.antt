@@ -1,21 +1,9 @@
 -- What the forest says of a node is what its owner's part in the world says of it.
-use Rattle.std.proofs.Common.{◌≡◌, ℕ, ◌<◌, inl, inr, true, List, [], length, Option, Some, None, option_map, refl, sym, ap, subst, ◌∙◌}
-use Rattle.std.specs.Option.{ForSome}
-use Rattle.std.proofs.lemmas.Bool.{cases_Bool}
-use Rattle.dom_base.specs.declared.NodeName.{NodeName}
-use Rattle.dom_base.specs.declared.Owner.{Owner}
-use Rattle.dom_model.specs.Tree.{Trees}
-use Rattle.dom_model.specs.World.{World, part_of, is_there}
-use Rattle.dom_model.specs.Part.{Part}
-use Rattle.dom_model.specs.Output.{Change}
-use Rattle.dom_model.specs.Steps.{Step, queue_record}
-use Rattle.dom_model.specs.WorldSteps.{world_step}
-use Rattle.dom_tree.specs.Forest.{NamedTrees, name_at}
-use Rattle.dom_tree.specs.Owners.{trees_of_owner, IsReadOwn}
+use Rattle.dom_base.proofs.Std.{◌≡◌, ℕ, ◌<◌, inl, inr, true, List, [], length, Option, Some, None, option_map, refl, sym, ap, subst, ◌∙◌, ForSome, cases_Bool}
+use Rattle.dom_model.proofs.Model.{NodeName, Owner, Trees, World, part_of, is_there, Part, Change, Step, queue_record, world_step}
+use Rattle.dom_tree.specs.Definitions.{NamedTrees, name_at, trees_of_owner, IsReadOwn}
 use Rattle.dom_tree.proofs.Owned.{read_own}
-use Rattle.dom_parts.specs.AllTables.{AllTables}
-use Rattle.dom_parts.specs.Calls.{IsReadFrom}
-use Rattle.dom_parts.specs.Doc.{DocState, contents, state_from, world_from, IsDoc, name_in, owner_in, trees_in, stepped}
+use Rattle.dom_parts.specs.Definitions.{AllTables, IsReadFrom, DocState, contents, state_from, world_from, IsDoc, name_in, owner_in, trees_in, stepped}
 use Rattle.dom_parts.proofs.Worlds.{part_at, part_off}
 use Rattle.dom_parts.proofs.Steps.{record_world}
 

@@ -1,42 +1,23 @@
 -- Steps that signal slots: what holds after them, and the state then; and what holds where they were refused memory.
-use Rattle.std.proofs.Common.{◌≡◌, ℕ, ◌^◌, arith, ◌<◌, true, false, List, ◌∷◌, fold, length, Result, Ok, Err, Option, Some, refl, sym, ap, subst, ◌∙◌}
-use Rattle.std.proofs.lemmas.Result.{on_ok_weaker}
-use Rattle.std.specs.Prelude.{OnOk, nat_eq, if◌then◌else◌}
-use Rattle.std.specs.List.{AllByRecursion}
-use Rattle.dom_base.specs.declared.NodeName.{NodeName}
-use Rattle.dom_base.specs.declared.Owner.{Owner}
-use Rattle.dom_base.specs.declared.Owner.TheVariants.{Page}
-use Rattle.dom_model.specs.Names.{name_eq, owner_eq, append_once}
-use Rattle.dom_model.specs.Tree.{Trees, parent_of, index_of}
-use Rattle.dom_model.specs.TreeChanges.{taken_out}
-use Rattle.dom_model.specs.Steps.{Step as ModelStep, take_out}
-use Rattle.dom_model.specs.World.{Task, is_there}
-use Rattle.dom_model.specs.WorldSteps.{world_step}
-use Rattle.dom_slots.specs.Hosts.{ShadowHost}
-use Rattle.dom_slots.specs.Kept.{AreSlotsOf}
+use Rattle.dom_base.proofs.Std.{◌≡◌, ℕ, ◌^◌, arith, ◌<◌, true, false, List, ◌∷◌, fold, length, Result, Ok, Err, Option, Some, refl, sym, ap, subst, ◌∙◌}
+use Rattle.dom_base.proofs.Std.{on_ok_weaker, OnOk, nat_eq, if◌then◌else◌, AllByRecursion}
+use Rattle.dom_model.proofs.Model.{NodeName, Owner, Page, name_eq, owner_eq, append_once, Trees, parent_of, index_of, taken_out, Step as ModelStep, take_out}
+use Rattle.dom_model.proofs.Model.{Task, is_there, world_step, after_removal}
+use Rattle.dom_slots.specs.Definitions.{ShadowHost, AreSlotsOf}
 use Rattle.dom_slots.specs.declared.step.Step.{Step}
 use Rattle.dom_slots.specs.declared.step.Step.TheVariants.{Removal}
-use Rattle.dom_tree.specs.Forest.{NamedTrees, name_at}
-use Rattle.dom_tree.specs.Owners.{IsOwnChange}
+use Rattle.dom_tree.specs.Definitions.{NamedTrees, name_at, IsOwnChange, TellApart}
 use Rattle.dom_tree.proofs.Owned.{read_own}
 use Rattle.dom_tree.proofs.OwnPlacings.{taken}
-use Rattle.dom_tree.specs.Apart.{TellApart}
-use Rattle.dom_model.specs.Ranges.{after_removal}
-use Rattle.dom_ranges.specs.Rules.{is_inside}
-use Rattle.dom_ranges.specs.Tables.{RangeLists, ends_by, ranges_of}
+use Rattle.dom_ranges.specs.Definitions.{is_inside, RangeLists, ends_by, ranges_of}
 use Rattle.dom_tree.proofs.Standing.{StandOnce, StandAlone}
-use Rattle.dom_observers.specs.Tables.{TablesOf, no_tables as no_observers, left as keyed_left}
-use Rattle.dom_observers.specs.Paths.{path_keys}
-use Rattle.dom_observers.specs.Naming.{IsKey, SpeaksOf}
-use Rattle.dom_parts.specs.Contents.{Contents, part_in, world_of}
-use Rattle.dom_parts.specs.Hosting.{host_owners, signals_in}
+use Rattle.dom_observers.specs.Definitions.{TablesOf, no_tables as no_observers, left as keyed_left, path_keys, IsKey, SpeaksOf}
+use Rattle.dom_parts.specs.Definitions.{Contents, part_in, world_of, host_owners, signals_in, AllTables, AreTablesOf, IsSettled, trees_with, with_live}
+use Rattle.dom_parts.specs.Definitions.{with_signals, with_observers, AreRangesOf, ranged, DocState, named_trees, shown_tables, contents, world_from}
+use Rattle.dom_parts.specs.Definitions.{state_from, IsDoc, IsDue, name_in, owner_in, stepped}
 use Rattle.dom_node_trees.specs.declared.steps.NodeTrees.{NodeTrees}
 use Rattle.dom_node_trees.specs.Signalled.{AreNames, HasStepped, signals_of}
-use Rattle.dom_traversal.specs.OwnTables.{KeyedTables, AreLeft, no_keyed_tables}
-use Rattle.dom_traversal.specs.Cursors.{with_cursors}
-use Rattle.dom_parts.specs.AllTables.{AllTables, AreTablesOf, IsSettled, trees_with, with_live, with_signals, with_observers}
-use Rattle.dom_parts.specs.Ranging.{AreRangesOf, ranged}
-use Rattle.dom_parts.specs.Doc.{DocState, named_trees, shown_tables, contents, world_from, state_from, IsDoc, IsDue, name_in, owner_in, stepped}
+use Rattle.dom_traversal.specs.Definitions.{KeyedTables, AreLeft, no_keyed_tables, with_cursors}
 use Rattle.dom_parts.proofs.BoundedPlans.{index_few}
 use Rattle.dom_parts.proofs.DocInvariant.{are_hosts, held_with, still_named}
 use Rattle.dom_parts.proofs.HeldNodes.{given_up}
@@ -49,7 +30,7 @@ use Rattle.dom_parts.proofs.RangedSteps.{removal_ranged}
 use Rattle.dom_parts.proofs.Shown.{state_with, owner_there}
 use Rattle.dom_node_trees.proofs.Signals.{all_appended, all_named}
 use Rattle.dom_parts.proofs.Tasks.{due_signalled}
-use Rattle.dom_laws.proofs.KeptAncestors.{KeepsAbove}
+use Rattle.dom_laws.proofs.Laws.{KeepsAbove}
 use Rattle.dom_parts.proofs.Steps.{left_own, left_idle, left_speaks, left_off, left_part, left_change}
 use Rattle.dom_parts.proofs.Worlds.{IsChangeOf}
 

@@ -1,14 +1,8 @@
 -- Data of one node changed, as a change of the nodes of its name.
-use Rattle.std.proofs.Common.{◌≡◌, ℕ, ◌+◌, ◌≤◌, inl, inr, Bool, true, false, cond, List, [], ◌∷◌, ◌++◌, Option, Some, refl, sym, ap, subst, ◌∙◌}
-use Rattle.std.proofs.Common.{arith, true≢false}
-use Rattle.std.specs.Prelude.{count_by, find, unwrap_or}
-use Rattle.std.specs.List.{AllByRecursion}
-use Rattle.std.proofs.lemmas.Bool.{cases_Bool, cond-true, cond-false}
-use Rattle.std.proofs.lemmas.List.Sums.{sum_by-cons}
-use Rattle.dom_base.specs.declared.NodeName.{NodeName}
-use Rattle.dom_model.specs.Names.{DomString, name_eq}
-use Rattle.dom_model.specs.Tree.{Trees, none, tree, Node, nodes, no_node, node_in}
-use Rattle.dom_model.specs.TreeChanges.{map_nodes, change_node, replaced, with_text, with_data_replaced}
+use Rattle.dom_base.proofs.Std.{◌≡◌, ℕ, ◌+◌, ◌≤◌, inl, inr, Bool, true, false, cond, List, [], ◌∷◌, ◌++◌, Option, Some, refl, sym, ap, subst, ◌∙◌, arith}
+use Rattle.dom_base.proofs.Std.{true≢false, count_by, find, unwrap_or, AllByRecursion, cases_Bool, cond-true, cond-false, sum_by-cons}
+use Rattle.dom_model.proofs.Model.{NodeName, DomString, name_eq, Trees, none, tree, Node, nodes, no_node, node_in, map_nodes, change_node, replaced, with_text}
+use Rattle.dom_model.proofs.Model.{with_data_replaced}
 
 -- the nodes of a name have these data
 abbrev HaveText : NodeName → DomString → List Node → Type 0

@@ -1,43 +1,23 @@
 -- What the elementary steps do to what a `Doc` holds: the world after each.
-use Rattle.std.proofs.Common.{◌≡◌, ℕ, ◌<◌, inl, inr, Bool, true, false, true≢false, List, [], ◌++◌, length, Some, map, refl, sym, ap, subst, ◌∙◌}
-use Rattle.std.specs.Prelude.{nat_eq, if◌then◌else◌}
-use Rattle.std.proofs.lemmas.Bool.{cases_Bool, cond-true, cond-false}
-use Rattle.dom_base.specs.declared.NodeName.{NodeName}
-use Rattle.dom_base.specs.declared.Owner.{Owner}
-use Rattle.dom_model.specs.Names.{name_eq, owner_eq}
-use Rattle.dom_model.specs.Tree.{Trees, inclusive_ancestors, parent_of}
-use Rattle.dom_model.specs.TreeChanges.{taken_out}
-use Rattle.dom_model.specs.Traversal.{Iterator, Walker, adjusted_iterator}
-use Rattle.dom_model.specs.Observers.{transients_for}
-use Rattle.dom_model.specs.Part.{Part}
-use Rattle.dom_model.specs.Output.{Change}
-use Rattle.dom_model.specs.Steps.{Step, queue_record, part_step, is_taken}
-use Rattle.dom_model.specs.World.{is_there, queued_notify}
-use Rattle.dom_model.specs.WorldSteps.{world_step}
-use Rattle.dom_model.proofs.OwnerLaws.{owner_eq-true, owner_eq-false}
-use Rattle.dom_tree.specs.Forest.{NamedTrees, name_at, count_of}
-use Rattle.dom_tree.specs.Owners.{trees_of_owner, IsOwnChange}
+use Rattle.dom_base.proofs.Std.{◌≡◌, ℕ, ◌<◌, inl, inr, Bool, true, false, true≢false, List, [], ◌++◌, length, Some, map, refl, sym, ap, subst, ◌∙◌, nat_eq}
+use Rattle.dom_base.proofs.Std.{if◌then◌else◌, cases_Bool, cond-true, cond-false}
+use Rattle.dom_model.proofs.Model.{NodeName, Owner, name_eq, owner_eq, Trees, inclusive_ancestors, parent_of, taken_out, Iterator, Walker, adjusted_iterator}
+use Rattle.dom_model.proofs.Model.{transients_for, Part, Change, Step, queue_record, part_step, is_taken, is_there, queued_notify, world_step, owner_eq-true}
+use Rattle.dom_model.proofs.Model.{owner_eq-false}
+use Rattle.dom_tree.specs.Definitions.{NamedTrees, name_at, count_of, trees_of_owner, IsOwnChange, TellApart}
 use Rattle.dom_tree.proofs.OwnPlacings.{taken}
 use Rattle.dom_tree.proofs.Owned.{read_own, stays_own}
-use Rattle.dom_tree.specs.Apart.{TellApart}
 use Rattle.dom_tree.proofs.Standing.{StandOnce, StandAlone}
-use Rattle.dom_observers.specs.Tables.{TablesOf, no_tables as no_observers, left as keyed_left}
-use Rattle.dom_observers.specs.Paths.{path_keys}
-use Rattle.dom_observers.specs.Naming.{named_tables, named_registration, IsKey, SpeaksOf}
+use Rattle.dom_observers.specs.Definitions.{TablesOf, no_tables as no_observers, left as keyed_left, path_keys, named_tables, named_registration, IsKey}
+use Rattle.dom_observers.specs.Definitions.{SpeaksOf}
 use Rattle.dom_observers.proofs.Naming.{left_law}
 use Rattle.dom_observers.proofs.Ascending.{path_keys-named}
 use Rattle.dom_observers.proofs.Speaking.{speaks_left}
-use Rattle.dom_traversal.specs.Iterators.{iterator_view, with_taken_out}
-use Rattle.dom_traversal.specs.Walkers.{walker_view}
-use Rattle.dom_ranges.specs.Settings.{named_ranges}
-use Rattle.dom_ranges.specs.Tables.{ranges_of}
-use Rattle.dom_parts.specs.Contents.{Contents, part_with, part_in, world_of}
-use Rattle.dom_traversal.specs.OwnTables.{KeyedTables, AreLeft, no_keyed_tables}
-use Rattle.dom_traversal.specs.Cursors.{with_cursors}
+use Rattle.dom_traversal.specs.Definitions.{iterator_view, with_taken_out, walker_view, KeyedTables, AreLeft, no_keyed_tables, with_cursors}
+use Rattle.dom_ranges.specs.Definitions.{named_ranges, ranges_of}
+use Rattle.dom_parts.specs.Definitions.{Contents, part_with, part_in, world_of, tables_with, AreTablesOf, AllTables, with_table, with_observers, named_trees}
+use Rattle.dom_parts.specs.Definitions.{shown_tables, contents, world_from, IsDoc, attached_of}
 use Rattle.dom_traversal.proofs.Owners.{with-own, with-other}
-use Rattle.dom_parts.specs.AllTables.{tables_with, AreTablesOf, AllTables, with_table, with_observers}
-use Rattle.dom_parts.specs.Doc.{named_trees, shown_tables, contents, world_from, IsDoc}
-use Rattle.dom_parts.specs.Hosting.{attached_of}
 use Rattle.dom_parts.proofs.Worlds.{IsChangeOf}
 use Rattle.dom_parts.proofs.Quiet.{untaken, untold_part}
 use Rattle.dom_parts.proofs.HostedSteps.{record_hosted}

@@ -1,14 +1,9 @@
 -- The signalled slots of an owner, taken out of those of all.
-use Rattle.std.proofs.Common.{◌≡◌, ℕ, ◌<◌, true, not, List, All, filter, map, length, refl, sym, ap, subst}
-use Rattle.std.proofs.lemmas.List.Elements.{All-filter}
-use Rattle.dom_base.specs.declared.NodeName.{NodeName}
-use Rattle.dom_base.specs.declared.Owner.{Owner}
-use Rattle.dom_model.specs.Names.{name_eq, is_in}
-use Rattle.dom_model.specs.Turns.{is_owned_by, without_signals}
-use Rattle.dom_tree.specs.Forest.{NamedTrees, name_at}
-use Rattle.dom_parts.specs.AllTables.{AllTables}
+use Rattle.dom_base.proofs.Std.{◌≡◌, ℕ, ◌<◌, true, not, List, All, filter, map, length, refl, sym, ap, subst, All-filter}
+use Rattle.dom_model.proofs.Model.{NodeName, Owner, name_eq, is_in, is_owned_by, without_signals}
+use Rattle.dom_tree.specs.Definitions.{NamedTrees, name_at}
+use Rattle.dom_parts.specs.Definitions.{AllTables, DocState, IsDoc, contents, state_from, name_in}
 use Rattle.dom_node_trees.specs.Signalled.{AreNames}
-use Rattle.dom_parts.specs.Doc.{DocState, IsDoc, contents, state_from, name_in}
 use Rattle.dom_parts.proofs.DocInvariant.{held_beside}
 use Rattle.dom_parts.proofs.RangedKeeping.{ranges_stay}
 

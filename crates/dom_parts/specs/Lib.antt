@@ -6,3 +6,4 @@ pub mod Calls
 pub mod Hosting
 pub mod Ranging
 pub mod Numbering
+pub mod Definitions

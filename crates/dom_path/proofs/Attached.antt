@@ -1,19 +1,12 @@
 -- Hosts that belong to less deep owners than their shadow roots: their shadow trees lie in one another as a path asks.
-use Rattle.std.proofs.Common.{◌≡◌, ℕ, zero, suc, ◌≤◌, ◌<◌, true, false, List, [], ◌∷◌, find, Option, Some, None, refl, sym, ap, ◌∙◌, arith, true≢false}
-use Rattle.std.specs.Prelude.{IsTrue, is_some, option_map}
-use Rattle.std.specs.List.{AllByRecursion}
-use Rattle.std.proofs.lemmas.Bool.{cond-true, cond-false}
-use Rattle.dom_base.specs.declared.NodeName.{NodeName}
-use Rattle.dom_model.specs.Names.{name_eq, owner_depth}
-use Rattle.dom_model.specs.Tree.{parent_of, root_of}
-use Rattle.dom_model.proofs.OwnerLaws.{name_eq-same, name_eq-true}
+use Rattle.dom_base.proofs.Std.{◌≡◌, ℕ, zero, suc, ◌≤◌, ◌<◌, true, false, List, [], ◌∷◌, find, Option, Some, None, refl, sym, ap, ◌∙◌, arith, true≢false}
+use Rattle.dom_base.proofs.Std.{IsTrue, is_some, option_map, AllByRecursion, cond-true, cond-false}
+use Rattle.dom_model.proofs.Model.{NodeName, name_eq, owner_depth, parent_of, root_of, name_eq-same, name_eq-true}
 use Rattle.dom_worlds.proofs.ListLemmas.{by_cases}
-use Rattle.dom_tree.specs.Forest.{NamedTrees, name_at}
+use Rattle.dom_tree.specs.Definitions.{NamedTrees, name_at}
 use Rattle.dom_tree.proofs.Owned.{stays_own}
-use Rattle.dom_slots.specs.Hosts.{ShadowHost, host_named, root_named}
-use Rattle.dom_slots.specs.Shadows.{ShadowTrees, shadows}
-use Rattle.dom_path.specs.Hosted.{IsHosted, IsAttached, AreApart, AreAttached}
-use Rattle.dom_path.specs.Ways.{host_above_at, EndsWithin}
+use Rattle.dom_slots.specs.Definitions.{ShadowHost, host_named, root_named, ShadowTrees, shadows}
+use Rattle.dom_path.specs.Definitions.{IsHosted, IsAttached, AreApart, AreAttached, host_above_at, EndsWithin}
 use Rattle.dom_path.proofs.Places.{ends-outside}
 
 -- A host that is found by its root is one of the hosts.

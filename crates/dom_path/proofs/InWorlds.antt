@@ -1,24 +1,14 @@
 -- The path of an event in trees with hosts is its path in each world that has just these.
-use Rattle.std.proofs.Common.{◌≡◌, Bool, true, false, not, ◌&&◌, List, [], ◌∷◌, map, filter, take_while, Option, Some, None, refl, sym, ap, subst, ◌∙◌}
-use Rattle.std.specs.Prelude.{if◌then◌else◌}
-use Rattle.std.specs.Option.{option_and_then, option_map_or}
-use Rattle.std.proofs.lemmas.Bool.{cond-true, cond-false}
-use Rattle.std.proofs.lemmas.List.Sums.{take_while-cons}
-use Rattle.dom_base.specs.declared.NodeName.{NodeName}
-use Rattle.dom_model.specs.Names.{name_eq, first_of, max_depth}
-use Rattle.dom_model.specs.Paths.{View, is_node, retarget, retarget_related, event_parent, event_path, whole_path, views, view_at, FollowsParents}
-use Rattle.dom_model.specs.Slots.{is_assigned_to}
-use Rattle.dom_model.specs.Tree.{has_node}
-use Rattle.dom_model.specs.World.{World}
-use Rattle.dom_model.proofs.OwnerLaws.{name_eq-same}
+use Rattle.dom_base.proofs.Std.{◌≡◌, Bool, true, false, not, ◌&&◌, List, [], ◌∷◌, map, filter, take_while, Option, Some, None, refl, sym, ap, subst, ◌∙◌}
+use Rattle.dom_base.proofs.Std.{if◌then◌else◌, option_and_then, option_map_or, cond-true, cond-false, take_while-cons}
+use Rattle.dom_model.proofs.Model.{NodeName, name_eq, first_of, max_depth, View, is_node, retarget, retarget_related, event_parent, event_path, whole_path}
+use Rattle.dom_model.proofs.Model.{views, view_at, FollowsParents, is_assigned_to, has_node, World, name_eq-same}
 use Rattle.dom_worlds.proofs.ShadowTreeLemmas.{path-follows_parents}
 use Rattle.dom_worlds.proofs.ListLemmas.{by_cases}
-use Rattle.dom_tree.specs.Forest.{NamedTrees}
-use Rattle.dom_slots.specs.Hosts.{ShadowHost}
-use Rattle.dom_slots.specs.Shadows.{ShadowTrees, shadows, is_assigned_at}
-use Rattle.dom_path.specs.Items.{IsWorldOf, PathItem, path_item, items_along, path_items}
-use Rattle.dom_path.specs.Paths.{item_at, items_at, view_of, GoesUp, IsPath, IsPathShown}
-use Rattle.dom_path.specs.Ways.{unless_ended, ends_at, next_at}
+use Rattle.dom_tree.specs.Definitions.{NamedTrees}
+use Rattle.dom_slots.specs.Definitions.{ShadowHost, ShadowTrees, shadows, is_assigned_at}
+use Rattle.dom_path.specs.Definitions.{IsWorldOf, PathItem, path_item, items_along, path_items, item_at, items_at, view_of, GoesUp, IsPath, IsPathShown}
+use Rattle.dom_path.specs.Definitions.{unless_ended, ends_at, next_at}
 use Rattle.dom_path.proofs.Sightings.{kind-is, there-is, hidden-is, seen-is, related-is, ends_at-is, empty-is, entered-is, up-is}
 
 module _ (f : NamedTrees) (hosts : List ShadowHost) (w : World) (is : IsWorldOf f hosts w) (t : NodeName) (r : Option NodeName) (composed : Bool) where

@@ -1,14 +1,11 @@
 -- Up through the trees on an event's way, one at a time.
-use Rattle.std.proofs.Common.{◌≡◌, inl, inr, ℕ, zero, suc, ◌<◌, ◌≤◌, Bool, true, false, ◌||◌, List, [], ◌∷◌, ◌++◌, length, Option, Some, None, refl}
-use Rattle.std.proofs.Common.{sym, ap, subst, ◌∙◌, arith, append_assoc, length-append}
-use Rattle.std.specs.Prelude.{nat_eq, slice_get, is_some, if◌then◌else◌}
-use Rattle.std.specs.Option.{option_and_then, option_map_or}
-use Rattle.std.proofs.lemmas.List.{append-nil}
-use Rattle.std.proofs.lemmas.Option.{slice_get_within}
-use Rattle.dom_model.specs.Names.{is_in}
+use Rattle.dom_base.proofs.Std.{◌≡◌, inl, inr, ℕ, zero, suc, ◌<◌, ◌≤◌, Bool, true, false, ◌||◌, List, [], ◌∷◌, ◌++◌, length, Option, Some, None, refl, sym, ap}
+use Rattle.dom_base.proofs.Std.{subst, ◌∙◌, arith, append_assoc, length-append, nat_eq, slice_get, is_some, if◌then◌else◌, option_and_then, option_map_or}
+use Rattle.dom_base.proofs.Std.{append-nil, slice_get_within}
+use Rattle.dom_model.proofs.Model.{is_in}
 use Rattle.node_arena.proofs.Numbers.{slice_get-push}
 use Rattle.dom_path.specs.declared.trees.Tree.{Tree}
-use Rattle.dom_path.specs.Nests.{IsNested, AreNested, Grows, roots_up, roots_around, hiding_host, outer_of, seen_up, seen_from}
+use Rattle.dom_path.specs.Definitions.{IsNested, AreNested, Grows, roots_up, roots_around, hiding_host, outer_of, seen_up, seen_from}
 
 -- no trees stand rightly
 pub nested-none : (trees : List Tree) → trees ≡ [] → AreNested trees

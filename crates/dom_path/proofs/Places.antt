@@ -1,23 +1,14 @@
 -- The trees on an event's way by keys, and what is seen from them, are those by names.
-use Rattle.std.proofs.Common.{◌≡◌, ℕ, zero, suc, ◌<◌, Bool, true, false, not, ◌&&◌, ◌||◌, List, [], ◌∷◌, length, map, find, flat_map, Option, Some}
-use Rattle.std.proofs.Common.{None, refl, sym, ap, subst, ◌∙◌, arith, append-nil}
-use Rattle.std.specs.Prelude.{nat_eq, option_map, option_to_list, unwrap_or, slice_get, is_some, if◌then◌else◌}
-use Rattle.std.specs.List.{AllByRecursion}
-use Rattle.std.specs.Option.{option_map_or}
-use Rattle.std.proofs.lemmas.Bool.{cond-true, cond-false}
-use Rattle.dom_base.specs.declared.NodeName.{NodeName}
-use Rattle.dom_model.specs.Names.{name_eq, is_in}
-use Rattle.dom_model.specs.Tree.{root_of}
-use Rattle.dom_tree.specs.Forest.{NamedTrees, name_at}
-use Rattle.dom_tree.specs.Apart.{TellApart}
-use Rattle.dom_slots.specs.Hosts.{ShadowHost, host_named}
-use Rattle.dom_slots.specs.Shadows.{ShadowTrees, shadows}
+use Rattle.dom_base.proofs.Std.{◌≡◌, ℕ, zero, suc, ◌<◌, Bool, true, false, not, ◌&&◌, ◌||◌, List, [], ◌∷◌, length, map, find, flat_map, Option, Some, None}
+use Rattle.dom_base.proofs.Std.{refl, sym, ap, subst, ◌∙◌, arith, append-nil, nat_eq, option_map, option_to_list, unwrap_or, slice_get, is_some, if◌then◌else◌}
+use Rattle.dom_base.proofs.Std.{AllByRecursion, option_map_or, cond-true, cond-false}
+use Rattle.dom_model.proofs.Model.{NodeName, name_eq, is_in, root_of}
+use Rattle.dom_tree.specs.Definitions.{NamedTrees, name_at, TellApart}
+use Rattle.dom_slots.specs.Definitions.{ShadowHost, host_named, ShadowTrees, shadows}
 use Rattle.dom_slots.proofs.Hosted.{key-test, is_some-named}
 use Rattle.dom_path.specs.declared.trees.Tree.{Tree}
-use Rattle.dom_path.specs.Hosted.{IsHosted}
-use Rattle.dom_path.specs.Nests.{AreNested, roots_up, roots_around, hiding_host, outer_of, seen_up, seen_from}
-use Rattle.dom_path.specs.PathNodes.{IsTreeOf, AreTrees}
-use Rattle.dom_path.specs.Ways.{EndsWithin, chain_at, host_above_at, is_hidden_at, seen_at}
+use Rattle.dom_path.specs.Definitions.{IsHosted, AreNested, roots_up, roots_around, hiding_host, outer_of, seen_up, seen_from, IsTreeOf, AreTrees, EndsWithin}
+use Rattle.dom_path.specs.Definitions.{chain_at, host_above_at, is_hidden_at, seen_at}
 use Rattle.dom_path.proofs.Nesting.{hides, hiding-is, outer-is, outer-below}
 
 -- ---- the chain of hosts of a node

@@ -1,25 +1,15 @@
 -- The items of a path by keys, and what the event shows at each, are by names the path of the event in the trees with hosts.
-use Rattle.std.proofs.Common.{◌≡◌, ℕ, ◌<◌, length, Bool, true, false, not, List, [], ◌∷◌, map, filter, Option, Some, None, option_map, refl, sym, ap, ◌∙◌}
-use Rattle.std.specs.Prelude.{nat_eq, if◌then◌else◌}
-use Rattle.std.specs.List.{AllByRecursion}
-use Rattle.std.specs.Option.{option_map_or}
-use Rattle.std.proofs.lemmas.Bool.{cond-true, cond-false}
-use Rattle.dom_base.specs.declared.NodeName.{NodeName}
-use Rattle.dom_model.specs.Names.{name_eq}
+use Rattle.dom_base.proofs.Std.{◌≡◌, ℕ, ◌<◌, length, Bool, true, false, not, List, [], ◌∷◌, map, filter, Option, Some, None, option_map, refl, sym, ap, ◌∙◌}
+use Rattle.dom_base.proofs.Std.{nat_eq, if◌then◌else◌, AllByRecursion, option_map_or, cond-true, cond-false}
+use Rattle.dom_model.proofs.Model.{NodeName, name_eq}
 use Rattle.dom_worlds.proofs.ListLemmas.{by_cases}
-use Rattle.dom_tree.specs.Forest.{NamedTrees, name_at}
-use Rattle.dom_tree.specs.Apart.{TellApart}
-use Rattle.dom_slots.specs.Hosts.{ShadowHost}
-use Rattle.dom_slots.specs.Shadows.{ShadowTrees, shadows, is_assigned_at}
+use Rattle.dom_tree.specs.Definitions.{NamedTrees, name_at, TellApart}
+use Rattle.dom_slots.specs.Definitions.{ShadowHost, ShadowTrees, shadows, is_assigned_at}
 use Rattle.dom_slots.proofs.Hosted.{key-test}
 use Rattle.dom_path.specs.declared.item.Item.{Item}
 use Rattle.dom_path.specs.declared.trees.Tree.{Tree}
-use Rattle.dom_path.specs.Built.{IsItemOf, IsBuilt, GoesOn}
-use Rattle.dom_path.specs.Hosted.{IsHosted}
-use Rattle.dom_path.specs.Items.{HasNodes, ShowsNodes, item_named, view_named, AreInTrees}
-use Rattle.dom_path.specs.Paths.{item_at, items_at, view_of, GoesUp, IsPath, IsPathShown}
-use Rattle.dom_path.specs.PathNodes.{AreTrees, key_if, is_hidden_item, shown_nodes, view_in}
-use Rattle.dom_path.specs.Ways.{is_hidden_at}
+use Rattle.dom_path.specs.Definitions.{IsItemOf, IsBuilt, GoesOn, IsHosted, HasNodes, ShowsNodes, item_named, view_named, AreInTrees, item_at, items_at}
+use Rattle.dom_path.specs.Definitions.{view_of, GoesUp, IsPath, IsPathShown, AreTrees, key_if, is_hidden_item, shown_nodes, view_in, is_hidden_at}
 use Rattle.dom_path.proofs.Places.{hidden-named}
 
 -- a key that is there or not, by its name

@@ -1,22 +1,15 @@
 -- What is seen from the places of a path by keys is what is seen by names, and so are its items.
-use Rattle.std.proofs.Common.{◌≡◌, ℕ, ◌<◌, Bool, not, ◌&&◌, List, length, Option, Some, None, refl, sym, ap, ◌∙◌}
-use Rattle.std.specs.Prelude.{option_map, option_to_list, if◌then◌else◌}
-use Rattle.std.specs.Option.{ForSome, option_and_then}
-use Rattle.dom_base.specs.declared.NodeName.{NodeName}
-use Rattle.dom_model.specs.Names.{name_eq, is_in}
-use Rattle.dom_model.specs.Tree.{root_of}
-use Rattle.dom_tree.specs.Forest.{NamedTrees, name_at}
-use Rattle.dom_tree.specs.Apart.{TellApart}
-use Rattle.dom_slots.specs.Hosts.{ShadowHost}
-use Rattle.dom_slots.specs.Shadows.{ShadowTrees, shadows}
+use Rattle.dom_base.proofs.Std.{◌≡◌, ℕ, ◌<◌, Bool, not, ◌&&◌, List, length, Option, Some, None, refl, sym, ap, ◌∙◌, option_map, option_to_list, if◌then◌else◌}
+use Rattle.dom_base.proofs.Std.{ForSome, option_and_then}
+use Rattle.dom_model.proofs.Model.{NodeName, name_eq, is_in, root_of}
+use Rattle.dom_tree.specs.Definitions.{NamedTrees, name_at, TellApart}
+use Rattle.dom_slots.specs.Definitions.{ShadowHost, ShadowTrees, shadows}
 use Rattle.dom_slots.proofs.Hosted.{key-test, found-test}
 use Rattle.dom_path.specs.declared.event.Event.{Event}
 use Rattle.dom_path.specs.declared.path_node.PathNode.{PathNode}
 use Rattle.dom_path.specs.declared.trees.Tree.{Tree}
-use Rattle.dom_path.specs.Built.{IsEvent, IsItemOf, related_name}
-use Rattle.dom_path.specs.Hosted.{IsHosted}
-use Rattle.dom_path.specs.PathNodes.{AreTrees, IsPathNode, seen_of, related_from, is_key, ends_before, is_silent, item_from}
-use Rattle.dom_path.specs.Ways.{seen_at, related_at, ends_at, event_parent_at, is_empty_at, next_at, unless_ended}
+use Rattle.dom_path.specs.Definitions.{IsEvent, IsItemOf, related_name, IsHosted, AreTrees, IsPathNode, seen_of, related_from, is_key, ends_before, is_silent}
+use Rattle.dom_path.specs.Definitions.{item_from, seen_at, related_at, ends_at, event_parent_at, is_empty_at, next_at, unless_ended}
 use Rattle.dom_path.proofs.Places.{seen-node, seen-named}
 
 -- a related node by its place is that by its key

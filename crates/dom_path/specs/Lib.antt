@@ -7,3 +7,4 @@ pub mod Outward
 pub mod Built
 pub mod Items
 pub mod Paths
+pub mod Definitions

@@ -1,5 +1,5 @@
 -- What is kept where text was put before a call that was refused memory.
-use Rattle.std.proofs.Common.{◌≡◌, ℕ, List, [], ◌∷◌, ◌++◌, length, take, refl}
+use Rattle.dom_base.proofs.Std.{◌≡◌, ℕ, List, [], ◌∷◌, ◌++◌, length, take, refl}
 use Rattle.dom_printer.specs.Keeping.{Keeps}
 
 -- what keeps a list and more behind it keeps the list

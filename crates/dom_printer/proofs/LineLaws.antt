@@ -1,6 +1,5 @@
 -- Lines as rows of pieces, and as the specification groups them.
-use Rattle.std.proofs.Common.{◌≡◌, ℕ, List, [], ◌∷◌, ◌++◌, append_assoc, sym, ◌∙◌}
-use Rattle.std.proofs.lemmas.List.{append-nil}
+use Rattle.dom_base.proofs.Std.{◌≡◌, ℕ, List, [], ◌∷◌, ◌++◌, append_assoc, sym, ◌∙◌, append-nil}
 
 -- the texts of pieces, each with the text in front of it and the text of its value
 abbrev pub in_pieces : List (List ℕ × List ℕ) → List ℕ

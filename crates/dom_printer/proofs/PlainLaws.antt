@@ -1,11 +1,7 @@
 -- Code units that stand as they are.
-use Rattle.std.proofs.Common.{◌≡◌, ℕ, ◌<◌, Bool, true, false, List, [], ◌∷◌, ◌++◌, refl, ap, ◌∙◌, arith}
-use Rattle.std.specs.Prelude.{not, ◌&&◌, ◌||◌, ◌==◌, cond}
-use Rattle.std.specs.Int.{is_in_range}
-use Rattle.std.specs.List.{flat_map, list_all, All}
-use Rattle.std.proofs.lemmas.Bool.{and_parts}
-use Rattle.std.proofs.lemmas.List.Sums.{AllPass-from_list_all}
-use Rattle.dom_text.specs.Text.{unit_text, hex_digits}
+use Rattle.dom_base.proofs.Std.{◌≡◌, ℕ, ◌<◌, Bool, true, false, List, [], ◌∷◌, ◌++◌, refl, ap, ◌∙◌, arith, not, ◌&&◌, ◌||◌, ◌==◌, cond, is_in_range, flat_map}
+use Rattle.dom_base.proofs.Std.{list_all, All, and_parts, AllPass-from_list_all}
+use Rattle.dom_text.specs.Definitions.{unit_text, hex_digits}
 use Rattle.dom_text.proofs.WordLaws.{in_range_is}
 use Rattle.dom_printer.specs.Strings.{is_plain}
 

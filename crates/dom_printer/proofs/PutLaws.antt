@@ -1,9 +1,6 @@
 -- Puts one after the other: what the buffer has when all are done, and what it keeps where one was refused memory.
-use Rattle.std.proofs.Common.{◌≡◌, ℕ, ◌+◌, ◌<◌, List, ◌++◌, length, take, get_or, Ok, Err, subst, sym, ap, ◌∙◌, append_assoc, arith}
-use Rattle.std.specs.Prelude.{Result, OnOk, OnErr, is_ok, if◌then◌else◌}
-use Rattle.std.specs.Result.{IsErr}
-use Rattle.std.specs.List.{flat_map}
-use Rattle.std.proofs.lemmas.List.{take_all, take_more, flat_map_more}
+use Rattle.dom_base.proofs.Std.{◌≡◌, ℕ, ◌+◌, ◌<◌, List, ◌++◌, length, take, get_or, Ok, Err, subst, sym, ap, ◌∙◌, append_assoc, arith, Result, OnOk, OnErr}
+use Rattle.dom_base.proofs.Std.{is_ok, if◌then◌else◌, IsErr, flat_map, take_all, take_more, flat_map_more}
 use Rattle.dom_printer.specs.Keeping.{Keeps}
 use Rattle.dom_printer.proofs.KeepLaws.{keeps_front}
 

@@ -1,13 +1,8 @@
 -- The text of trees tells of a node no more than what is shown of it.
-use Rattle.std.proofs.Common.{◌≡◌, ℕ, List, ◌∷◌, ◌++◌, refl, ap, ◌∙◌, append_assoc}
-use Rattle.std.specs.Prelude.{codes}
-use Rattle.std.proofs.lemmas.Grind.{flat_map-append}
-use Rattle.dom_base.specs.declared.Owner.{Owner}
-use Rattle.dom_base.specs.declared.Kind.{Kind}
+use Rattle.dom_base.proofs.Std.{◌≡◌, ℕ, List, ◌∷◌, ◌++◌, refl, ap, ◌∙◌, append_assoc, codes, flat_map-append}
+use Rattle.dom_model.proofs.Model.{Owner, Kind, Node, Trees, none, tree}
 use Rattle.dom_base.specs.declared.Kind.TheVariants as kinds
-use Rattle.dom_model.specs.Tree.{Node, Trees, none, tree}
-use Rattle.dom_text.specs.Words.{kind_word}
-use Rattle.dom_text.specs.Text.{node_text, own_parts, opening_text, trees_text, steps_text, step_text, closes}
+use Rattle.dom_text.specs.Definitions.{kind_word, node_text, own_parts, opening_text, trees_text, steps_text, step_text, closes}
 use Rattle.dom_printer.specs.Steps.{shown, shown_as, shown_steps}
 
 -- what stands before the children of a node shown as one of this kind

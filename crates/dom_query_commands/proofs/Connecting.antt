@@ -1,15 +1,8 @@
 -- Whether a node is connected does not go by the open turn.
-use Rattle.std.proofs.Common.{◌≡◌, ℕ, zero, suc, List, [], ◌∷◌, ◌++◌, Option, Some, None, flat_map, unwrap_or, refl, sym, ap, ◌∙◌}
-use Rattle.std.specs.Prelude.{is_some, option_to_list, if◌then◌else◌}
-use Rattle.dom_base.specs.declared.Owner.{Owner}
-use Rattle.dom_base.specs.declared.NodeName.{NodeName}
-use Rattle.dom_model.specs.Names.{last_of, owner_depth}
-use Rattle.dom_model.specs.Tree.{is_document}
-use Rattle.dom_model.specs.Command.{NodeWord}
-use Rattle.dom_model.specs.CommandNames.{named}
-use Rattle.dom_model.specs.Part.{Part}
-use Rattle.dom_model.specs.Turns.{opening_turn}
-use Rattle.dom_model.specs.World.{World, part_of, host_above, hosts_from, ancestors_at, kind_at, is_connected}
+use Rattle.dom_base.proofs.Std.{◌≡◌, ℕ, zero, suc, List, [], ◌∷◌, ◌++◌, Option, Some, None, flat_map, unwrap_or, refl, sym, ap, ◌∙◌, is_some, option_to_list}
+use Rattle.dom_base.proofs.Std.{if◌then◌else◌}
+use Rattle.dom_model.proofs.Model.{Owner, NodeName, last_of, owner_depth, is_document, NodeWord, named, Part, opening_turn, World, part_of, host_above}
+use Rattle.dom_model.proofs.Model.{hosts_from, ancestors_at, kind_at, is_connected}
 use Rattle.dom_admission.specs.Turned.{with_turn}
 use Rattle.dom_admission.proofs.Handling.{opened-part}
 

@@ -1,16 +1,10 @@
 -- What the commands on observers say of records, and what the command for a microtask does.
-use Rattle.std.proofs.Common.{◌≡◌, ℕ, List, map, sym, [], ◌∷◌, ◌++◌, Option, Some, None, refl}
-use Rattle.dom_base.specs.declared.Owner.{Owner}
-use Rattle.dom_model.specs.Command.{Command}
-use Rattle.dom_model.specs.Names.{Word}
-use Rattle.dom_model.specs.Output.{nothing, recorded, says, replied}
-use Rattle.dom_model.specs.World.{World, Task, micro_task}
+use Rattle.dom_base.proofs.Std.{◌≡◌, ℕ, List, map, sym, [], ◌∷◌, ◌++◌, Option, Some, None, refl}
+use Rattle.dom_model.proofs.Model.{Owner, Command, Word, nothing, recorded, says, replied, World, Task, micro_task, accepted, opening_turn}
 use Rattle.dom_observers.specs.declared.change.Change.{Change}
-use Rattle.dom_mutation.specs.Doc.{DocState, change_in}
+use Rattle.dom_mutation.specs.Definitions.{DocState, change_in}
 use Rattle.dom_query_commands.specs.Recorded.{record_lines}
 use Rattle.dom_query_commands.proofs.Notices.{map_twice}
-use Rattle.dom_model.specs.DocumentMachine.{accepted}
-use Rattle.dom_model.specs.Turns.{opening_turn}
 use Rattle.dom_admission.specs.declared.admission.Operand.TheVariants.{Observer}
 use Rattle.dom_admission.specs.Turned.{with_turn}
 use Rattle.dom_admission.proofs.Refusing.{IsNaming, namings}

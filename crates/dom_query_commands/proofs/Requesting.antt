@@ -1,14 +1,7 @@
 -- What a line asks of a thing is refused by the tests that all commands share, and by no other; what it has made at a root only by a limit too.
-use Rattle.std.proofs.Common.{◌≡◌, ℕ, [], ◌∷◌, ◌++◌, length, None, refl}
-use Rattle.dom_base.specs.declared.Owner.{Owner}
-use Rattle.dom_model.specs.Command.{Filter, NodeWord, effect, own_refusal}
-use Rattle.dom_model.specs.CommandNames.{named}
-use Rattle.dom_model.specs.CommandRefusals.{limit_on}
-use Rattle.dom_model.specs.DocumentMachine.{accepted}
-use Rattle.dom_model.specs.Effects.{answers, new_iterator, new_walker}
-use Rattle.dom_model.specs.Output.{a_walker, an_iterator}
-use Rattle.dom_model.specs.Part.{Part}
-use Rattle.dom_model.specs.World.{World}
+use Rattle.dom_base.proofs.Std.{◌≡◌, ℕ, [], ◌∷◌, ◌++◌, length, None, refl}
+use Rattle.dom_model.proofs.Model.{Owner, Filter, NodeWord, effect, own_refusal, named, limit_on, accepted, answers, new_iterator, new_walker, a_walker}
+use Rattle.dom_model.proofs.Model.{an_iterator, Part, World}
 use Rattle.dom_admission.proofs.Handling.{effecting}
 use Rattle.dom_admission.proofs.Refusing.{IsNaming, namings}
 use Rattle.dom_admission.specs.declared.admission.Operand.TheVariants.{Any}

@@ -1,29 +1,18 @@
 -- Selectors match an owner's nodes in the trees of all owners as they do in the owner's own trees; and what was read of a
 -- selector's text.
-use Rattle.std.proofs.Common.{◌≡◌, ℕ, inl, inr, Bool, true, false, not, ◌&&◌, ◌||◌, List, [], ◌∷◌, Option, Some, None, refl, sym, ap, subst, ◌∙◌}
-use Rattle.std.specs.Prelude.{codes, filter, drop, is_some, is_none, unwrap_or, option_to_list, if◌then◌else◌}
-use Rattle.std.specs.List.{list_any, list_all}
-use Rattle.std.specs.Option.{ForSome, option_map_or}
-use Rattle.dom_base.specs.declared.Fault.{Fault}
-use Rattle.dom_base.specs.declared.Fault.TheVariants.{Refused}
-use Rattle.dom_base.specs.declared.Refusal.{Refusal}
-use Rattle.dom_base.specs.declared.Refusal.TheVariants.{Selector}
-use Rattle.dom_base.specs.declared.Owner.{Owner}
-use Rattle.dom_base.specs.declared.NodeName.{NodeName}
-use Rattle.dom_model.specs.Names.{name_eq, text_eq, is_empty, last_of, items_before, items_after}
-use Rattle.dom_model.specs.Tree.{Trees, Node, kind_of, is_element, attribute_value, parent_of, children_of, siblings, inclusive_ancestors}
-use Rattle.dom_model.specs.Tree.{descendants, inclusive_descendants}
-use Rattle.dom_model.specs.Selectors.{Simple, of_type, of_any_type, of_id, of_class, with_attribute, with_value, first_child, last_child}
-use Rattle.dom_model.specs.Selectors.{CompoundPart, simple, is_not, Combinator, descendant, child, next, later, Complex, alone, joined, equals}
-use Rattle.dom_model.specs.Selectors.{has_word, attribute_passes, elements_before, elements_behind, simple_matches, part_matches, compound_matches}
-use Rattle.dom_model.specs.Selectors.{combined_with, complex_matches, selector_matches, query_all}
-use Rattle.dom_model.specs.SelectorText.{parse_selectors}
-use Rattle.dom_model.specs.Effects.{selectors_of}
-use Rattle.dom_model.specs.Validity.{first_refusal}
-use Rattle.dom_selectors.specs.Reads.{IsRefusalWhere}
-use Rattle.dom_tree.specs.Owners.{AreOwned, trees_of_owner}
+use Rattle.dom_base.proofs.Std.{◌≡◌, ℕ, inl, inr, Bool, true, false, not, ◌&&◌, ◌||◌, List, [], ◌∷◌, Option, Some, None, refl, sym, ap, subst, ◌∙◌, codes}
+use Rattle.dom_base.proofs.Std.{filter, drop, is_some, is_none, unwrap_or, option_to_list, if◌then◌else◌, list_any, list_all, ForSome, option_map_or}
+use Rattle.dom_model.proofs.Model.{Fault, Refused, Refusal, Selector, Owner, NodeName, name_eq, text_eq, is_empty, last_of, items_before, items_after, Trees}
+use Rattle.dom_model.proofs.Model.{Node, kind_of, is_element, attribute_value, parent_of, children_of, siblings, inclusive_ancestors, descendants}
+use Rattle.dom_model.proofs.Model.{inclusive_descendants, Simple, of_type, of_any_type, of_id, of_class, with_value, first_child, last_child, CompoundPart}
+use Rattle.dom_model.proofs.Model.{simple, is_not, Combinator, descendant, child, next, later, Complex, alone, joined, equals, has_word, attribute_passes}
+use Rattle.dom_model.proofs.Model.{elements_before, elements_behind, simple_matches, part_matches, compound_matches, combined_with, complex_matches}
+use Rattle.dom_model.proofs.Model.{selector_matches, query_all, parse_selectors, selectors_of, first_refusal}
+use Rattle.dom_model.specs.Selectors.{with_attribute}
+use Rattle.dom_selectors.specs.Definitions.{IsRefusalWhere}
+use Rattle.dom_tree.specs.Definitions.{AreOwned, trees_of_owner}
 use Rattle.dom_tree.proofs.Owned.{read_own, stays_own}
-use Rattle.dom_laws.proofs.Lists.{In, is_in-from, In-right, before-in, after-in, filter-same, last_split}
+use Rattle.dom_laws.proofs.Laws.{In, is_in-from, In-right, before-in, after-in, filter-same, last_split}
 
 -- ---- tests that agree
 

@@ -1,14 +1,9 @@
 -- Where nodes stand in trees, and that a name that stands there once has one spot.
-use Rattle.std.proofs.Common.{◌≡◌, ◌⊎◌, inl, inr, ◌+◌, ◌≤◌, List, ◌∷◌, ◌++◌, Option, Some, None, refl, sym, ap, subst, arith}
-use Rattle.std.specs.Prelude.{if◌then◌else◌}
-use Rattle.std.specs.Option.{option_or}
-use Rattle.std.proofs.lemmas.Bool.{cases_Bool, cond-true}
-use Rattle.dom_base.specs.declared.NodeName.{NodeName}
-use Rattle.dom_model.specs.Names.{name_eq}
-use Rattle.dom_model.specs.Tree.{Trees, none, tree, Node, times_in}
-use Rattle.dom_model.proofs.OwnerLaws.{name_eq-same, name_eq-true}
-use Rattle.dom_laws.proofs.Counts.{by_times, times_in-none, times-here, times-elsewhere, times-more}
-use Rattle.dom_text.specs.Text.{TreeStep, closes}
+use Rattle.dom_base.proofs.Std.{◌≡◌, ◌⊎◌, inl, inr, ◌+◌, ◌≤◌, List, ◌∷◌, ◌++◌, Option, Some, None, refl, sym, ap, subst, arith, if◌then◌else◌, option_or}
+use Rattle.dom_base.proofs.Std.{cases_Bool, cond-true}
+use Rattle.dom_model.proofs.Model.{NodeName, name_eq, Trees, none, tree, Node, times_in, name_eq-same, name_eq-true}
+use Rattle.dom_laws.proofs.Laws.{by_times, times_in-none, times-here, times-elsewhere, times-more}
+use Rattle.dom_text.specs.Definitions.{TreeStep, closes}
 use Rattle.dom_printer.specs.Steps.{shown_steps}
 
 -- a node where it stands: the trees of its children, the trees right of it, the names of its ancestors from its parent on, and

@@ -1,9 +1,8 @@
 -- The names and the trees of a forest, as laws of dom_tree take them.
-use Rattle.std.proofs.Common.{◌≡◌, ℕ, ◌<◌, List, length, ◌∙◌}
-use Rattle.dom_base.specs.declared.NodeName.{NodeName}
-use Rattle.dom_model.specs.Tree.{Trees, times_in}
-use Rattle.dom_laws.proofs.Counts.{times_count}
-use Rattle.dom_tree.specs.Forest.{NamedTrees, name_at}
+use Rattle.dom_base.proofs.Std.{◌≡◌, ℕ, ◌<◌, List, length, ◌∙◌}
+use Rattle.dom_model.proofs.Model.{NodeName, Trees, times_in}
+use Rattle.dom_laws.proofs.Laws.{times_count}
+use Rattle.dom_tree.specs.Definitions.{NamedTrees, name_at}
 use Rattle.dom_tree.proofs.Standing.{StandOnce}
 
 -- names by their keys, and the trees in which they stand

@@ -1,16 +1,9 @@
 -- The first node behind a boundary point of a tree, and those behind it.
-use Rattle.std.proofs.Common.{◌≡◌, inl, ◌∷◌, ◌++◌, drop, take, Option, Some, None, refl, sym, ap, subst, ◌∙◌}
-use Rattle.std.proofs.lemmas.List.{take-append-drop}
-use Rattle.std.proofs.lemmas.List.Concat.{flat_map-cons}
-use Rattle.dom_base.specs.declared.NodeName.{NodeName}
-use Rattle.dom_model.specs.Names.{name_eq, first_of, items_after}
-use Rattle.dom_model.specs.Place.{Boundary}
-use Rattle.dom_model.specs.Tree.{Trees, children_of, inclusive_descendants}
-use Rattle.dom_laws.proofs.Lists.{In, In-right, Single, Single-apart, first_split, no_first, after-split}
-use Rattle.dom_laws.proofs.Order.{IsWithin, all_single, joined, here}
-use Rattle.dom_laws.proofs.Steps.{within-child}
+use Rattle.dom_base.proofs.Std.{◌≡◌, inl, ◌∷◌, ◌++◌, drop, take, Option, Some, None, refl, sym, ap, subst, ◌∙◌, take-append-drop, flat_map-cons}
+use Rattle.dom_model.proofs.Model.{NodeName, name_eq, first_of, items_after, Boundary, Trees, children_of, inclusive_descendants}
+use Rattle.dom_laws.proofs.Laws.{In, In-right, Single, Single-apart, first_split, no_first, after-split, IsWithin, all_single, joined, here, within-child}
 use Rattle.dom_laws.specs.Within.{beyond, from_node}
-use Rattle.dom_range_ops.specs.Points.{nodes_after}
+use Rattle.dom_range_ops.specs.Definitions.{nodes_after}
 use Rattle.dom_range_ops.proofs.Sides.{nodes_before, point-splits}
 
 module _ (ts : Trees) (top : NodeName) (b : Boundary NodeName) (w : IsWithin ts top b.node) where

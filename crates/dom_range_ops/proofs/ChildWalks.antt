@@ -1,13 +1,7 @@
 -- A walk along the children of a node.
-use Rattle.std.proofs.Common.{◌≡◌, inl, ℕ, zero, suc, List, [], ◌∷◌, ◌++◌, drop, Option, Some, None, refl, sym, ap, subst, ◌∙◌, append_assoc}
-use Rattle.std.specs.Option.{option_map_or}
-use Rattle.dom_base.specs.declared.NodeName.{NodeName}
-use Rattle.dom_model.specs.Names.{name_eq, first_of, items_after}
-use Rattle.dom_model.specs.Tree.{Trees, children_of, next_sibling}
-use Rattle.dom_laws.proofs.Children.{parent-of_child, children-single}
-use Rattle.dom_laws.proofs.Lists.{In, In-right, Single, Single-apart, first_split, no_first, after-split}
-use Rattle.dom_laws.proofs.Shapes.{Has}
-use Rattle.dom_laws.proofs.Counts.{Once}
+use Rattle.dom_base.proofs.Std.{◌≡◌, inl, ℕ, zero, suc, List, [], ◌∷◌, ◌++◌, drop, Option, Some, None, refl, sym, ap, subst, ◌∙◌, append_assoc, option_map_or}
+use Rattle.dom_model.proofs.Model.{NodeName, name_eq, first_of, items_after, Trees, children_of, next_sibling}
+use Rattle.dom_laws.proofs.Laws.{parent-of_child, children-single, In, In-right, Single, Single-apart, first_split, no_first, after-split, Has, Once}
 
 -- the walk has come to a child, behind which so many are left to pass
 pub record IsAtKid (ts : Trees) (p : NodeName) (index left : ℕ) (at : Option NodeName) : Type 0 where

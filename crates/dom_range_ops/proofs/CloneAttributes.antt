@@ -1,14 +1,8 @@
 -- The attributes of a node, copied one by one.
-use Rattle.std.proofs.Common.{zero, suc, ◌≡◌, ◌<◌, ℕ, ◌-◌, Bool, false, List, [], ◌∷◌, length, take, Some, None, refl, sym, ap, ◌∙◌, arith}
-use Rattle.std.specs.Prelude.{slice_get}
-use Rattle.std.specs.List.{AllByRecursion}
-use Rattle.std.specs.Str.{bytes_eq}
-use Rattle.std.proofs.lemmas.Bool.{cond-false}
-use Rattle.std.proofs.lemmas.List.{length-map, length-take-le}
+use Rattle.dom_base.proofs.Std.{zero, suc, ◌≡◌, ◌<◌, ℕ, ◌-◌, Bool, false, List, [], ◌∷◌, length, take, Some, None, refl, sym, ap, ◌∙◌, arith, slice_get}
+use Rattle.dom_base.proofs.Std.{AllByRecursion, bytes_eq, cond-false, length-map, length-take-le}
 use Rattle.indexmap.specs.IndexMap.{insert_entry}
-use Rattle.dom_model.specs.Names.{text_eq}
-use Rattle.dom_model.specs.Tree.{Attribute}
-use Rattle.dom_model.specs.TreeChanges.{attributes_with}
+use Rattle.dom_model.proofs.Model.{text_eq, Attribute, attributes_with}
 use Rattle.dom_attributes.specs.Attributes.{HaveOwnNames}
 use Rattle.dom_attributes.proofs.Attributes.{attributes_in, insert-attributes}
 

@@ -1,20 +1,12 @@
 -- Going up from keys' nodes, by how many nodes stand above them.
-use Rattle.std.proofs.Common.{◌≡◌, ◌⊎◌, inl, inr, ℕ, ◌+◌, ◌<◌, ◌≤◌, true, false, List, [], ◌∷◌, ◌++◌, length, Option, Some, None, refl, sym, ap}
-use Rattle.std.proofs.Common.{◌∙◌, arith, length-append}
-use Rattle.std.specs.Prelude.{option_map, unwrap_or}
-use Rattle.std.specs.Option.{option_or}
-use Rattle.std.proofs.lemmas.Bool.{cases_Bool, false_from_ne_true}
-use Rattle.dom_base.specs.declared.NodeName.{NodeName}
-use Rattle.dom_model.specs.Names.{name_eq, items_before}
-use Rattle.dom_model.specs.Place.{place_from}
-use Rattle.dom_model.specs.Tree.{Trees, none, tree, on_top, parent_of, inclusive_ancestors, is_inclusive_ancestor}
-use Rattle.dom_tree.specs.Forest.{NamedTrees, name_at}
-use Rattle.dom_laws.proofs.Chains.{above-split, above-chain}
+use Rattle.dom_base.proofs.Std.{◌≡◌, ◌⊎◌, inl, inr, ℕ, ◌+◌, ◌<◌, ◌≤◌, true, false, List, [], ◌∷◌, ◌++◌, length, Option, Some, None, refl, sym, ap, ◌∙◌, arith}
+use Rattle.dom_base.proofs.Std.{length-append, option_map, unwrap_or, option_or, cases_Bool, false_from_ne_true}
+use Rattle.dom_model.proofs.Model.{NodeName, name_eq, items_before, place_from, Trees, none, tree, on_top, parent_of, inclusive_ancestors}
+use Rattle.dom_model.proofs.Model.{is_inclusive_ancestor}
+use Rattle.dom_tree.specs.Definitions.{NamedTrees, name_at}
+use Rattle.dom_laws.proofs.Laws.{above-split, above-chain, In, In-from, Once, Has, Has-above, above-parent, above-present, above-root}
 use Rattle.dom_tree.proofs.Standing.{StandOnce, StandAlone, Once-forest, Has-forest}
-use Rattle.dom_laws.proofs.Lists.{In, In-from}
-use Rattle.dom_laws.proofs.Counts.{Once}
-use Rattle.dom_laws.proofs.Shapes.{Has, Has-above, above-parent, above-present, above-root}
-use Rattle.dom_ranges.specs.Climbs.{depth_at}
+use Rattle.dom_ranges.specs.Definitions.{depth_at}
 
 -- how many nodes stand above a key's node, with that one
 abbrev pub height_at : NamedTrees → ℕ → ℕ

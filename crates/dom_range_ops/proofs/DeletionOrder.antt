@@ -1,23 +1,13 @@
 -- What a range contains, by how its nodes stand above and below one another.
-use Rattle.std.proofs.Common.{◌≡◌, ◌⊎◌, inl, inr, ℕ, ◌<◌, Bool, true, false, not, ◌&&◌, List, [], ◌∷◌, ◌++◌, length, Option, Some, None, refl, sym}
-use Rattle.std.proofs.Common.{ap, subst, ◌∙◌, arith, true≢false}
-use Rattle.std.specs.Prelude.{filter}
-use Rattle.std.specs.Option.{option_map_or}
-use Rattle.std.proofs.lemmas.Bool.{cases_Bool, and_parts, false_from_ne_true, le-ltb, lt-ltb, lt-leb, cond-false}
-use Rattle.std.proofs.lemmas.List.{append-nil}
-use Rattle.dom_base.specs.declared.NodeName.{NodeName}
-use Rattle.dom_model.specs.Place.{boundary_place, is_before, place_of}
-use Rattle.dom_model.specs.Ranges.{Range, at, is_contained}
-use Rattle.dom_model.specs.Tree.{Trees, node_in, kind_of, has_data, children_of, inclusive_descendants, inclusive_ancestors, is_inclusive_ancestor}
-use Rattle.dom_model.specs.Tree.{root_of, length_of, parent_of}
+use Rattle.dom_base.proofs.Std.{◌≡◌, ◌⊎◌, inl, inr, ℕ, ◌<◌, Bool, true, false, not, ◌&&◌, List, [], ◌∷◌, ◌++◌, length, Option, Some, None, refl, sym, ap, subst}
+use Rattle.dom_base.proofs.Std.{◌∙◌, arith, true≢false, filter, option_map_or, cases_Bool, and_parts, false_from_ne_true, le-ltb, lt-ltb, lt-leb, cond-false}
+use Rattle.dom_base.proofs.Std.{append-nil}
+use Rattle.dom_model.proofs.Model.{NodeName, boundary_place, is_before, place_of, Range, at, is_contained, Trees, node_in, kind_of, has_data, children_of}
+use Rattle.dom_model.proofs.Model.{inclusive_descendants, inclusive_ancestors, is_inclusive_ancestor, root_of, length_of, parent_of, before-less, before-turned}
 use Rattle.dom_ranges.proofs.Before.{before-same, before-up, before-down}
-use Rattle.dom_laws.proofs.Children.{In-names, Has-names}
-use Rattle.dom_laws.proofs.Lists.{In, In-from, filter-none, Single, Single-apart}
-use Rattle.dom_laws.proofs.Steps.{within-itself}
-use Rattle.dom_laws.proofs.Order.{IsWithin, stands_in, all_single, below, here}
-use Rattle.dom_laws.proofs.Shapes.{Has-above, Has-subtree, above-parent, above-root, above-from_below, below-from_above}
-use Rattle.dom_model.proofs.ListOrder.{before-less, before-turned}
-use Rattle.dom_range_ops.specs.Texts.{nodes_around}
+use Rattle.dom_laws.proofs.Laws.{In-names, Has-names, In, In-from, filter-none, Single, Single-apart, within-itself, IsWithin, stands_in, all_single, below}
+use Rattle.dom_laws.proofs.Laws.{here, Has-above, Has-subtree, above-parent, above-root, above-from_below, below-from_above}
+use Rattle.dom_range_ops.specs.Definitions.{nodes_around}
 use Rattle.dom_range_ops.proofs.OneTree.{root-above, root-path}
 use Rattle.dom_range_ops.proofs.OwnTexts.{around-root}
 use Rattle.dom_range_ops.proofs.Parting.{among-kids}

@@ -1,26 +1,14 @@
 -- What is deleted of an owner's range is the same among all trees and among the owner's own.
-use Rattle.std.proofs.Common.{◌≡◌, ◌<◌, ℕ, suc, inl, inr, false, not, ◌&&◌, List, [], ◌∷◌, length, map, filter, Option, Some, None, refl, sym, ap, subst, ◌∙◌}
-use Rattle.std.specs.Prelude.{◌-◌, unwrap_or, if◌then◌else◌}
-use Rattle.std.specs.List.{AllByRecursion}
-use Rattle.std.specs.Option.{option_map_or}
-use Rattle.std.proofs.lemmas.Bool.{cases_Bool, and_parts, cond-true, cond-false}
-use Rattle.dom_base.specs.declared.NodeName.{NodeName}
-use Rattle.dom_base.specs.declared.Owner.{Owner}
-use Rattle.dom_model.specs.Changes.{steps_of}
-use Rattle.dom_model.specs.Extract.{is_in_one_data, new_place, behind_node, cut_start}
-use Rattle.dom_model.specs.Names.{name_eq, is_in, last_of}
-use Rattle.dom_model.specs.Place.{Boundary}
-use Rattle.dom_model.specs.Ranges.{Range, at, is_contained}
-use Rattle.dom_model.specs.RangeOps.{cutting_data, outermost_contained}
-use Rattle.dom_model.specs.TextChanges.{replacing_data}
-use Rattle.dom_model.specs.Tree.{Trees, Node, has_data, kind_of, nodes, names_of, parent_of, index_of, root_of, inclusive_ancestors, length_of}
+use Rattle.dom_base.proofs.Std.{◌≡◌, ◌<◌, ℕ, suc, inl, inr, false, not, ◌&&◌, List, [], ◌∷◌, length, map, filter, Option, Some, None, refl, sym, ap, subst, ◌∙◌}
+use Rattle.dom_base.proofs.Std.{◌-◌, unwrap_or, if◌then◌else◌, AllByRecursion, option_map_or, cases_Bool, and_parts, cond-true, cond-false}
+use Rattle.dom_model.proofs.Model.{NodeName, Owner, steps_of, is_in_one_data, new_place, behind_node, cut_start, name_eq, is_in, last_of, Boundary, Range, at}
+use Rattle.dom_model.proofs.Model.{is_contained, cutting_data, outermost_contained, replacing_data, Trees, Node, has_data, kind_of, nodes, names_of, parent_of}
+use Rattle.dom_model.proofs.Model.{index_of, root_of, inclusive_ancestors, length_of}
 use Rattle.dom_ranges.proofs.OwnOrder.{has_owner}
 use Rattle.dom_tree.proofs.Owned.{own_trees, read_own, stays_own}
-use Rattle.dom_tree.specs.Owners.{AreOwned, trees_of_owner}
-use Rattle.dom_laws.proofs.Children.{Has-names}
-use Rattle.dom_laws.proofs.Lists.{In, In-right, is_in-from, filter-same, last_split}
-use Rattle.dom_laws.proofs.Shapes.{Has-above, above-parent, above-present}
-use Rattle.dom_range_ops.specs.Texts.{nodes_around}
+use Rattle.dom_tree.specs.Definitions.{AreOwned, trees_of_owner}
+use Rattle.dom_laws.proofs.Laws.{Has-names, In, In-right, is_in-from, filter-same, last_split, Has-above, above-parent, above-present}
+use Rattle.dom_range_ops.specs.Definitions.{nodes_around}
 use Rattle.dom_range_ops.proofs.OneTree.{HasOneTree, contained-root, filter-tree, root-above, root-path, root-root}
 use Rattle.dom_range_ops.proofs.OwnTexts.{contained-own, around-own, around-owner, around-root, ends-own, among-filtered}
 use Rattle.dom_range_ops.proofs.DeletionOrder.{is_outermost}

@@ -1,23 +1,14 @@
 -- Where a range stands after its contents were taken.
-use Rattle.std.proofs.Common.{◌≡◌, ◌⊎◌, true≢false, inl, inr, suc, true, false, not, List, [], ◌∷◌, ◌++◌, length, Bool, Option, Some, None}
-use Rattle.std.proofs.Common.{refl, sym, ap, subst, ◌∙◌, arith, append_assoc, length-append}
-use Rattle.std.specs.Prelude.{filter, unwrap_or}
-use Rattle.std.specs.Option.{option_map_or}
-use Rattle.std.proofs.lemmas.Bool.{cases_Bool, cond-false, false_from_ne_true}
-use Rattle.std.proofs.lemmas.List.Elements.{filter-append}
-use Rattle.dom_base.specs.declared.NodeName.{NodeName}
-use Rattle.dom_model.specs.Extract.{behind_node}
-use Rattle.dom_model.specs.Names.{name_eq, is_in, first_of, last_of, items_before, items_after}
-use Rattle.dom_model.specs.Ranges.{Range, at}
-use Rattle.dom_model.specs.Tree.{Trees, node_in, kind_of, has_data, children_of, parent_of, next_sibling, index_of, length_of, root_of}
-use Rattle.dom_model.specs.Tree.{inclusive_ancestors, is_inclusive_ancestor, inclusive_descendants}
-use Rattle.dom_laws.proofs.Chains.{above-split, above-along, first-passes}
-use Rattle.dom_laws.proofs.Children.{In-names, child-of_parent, parent-of_child, children-single}
-use Rattle.dom_laws.proofs.Lists.{In, In-right, In-from, is_in-from, Single, Single-apart, filter-none, filter-yes, first_split, no_first, split_at}
-use Rattle.dom_laws.proofs.Lists.{before-split, last_of-end}
-use Rattle.dom_laws.proofs.Counts.{Once}
-use Rattle.dom_laws.proofs.Shapes.{Has, Has-above, above-parent, above-root, above-present, below-from_above}
-use Rattle.dom_range_ops.specs.Texts.{nodes_around}
+use Rattle.dom_base.proofs.Std.{◌≡◌, ◌⊎◌, true≢false, inl, inr, suc, true, false, not, List, [], ◌∷◌, ◌++◌, length, Bool, Option, Some, None, refl, sym, ap}
+use Rattle.dom_base.proofs.Std.{subst, ◌∙◌, arith, append_assoc, length-append, filter, unwrap_or, option_map_or, cases_Bool, cond-false, false_from_ne_true}
+use Rattle.dom_base.proofs.Std.{filter-append}
+use Rattle.dom_model.proofs.Model.{NodeName, behind_node, name_eq, is_in, first_of, last_of, items_before, items_after, Range, at, Trees, node_in, kind_of}
+use Rattle.dom_model.proofs.Model.{has_data, children_of, parent_of, next_sibling, index_of, length_of, root_of, inclusive_ancestors, is_inclusive_ancestor}
+use Rattle.dom_model.proofs.Model.{inclusive_descendants}
+use Rattle.dom_laws.proofs.Laws.{above-split, above-along, first-passes, In-names, child-of_parent, parent-of_child, children-single, In, In-right, In-from}
+use Rattle.dom_laws.proofs.Laws.{is_in-from, Single, Single-apart, filter-none, filter-yes, first_split, no_first, split_at, before-split, last_of-end, Once}
+use Rattle.dom_laws.proofs.Laws.{Has, Has-above, above-parent, above-root, above-present, below-from_above}
+use Rattle.dom_range_ops.specs.Definitions.{nodes_around}
 use Rattle.dom_range_ops.proofs.OneTree.{root-above, root-path}
 
 -- what passes alone is not above the other node

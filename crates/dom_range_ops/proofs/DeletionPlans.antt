@@ -1,29 +1,14 @@
 -- The plan of a deletion, step by step.
-use Rattle.std.proofs.Common.{◌≡◌, ℕ, Bool, true, false, List, [], ◌∷◌, map, Option, is_some, sym, ap, subst, ◌∙◌}
-use Rattle.std.specs.Prelude.{◌-◌, if◌then◌else◌}
-use Rattle.std.specs.Option.{option_map_or}
-use Rattle.std.proofs.lemmas.Bool.{cond-true, cond-false}
-use Rattle.dom_base.specs.declared.NodeName.{NodeName}
-use Rattle.dom_base.specs.declared.Owner.{Owner}
-use Rattle.dom_model.specs.Changes.{Plan, ◌and_then◌, in_turn, doing, steps_of, remove_plan, observed}
-use Rattle.dom_model.specs.Effects.{plan_of_range}
-use Rattle.dom_model.specs.Extract.{is_in_one_data, cut_start, cut_end, new_place, both_at}
-use Rattle.dom_model.specs.Names.{name_eq}
-use Rattle.dom_model.specs.Part.{range_at}
-use Rattle.dom_model.specs.Ranges.{Range, at, is_collapsed}
-use Rattle.dom_model.specs.RangeOps.{cutting_data, outermost_contained, deleting_contents, deleting}
-use Rattle.dom_model.specs.Steps.{set_range}
-use Rattle.dom_model.specs.TextChanges.{replacing_data}
-use Rattle.dom_model.specs.Tree.{Trees, kind_of, has_data}
-use Rattle.dom_model.specs.World.{part_of}
-use Rattle.dom_model.specs.WorldSteps.{world_after}
-use Rattle.dom_mutation.specs.Doc.{DocState, made, planned, stepped, name_in, owner_in, trees_in}
-use Rattle.dom_mutation.specs.Hosting.{PlansOwn, IsAlone}
+use Rattle.dom_base.proofs.Std.{◌≡◌, ℕ, Bool, true, false, List, [], ◌∷◌, map, Option, is_some, sym, ap, subst, ◌∙◌, ◌-◌, if◌then◌else◌, option_map_or}
+use Rattle.dom_base.proofs.Std.{cond-true, cond-false}
+use Rattle.dom_model.proofs.Model.{NodeName, Owner, Plan, ◌and_then◌, in_turn, doing, steps_of, remove_plan, observed, plan_of_range, is_in_one_data, cut_start}
+use Rattle.dom_model.proofs.Model.{cut_end, new_place, both_at, name_eq, range_at, Range, at, is_collapsed, cutting_data, outermost_contained}
+use Rattle.dom_model.proofs.Model.{deleting_contents, deleting, set_range, replacing_data, Trees, kind_of, has_data, part_of, world_after}
+use Rattle.dom_mutation.specs.Definitions.{DocState, made, planned, stepped, name_in, owner_in, trees_in, PlansOwn, IsAlone}
 use Rattle.dom_parts.proofs.Made.{made_then, planned_then}
 use Rattle.dom_parts.proofs.OwnPlans.{plans_then, plans_each, plans_data, plans_removing}
 use Rattle.dom_ranges.specs.declared.table.Points.{Points}
-use Rattle.dom_range_ops.specs.Deletions.{IsRangeIn, IsOfPoints, cutting}
-use Rattle.dom_range_ops.specs.Texts.{range_at_points}
+use Rattle.dom_range_ops.specs.Definitions.{IsRangeIn, IsOfPoints, cutting, range_at_points}
 use Rattle.dom_range_ops.proofs.InsertedRanges.{range-kept}
 
 -- ---- its steps are its owner's own

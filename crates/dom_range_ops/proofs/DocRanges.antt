@@ -1,33 +1,19 @@
 -- A live range of a `Doc`: its points, and what the forest has of it.
-use Rattle.std.proofs.Common.{◌≡◌, ◌<◌, ◌≤◌, ℕ, zero, suc, List, [], ◌∷◌, length, map, Option, Some, None, Result, Ok, Err, sym, ap, subst, ◌∙◌}
-use Rattle.std.specs.Prelude.{IfOk, slice_get}
-use Rattle.std.specs.List.{AllByRecursion}
-use Rattle.std.specs.Option.{option_flatten, option_map_or}
-use Rattle.dom_base.specs.declared.NodeName.{NodeName}
-use Rattle.dom_base.specs.declared.Owner.{Owner}
-use Rattle.dom_worlds.specs.Bounds.{IsWithin, EndsWithin, HasBounds}
+use Rattle.dom_base.proofs.Std.{◌≡◌, ◌<◌, ◌≤◌, ℕ, zero, suc, List, [], ◌∷◌, length, map, Option, Some, None, Result, Ok, Err, sym, ap, subst, ◌∙◌, IfOk}
+use Rattle.dom_base.proofs.Std.{slice_get, AllByRecursion, option_flatten, option_map_or}
+use Rattle.dom_model.proofs.Model.{NodeName, Owner, Command, effect, Effect, is_in_one_data, new_place, pieces_of, nothing, boundaries, Part, range_at}
+use Rattle.dom_model.proofs.Model.{Boundary, same_root, Range, from_to, cutting_data, outermost_contained, range_text_of, Trees, Node, kind_of, has_data}
+use Rattle.dom_model.proofs.Model.{children_of, root_of, length_of, part_of}
+use Rattle.dom_worlds.specs.Definitions.{IsWithin, EndsWithin, HasBounds}
 use Rattle.dom_worlds.proofs.RangeLemmas.{text-data}
-use Rattle.dom_model.specs.Command.{Command, effect}
-use Rattle.dom_model.specs.Effects.{Effect}
-use Rattle.dom_model.specs.Extract.{is_in_one_data, new_place, pieces_of}
-use Rattle.dom_model.specs.Output.{nothing, boundaries}
-use Rattle.dom_model.specs.Part.{Part, range_at}
-use Rattle.dom_model.specs.Place.{Boundary, same_root}
-use Rattle.dom_model.specs.Ranges.{Range, from_to}
-use Rattle.dom_model.specs.RangeOps.{cutting_data, outermost_contained, range_text_of}
-use Rattle.dom_model.specs.Tree.{Trees, Node, kind_of, has_data, children_of, root_of, length_of}
-use Rattle.dom_model.specs.World.{part_of}
-use Rattle.dom_mutation.specs.Doc.{DocState, name_in, owner_in, trees_in}
+use Rattle.dom_mutation.specs.Definitions.{DocState, name_in, owner_in, trees_in}
 use Rattle.dom_ranges.proofs.OwnOrder.{same_root-own}
 use Rattle.dom_ranges.specs.declared.table.Points.{Points}
 use Rattle.dom_tree.proofs.Owned.{read_own, stays_own}
 use Rattle.dom_tree.proofs.Standing.{StandOnce, StandAlone, Once-forest, Has-forest}
-use Rattle.dom_tree.specs.Forest.{NamedTrees, name_at}
-use Rattle.dom_tree.specs.Owners.{AreOwned, trees_of_owner}
-use Rattle.dom_laws.proofs.Lists.{In}
-use Rattle.dom_range_ops.specs.Deletions.{AreLeaves, IsRangeIn, cutting}
-use Rattle.dom_range_ops.specs.Pieces.{AreSpanned}
-use Rattle.dom_range_ops.specs.Texts.{range_at_points, AreBounded, text_among, nodes_around}
+use Rattle.dom_tree.specs.Definitions.{NamedTrees, name_at, AreOwned, trees_of_owner}
+use Rattle.dom_laws.proofs.Laws.{In}
+use Rattle.dom_range_ops.specs.Definitions.{AreLeaves, IsRangeIn, cutting, AreSpanned, range_at_points, AreBounded, text_among, nodes_around}
 use Rattle.dom_range_ops.proofs.OneTree.{HasOneTree}
 use Rattle.dom_range_ops.proofs.OwnTexts.{text-is}
 use Rattle.dom_range_ops.proofs.DeletionOwn.{outermost-own, outermost-owner, one-own, cutting-own, place-own, place-owner, keys-own}

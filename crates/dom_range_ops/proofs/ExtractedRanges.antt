@@ -1,32 +1,15 @@
 -- The extraction of a live range of a `Doc`: what its pieces are, that they may be taken, and what is left.
-use Rattle.std.proofs.Common.{◌≡◌, ◌≤◌, ◌+◌, ℕ, suc, true, false, List, [], ◌∷◌, ◌++◌, map, Option, Some, None, sym, ap}
-use Rattle.std.proofs.Common.{subst, ◌∙◌, refl, arith}
-use Rattle.std.specs.Option.{ForSome, option_map_or}
-use Rattle.std.proofs.lemmas.Bool.{ltb-false}
-use Rattle.dom_base.specs.declared.NodeName.{NodeName}
-use Rattle.dom_base.specs.declared.Owner.{Owner}
-use Rattle.dom_base.specs.declared.Refusal.TheVariants.{Limit}
-use Rattle.dom_worlds.specs.Bounds.{HasBounds}
-use Rattle.dom_worlds.specs.Tables.{HasEnds}
-use Rattle.dom_worlds.specs.Worlds.{IsPart}
-use Rattle.dom_model.specs.CommandRefusals.{limit_on, of_range, past_limit}
-use Rattle.dom_model.specs.Effects.{plan_of_range}
-use Rattle.dom_model.specs.Extract.{pieces_of, made_by_extracting, extracting, new_fragment_node, own_document, new_place}
-use Rattle.dom_model.specs.Part.{Part, range_at, next_name}
-use Rattle.dom_model.specs.Place.{Boundary}
-use Rattle.dom_model.specs.Ranges.{Range}
-use Rattle.dom_model.specs.Steps.{make, part_step}
-use Rattle.dom_model.specs.Validity.{first_refusal}
-use Rattle.dom_model.specs.World.{World, part_of}
-use Rattle.dom_model.specs.WorldSteps.{world_after}
-use Rattle.dom_mutation.specs.Doc.{DocState, made, name_in, trees_in}
+use Rattle.dom_base.proofs.Std.{◌≡◌, ◌≤◌, ◌+◌, ℕ, suc, true, false, List, [], ◌∷◌, ◌++◌, map, Option, Some, None, sym, ap, subst, ◌∙◌, refl, arith, ForSome}
+use Rattle.dom_base.proofs.Std.{option_map_or, ltb-false}
+use Rattle.dom_model.proofs.Model.{NodeName, Owner, Limit, limit_on, of_range, past_limit, plan_of_range, pieces_of, made_by_extracting, extracting}
+use Rattle.dom_model.proofs.Model.{new_fragment_node, own_document, new_place, Part, range_at, next_name, Boundary, Range, make, part_step, first_refusal}
+use Rattle.dom_model.proofs.Model.{World, part_of, world_after}
+use Rattle.dom_worlds.specs.Definitions.{HasBounds, HasEnds, IsPart}
+use Rattle.dom_mutation.specs.Definitions.{DocState, made, name_in, trees_in}
 use Rattle.dom_ranges.specs.declared.table.Points.{Points}
 use Rattle.dom_range_ops.specs.declared.pieces.Piece.{Piece}
-use Rattle.dom_range_ops.specs.Deletions.{IsOfPoints}
-use Rattle.dom_range_ops.specs.Extractions.{ShadowRootsHaveNoParent, extracting_items}
-use Rattle.dom_range_ops.specs.Pieces.{Item, item_in, items_of, made_by}
-use Rattle.dom_range_ops.specs.Takings.{new_names, MayTake}
-use Rattle.dom_range_ops.specs.Texts.{range_at_points}
+use Rattle.dom_range_ops.specs.Definitions.{IsOfPoints, ShadowRootsHaveNoParent, extracting_items, Item, item_in, items_of, made_by, new_names, MayTake}
+use Rattle.dom_range_ops.specs.Definitions.{range_at_points}
 use Rattle.dom_range_ops.proofs.PieceSteps.{made-pieces}
 use Rattle.dom_range_ops.proofs.TakingItems.{items-extracting}
 use Rattle.dom_range_ops.proofs.TakingRanges.{extract-may_take}

@@ -1,21 +1,13 @@
 -- The child of a node at an index, in the trees of its owner.
-use Rattle.std.proofs.Common.{◌≡◌, ◌<◌, ℕ, zero, suc, List, [], ◌∷◌, drop, length, Option, option_map, refl, sym, ap, subst, ◌∙◌}
-use Rattle.std.specs.Prelude.{slice_get}
-use Rattle.std.specs.Option.{ForSome}
-use Rattle.dom_base.specs.declared.NodeName.{NodeName}
-use Rattle.dom_base.specs.declared.Owner.{Owner}
-use Rattle.dom_worlds.specs.Worlds.{IsPart}
+use Rattle.dom_base.proofs.Std.{◌≡◌, ◌<◌, ℕ, zero, suc, List, [], ◌∷◌, drop, length, Option, option_map, refl, sym, ap, subst, ◌∙◌, slice_get, ForSome}
+use Rattle.dom_model.proofs.Model.{NodeName, Owner, first_of, children_of, part_of, owner-part_of}
+use Rattle.dom_worlds.specs.Definitions.{IsPart}
 use Rattle.dom_worlds.proofs.TreeLemmas.{children-childs, IsChild as IsBelow, child-parent}
 use Rattle.dom_worlds.proofs.RangeLemmas.{child-there_in}
 use Rattle.dom_worlds.proofs.PlanLemmas.{IfSome, all-get}
-use Rattle.dom_model.specs.Names.{first_of}
-use Rattle.dom_model.specs.Tree.{children_of}
-use Rattle.dom_model.specs.World.{part_of}
-use Rattle.dom_model.proofs.PartLaws.{owner-part_of}
-use Rattle.dom_mutation.specs.Doc.{DocState, name_in, owner_in, trees_in, IsChild}
+use Rattle.dom_mutation.specs.Definitions.{DocState, name_in, owner_in, trees_in, IsChild}
 use Rattle.dom_tree.proofs.Owned.{read_own}
-use Rattle.dom_tree.specs.Forest.{NamedTrees, name_at}
-use Rattle.dom_tree.specs.Owners.{AreOwned, trees_of_owner}
+use Rattle.dom_tree.specs.Definitions.{NamedTrees, name_at, AreOwned, trees_of_owner}
 
 -- the first item from an index on
 first-drop : {X : Type 0} (xs : List X) (k : ℕ) → first_of (drop k xs) ≡ slice_get xs k

@@ -1,17 +1,9 @@
 -- What an owner's plan keeps of the nodes that it does not name, in the state that it leaves.
-use Rattle.std.proofs.Common.{◌≡◌, ℕ, Bool, true, false, Option, sym, ap, subst, ◌∙◌}
-use Rattle.dom_base.specs.declared.Kind.{Kind}
-use Rattle.dom_base.specs.declared.NodeName.{NodeName}
-use Rattle.dom_base.specs.declared.Owner.{Owner}
+use Rattle.dom_base.proofs.Std.{◌≡◌, ℕ, Bool, true, false, Option, sym, ap, subst, ◌∙◌}
+use Rattle.dom_model.proofs.Model.{Kind, NodeName, Owner, Plan, Part, after, Trees, kind_of, has_node, World, part_of}
 use Rattle.dom_worlds.proofs.CommandLemmas.{has_node-times}
 use Rattle.dom_worlds.proofs.PlanLemmas.{Changed}
-use Rattle.dom_model.specs.Changes.{Plan}
-use Rattle.dom_model.specs.Part.{Part}
-use Rattle.dom_model.specs.Steps.{after}
-use Rattle.dom_model.specs.Tree.{Trees, kind_of, has_node}
-use Rattle.dom_model.specs.World.{World, part_of}
-use Rattle.dom_mutation.specs.Doc.{DocState, made, name_in, owner_in, trees_in}
-use Rattle.dom_mutation.specs.Hosting.{PlansOwn, IsAlone}
+use Rattle.dom_mutation.specs.Definitions.{DocState, made, name_in, owner_in, trees_in, PlansOwn, IsAlone}
 use Rattle.dom_parts.proofs.Made.{plan_alone}
 
 module _ (d e : DocState) (o : Owner) (f : Plan) (alone : IsAlone d.world o) (own : PlansOwn o f) (world : e.world ≡ made o f d.world) where

@@ -1,26 +1,15 @@
 -- The steps of an insertion into a live range, put together to its plan.
-use Rattle.std.proofs.Common.{◌≡◌, ℕ, false, List, Option, Some, None, option_map, refl, sym, ap, subst, ◌∙◌}
-use Rattle.std.specs.Option.{ForSome}
-use Rattle.std.proofs.lemmas.Bool.{cond-false}
-use Rattle.dom_base.specs.declared.NodeName.{NodeName}
-use Rattle.dom_base.specs.declared.Owner.{Owner}
-use Rattle.dom_model.specs.Changes.{Plan, ◌and_then◌, observed, remove_plan, insert_plan, reference_child}
-use Rattle.dom_model.specs.Names.{name_eq}
-use Rattle.dom_model.specs.Ranges.{at}
-use Rattle.dom_model.specs.RangeOps.{ending_at, inserting_before, inserting_at}
-use Rattle.dom_model.specs.Tree.{Trees, next_sibling, inclusive_ancestors, is_inclusive_ancestor}
-use Rattle.dom_model.specs.World.{part_of}
-use Rattle.dom_model.proofs.OwnerLaws.{name_eq-turned}
-use Rattle.dom_tree.specs.Forest.{name_at}
-use Rattle.dom_mutation.specs.Doc.{DocState, made, planned, name_in, owner_in, trees_in, IsChild}
-use Rattle.dom_mutation.specs.Hosting.{IsAlone}
+use Rattle.dom_base.proofs.Std.{◌≡◌, ℕ, false, List, Option, Some, None, option_map, refl, sym, ap, subst, ◌∙◌, ForSome, cond-false}
+use Rattle.dom_model.proofs.Model.{NodeName, Owner, Plan, ◌and_then◌, observed, remove_plan, insert_plan, reference_child, name_eq, at, ending_at}
+use Rattle.dom_model.proofs.Model.{inserting_before, inserting_at, Trees, next_sibling, inclusive_ancestors, is_inclusive_ancestor, part_of, name_eq-turned}
+use Rattle.dom_tree.specs.Definitions.{name_at}
+use Rattle.dom_mutation.specs.Definitions.{DocState, made, planned, name_in, owner_in, trees_in, IsChild, IsAlone}
 use Rattle.dom_parts.proofs.Made.{planned_then}
-use Rattle.dom_laws.proofs.Relatives.{parent_path}
+use Rattle.dom_laws.proofs.Laws.{parent_path, Lacks, lacks_from, lacks_to}
 use Rattle.dom_parts.proofs.OwnPlans.{plans_removing, plans_inserting}
-use Rattle.dom_laws.proofs.Paths.{Lacks, lacks_from, lacks_to}
 use Rattle.dom_mutation.proofs.Placed.{Counted, once_in, removal_keeps}
 use Rattle.dom_mutation.proofs.Turns.{Stays}
-use Rattle.dom_range_ops.specs.Insertions.{offset_behind}
+use Rattle.dom_range_ops.specs.Definitions.{offset_behind}
 
 -- a state by its names and its world
 pub state-is : (d e : DocState) (o : Owner) (f : Plan) → e.names ≡ d.names → e.world ≡ made o f d.world → e ≡ planned o f d

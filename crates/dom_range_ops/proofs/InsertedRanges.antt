@@ -1,19 +1,8 @@
 -- A live range is there after any steps that it was there before, and a range's owner's nodes are few.
-use Rattle.std.proofs.Common.{◌≡◌, ◌≤◌, ◌<◌, ℕ, ◌+◌, true, false, List, length, is_some, sym}
-use Rattle.std.proofs.Common.{subst, arith}
-use Rattle.std.proofs.lemmas.Bool.{ltb-false}
-use Rattle.dom_base.specs.declared.NodeName.{NodeName}
-use Rattle.dom_base.specs.declared.Owner.{Owner}
-use Rattle.dom_worlds.specs.Worlds.{IsPart}
-use Rattle.dom_model.specs.Changes.{Plan}
-use Rattle.dom_model.specs.CommandRefusals.{past_limit}
-use Rattle.dom_model.specs.Part.{Part, range_at}
-use Rattle.dom_model.specs.Steps.{Step}
-use Rattle.dom_model.specs.Steps.{after}
-use Rattle.dom_model.specs.Tree.{has_data, kind_of, length_of}
-use Rattle.dom_model.specs.World.{World, part_of}
-use Rattle.dom_mutation.specs.Doc.{DocState, made, owner_in}
-use Rattle.dom_mutation.specs.Hosting.{PlansOwn, IsAlone}
+use Rattle.dom_base.proofs.Std.{◌≡◌, ◌≤◌, ◌<◌, ℕ, ◌+◌, true, false, List, length, is_some, sym, subst, arith, ltb-false}
+use Rattle.dom_model.proofs.Model.{NodeName, Owner, Plan, past_limit, Part, range_at, Step, after, has_data, kind_of, length_of, World, part_of}
+use Rattle.dom_worlds.specs.Definitions.{IsPart}
+use Rattle.dom_mutation.specs.Definitions.{DocState, made, owner_in, PlansOwn, IsAlone}
 use Rattle.dom_mutation.proofs.ReadyCalls.{HasLaws, part-planned}
 use Rattle.dom_mutation.proofs.ReadyPlans.{KeepReady}
 use Rattle.dom_mutation.proofs.StillParts.{keeps-steps}

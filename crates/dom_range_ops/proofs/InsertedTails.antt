@@ -1,28 +1,16 @@
 -- After a Text was split that is a child of a parent: what is kept, and the tail.
-use Rattle.std.proofs.Common.{◌≡◌, ◌<◌, ℕ, Bool, true, false, [], ◌∷◌, ◌++◌, length, Some, is_some, sym, ap, subst, ◌∙◌, arith}
-use Rattle.std.proofs.lemmas.Bool.{false_from_ne_true}
-use Rattle.dom_base.specs.declared.Kind.{Kind}
-use Rattle.dom_base.specs.declared.NodeName.{NodeName}
-use Rattle.dom_base.specs.declared.Owner.{Owner}
-use Rattle.dom_worlds.specs.Worlds.{IsPart}
+use Rattle.dom_base.proofs.Std.{◌≡◌, ◌<◌, ℕ, Bool, true, false, [], ◌∷◌, ◌++◌, length, Some, is_some, sym, ap, subst, ◌∙◌, arith, false_from_ne_true}
+use Rattle.dom_model.proofs.Model.{Kind, NodeName, Owner, Plan, ◌and_then◌, Part, next_name, range_at, Range, inserting_at, after, splitting, kind_of, has_node}
+use Rattle.dom_model.proofs.Model.{parent_of, is_inclusive_ancestor, part_of, owner-part_of}
+use Rattle.dom_worlds.specs.Definitions.{IsPart}
 use Rattle.dom_worlds.proofs.TreeLemmas.{ancestor-inside, inside-no_ancestor, child-parent}
 use Rattle.dom_worlds.proofs.CommandLemmas.{has_node-times}
 use Rattle.dom_worlds.proofs.PlanLemmas.{Changed, leads-splitting}
 use Rattle.dom_worlds.proofs.RangeLemmas.{tail-child}
-use Rattle.dom_model.specs.Changes.{Plan, ◌and_then◌}
-use Rattle.dom_model.specs.Part.{Part, next_name, range_at}
-use Rattle.dom_model.specs.Ranges.{Range}
-use Rattle.dom_model.specs.RangeOps.{inserting_at}
-use Rattle.dom_model.specs.Steps.{after}
-use Rattle.dom_model.specs.TextChanges.{splitting}
-use Rattle.dom_model.specs.Tree.{kind_of, has_node, parent_of, is_inclusive_ancestor}
-use Rattle.dom_model.specs.World.{part_of}
-use Rattle.dom_model.proofs.PartLaws.{owner-part_of}
-use Rattle.dom_mutation.specs.Doc.{DocState, made, planned, name_in, owner_in, trees_in, IsChild}
-use Rattle.dom_mutation.specs.Hosting.{IsAlone}
+use Rattle.dom_mutation.specs.Definitions.{DocState, made, planned, name_in, owner_in, trees_in, IsChild, IsAlone}
 use Rattle.dom_parts.proofs.Made.{made_then}
 use Rattle.dom_parts.proofs.OwnPlans.{plans_splitting}
-use Rattle.dom_range_ops.specs.Insertions.{inserting_before_tail}
+use Rattle.dom_range_ops.specs.Definitions.{inserting_before_tail}
 use Rattle.dom_range_ops.proofs.InsertedParts.{part-now, now-at, kind-kept}
 use Rattle.dom_range_ops.proofs.InsertedRanges.{range-kept}
 use Rattle.dom_range_ops.proofs.TakingDocs.{name-kept, new-name, new-node}

@@ -1,23 +1,13 @@
 -- The walk from the first of two points of a tree to the second, by keys.
-use Rattle.std.proofs.Common.{◌≡◌, inl, ℕ, ◌<◌, false, true≢false, List, [], ◌∷◌, ◌++◌, length, Option, Some, None, refl, sym, ap, subst, ◌∙◌}
-use Rattle.std.specs.List.{AllByRecursion}
-use Rattle.std.specs.Option.{option_map, ForSome}
-use Rattle.std.proofs.lemmas.Option.{same_Some}
-use Rattle.dom_base.specs.declared.NodeName.{NodeName}
-use Rattle.dom_model.specs.Names.{first_of}
-use Rattle.dom_model.specs.Place.{is_before}
-use Rattle.dom_model.specs.Ranges.{Range}
-use Rattle.dom_model.specs.Tree.{Trees, root_of}
-use Rattle.dom_tree.specs.Forest.{NamedTrees, name_at}
-use Rattle.dom_tree.specs.Apart.{TellApart}
+use Rattle.dom_base.proofs.Std.{◌≡◌, inl, ℕ, ◌<◌, false, true≢false, List, [], ◌∷◌, ◌++◌, length, Option, Some, None, refl, sym, ap, subst, ◌∙◌, AllByRecursion}
+use Rattle.dom_base.proofs.Std.{option_map, ForSome, same_Some}
+use Rattle.dom_model.proofs.Model.{NodeName, first_of, is_before, Range, Trees, root_of}
+use Rattle.dom_tree.specs.Definitions.{NamedTrees, name_at, TellApart, StandsIn}
 use Rattle.dom_ranges.specs.declared.table.Points.{Points}
 use Rattle.dom_tree.proofs.Standing.{StandOnce, StandAlone, Once-forest, Has-forest}
-use Rattle.dom_laws.proofs.Order.{above-within, IsWithin}
-use Rattle.dom_laws.proofs.Lists.{In, is_in-from, first_split}
+use Rattle.dom_laws.proofs.Laws.{above-within, IsWithin, In, is_in-from, first_split}
 use Rattle.dom_laws.specs.Within.{from_node}
-use Rattle.dom_tree.specs.Within.{StandsIn}
-use Rattle.dom_range_ops.specs.Points.{nodes_after}
-use Rattle.dom_range_ops.specs.Texts.{range_at_points, AreBounded, contained_text, nodes_around}
+use Rattle.dom_range_ops.specs.Definitions.{nodes_after, range_at_points, AreBounded, contained_text, nodes_around}
 use Rattle.dom_range_ops.proofs.AfterPoint.{after-from}
 use Rattle.dom_range_ops.proofs.Between.{IsBounded, IsBetween, Leads, start-within, end-within, leads-start, text-start, text-end}
 use Rattle.dom_range_ops.proofs.Sides.{after-yes}

@@ -1,35 +1,20 @@
 -- The nodes that an extraction takes as they are are the outermost contained ones.
-use Rattle.std.proofs.Common.{◌≡◌, ◌⊎◌, inl, inr, ℕ, suc, ◌<◌, Bool, true, false, ◌&&◌, List}
-use Rattle.std.proofs.Common.{[], ◌∷◌, ◌++◌, length, map, refl, sym, ap, subst, ◌∙◌, append_assoc, arith}
-use Rattle.std.specs.Prelude.{filter}
-use Rattle.std.specs.List.{AllByRecursion, flat_map}
-use Rattle.std.proofs.lemmas.Bool.{le-ltb, lt-ltb}
-use Rattle.std.proofs.lemmas.List.{append-nil}
-use Rattle.std.proofs.lemmas.List.Concat.{flat_map-cons}
-use Rattle.std.proofs.lemmas.List.Elements.{filter-append}
-use Rattle.std.proofs.lemmas.Grind.{flat_map-append}
-use Rattle.std.proofs.lemmas.Option.{same_Some}
-use Rattle.dom_base.specs.declared.NodeName.{NodeName}
+use Rattle.dom_base.proofs.Std.{◌≡◌, ◌⊎◌, inl, inr, ℕ, suc, ◌<◌, Bool, true, false, ◌&&◌, List, [], ◌∷◌, ◌++◌, length, map, refl, sym, ap, subst, ◌∙◌}
+use Rattle.dom_base.proofs.Std.{append_assoc, arith, filter, AllByRecursion, flat_map, le-ltb, lt-ltb, append-nil, flat_map-cons, filter-append}
+use Rattle.dom_base.proofs.Std.{flat_map-append, same_Some}
+use Rattle.dom_model.proofs.Model.{NodeName, common_ancestor, pieces_apart, last_of, Boundary, place_of, is_before, Range, at, is_contained}
+use Rattle.dom_model.proofs.Model.{outermost_contained, Trees, kind_of, children_of, root_of, inclusive_ancestors, inclusive_descendants, length_of}
 use Rattle.dom_worlds.proofs.RangeLemmas.{text-data}
-use Rattle.dom_model.specs.Extract.{common_ancestor, pieces_apart}
-use Rattle.dom_model.specs.Names.{last_of}
-use Rattle.dom_model.specs.Place.{Boundary, place_of, is_before}
-use Rattle.dom_model.specs.Ranges.{Range, at, is_contained}
-use Rattle.dom_model.specs.RangeOps.{outermost_contained}
-use Rattle.dom_model.specs.Tree.{Trees, kind_of, children_of, root_of, inclusive_ancestors, inclusive_descendants, length_of}
 use Rattle.dom_ranges.specs.declared.table.Points.{Points}
 use Rattle.dom_ranges.proofs.Before.{before-up, before-beside}
-use Rattle.dom_laws.proofs.Counts.{Once}
-use Rattle.dom_laws.proofs.Lists.{In, In-left, In-right, is_in-from, filter-none}
-use Rattle.dom_laws.proofs.Order.{splits}
-use Rattle.dom_laws.proofs.Shapes.{Has}
+use Rattle.dom_laws.proofs.Laws.{Once, In, In-left, In-right, is_in-from, filter-none, splits, Has}
 use Rattle.dom_laws.specs.Within.{ahead_of, beyond}
 use Rattle.dom_tree.proofs.Standing.{StandOnce, StandAlone}
-use Rattle.dom_tree.specs.Forest.{NamedTrees, name_at}
+use Rattle.dom_tree.specs.Definitions.{NamedTrees, name_at}
 use Rattle.dom_range_ops.specs.declared.pieces.Piece.{Piece}
 use Rattle.dom_range_ops.specs.declared.pieces.Piece.TheVariants.{Whole, Cut, Clone, End}
-use Rattle.dom_range_ops.specs.Pieces.{whole_item, item_in, items_of, wholes, whole_key, whole_keys, side_items, AreSpanned, HasPaths, IsPieceIn}
-use Rattle.dom_range_ops.specs.Texts.{range_at_points, nodes_around}
+use Rattle.dom_range_ops.specs.Definitions.{whole_item, item_in, items_of, wholes, whole_key, whole_keys, side_items, AreSpanned, HasPaths, IsPieceIn}
+use Rattle.dom_range_ops.specs.Definitions.{range_at_points, nodes_around}
 use Rattle.dom_range_ops.proofs.Between.{IsBounded, member-within, start-out, end-out}
 use Rattle.dom_range_ops.proofs.DeletionOrder.{HasLeaves, IsClear, is_outermost, above-in, start-in, end-in, start-above-out, outermost-not}
 use Rattle.dom_range_ops.proofs.DeletionOwn.{outermost-tree}

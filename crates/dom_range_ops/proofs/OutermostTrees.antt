@@ -1,27 +1,14 @@
 -- The outermost contained nodes of a node's tree, and what an extraction takes of it as it is.
-use Rattle.std.proofs.Common.{◌≡◌, ◌⊎◌, inl, inr, ℕ, zero, suc, ◌+◌, ◌<◌, Bool, true, false, ◌&&◌, List, [], ◌∷◌, ◌++◌, length, map, Some, refl, sym, ap, subst}
-use Rattle.std.proofs.Common.{◌∙◌, append_assoc, arith, true≢false}
-use Rattle.std.specs.Prelude.{filter, if◌then◌else◌}
-use Rattle.std.specs.List.{flat_map}
-use Rattle.std.proofs.lemmas.Bool.{cases_Bool, cases_lt, le-ltb, lt-ltb, le-leb, lt-leb}
-use Rattle.std.proofs.lemmas.List.{append-nil}
-use Rattle.std.proofs.lemmas.Option.{same_Some}
-use Rattle.std.proofs.lemmas.List.Concat.{flat_map-cons}
-use Rattle.std.proofs.lemmas.List.Elements.{filter-append}
-use Rattle.dom_base.specs.declared.NodeName.{NodeName}
-use Rattle.dom_model.specs.Place.{Boundary, place_of, is_before}
-use Rattle.dom_model.specs.Ranges.{Range, at, is_contained}
-use Rattle.dom_model.specs.Tree.{Trees, kind_of, has_data, children_of, parent_of, root_of, inclusive_ancestors, inclusive_descendants, is_inclusive_ancestor}
-use Rattle.dom_model.specs.Tree.{length_of, subtree}
+use Rattle.dom_base.proofs.Std.{◌≡◌, ◌⊎◌, inl, inr, ℕ, zero, suc, ◌+◌, ◌<◌, Bool, true, false, ◌&&◌, List, [], ◌∷◌, ◌++◌, length, map, Some, refl, sym, ap}
+use Rattle.dom_base.proofs.Std.{subst, ◌∙◌, append_assoc, arith, true≢false, filter, if◌then◌else◌, flat_map, cases_Bool, cases_lt, le-ltb, lt-ltb, le-leb}
+use Rattle.dom_base.proofs.Std.{lt-leb, append-nil, same_Some, flat_map-cons, filter-append}
+use Rattle.dom_model.proofs.Model.{NodeName, Boundary, place_of, is_before, Range, at, is_contained, Trees, kind_of, has_data, children_of, parent_of, root_of}
+use Rattle.dom_model.proofs.Model.{inclusive_ancestors, inclusive_descendants, is_inclusive_ancestor, length_of, subtree}
 use Rattle.dom_ranges.proofs.Before.{before-up, before-down, before-beside}
-use Rattle.dom_laws.proofs.Children.{In-names, Has-names, parent-of_child}
-use Rattle.dom_laws.proofs.Lists.{In, In-from, In-left, In-right, In-parts, filter-none, filter-yes, filter-no}
-use Rattle.dom_laws.proofs.Order.{stands_in, joined, below, here, splits, inside-test}
-use Rattle.dom_laws.proofs.Chains.{above-along}
-use Rattle.dom_laws.proofs.Shapes.{Has, above-parent, above-present, above-from_below, below-from_above}
+use Rattle.dom_laws.proofs.Laws.{In-names, Has-names, parent-of_child, In, In-from, In-left, In-right, In-parts, filter-none, filter-yes, filter-no, stands_in}
+use Rattle.dom_laws.proofs.Laws.{joined, below, here, splits, inside-test, above-along, Has, above-parent, above-present, above-from_below, below-from_above}
 use Rattle.dom_laws.specs.Within.{ahead_of, beyond}
-use Rattle.dom_range_ops.specs.Pieces.{Item, whole_item, cut_item, clone_item, end_item, wholes, wholes_if}
-use Rattle.dom_range_ops.specs.Texts.{nodes_around}
+use Rattle.dom_range_ops.specs.Definitions.{Item, whole_item, cut_item, clone_item, end_item, wholes, wholes_if, nodes_around}
 use Rattle.dom_range_ops.proofs.Between.{IsBounded, member-within, start-out}
 use Rattle.dom_range_ops.proofs.DeletionHeights.{above-less}
 use Rattle.dom_range_ops.proofs.DeletionOrder.{HasLeaves, IsClear, is_outermost, start-in, end-in, start-above-out, end-above-out, outermost-not}

@@ -1,24 +1,14 @@
 -- The text of an owner's range is the same among all trees and among the owner's own.
-use Rattle.std.proofs.Common.{◌≡◌, inl, inr, ℕ, Bool, true, false, ◌&&◌, List, [], ◌∷◌, ◌++◌, refl, sym, ap, ◌∙◌}
-use Rattle.std.specs.Prelude.{filter, slice_range, if◌then◌else◌}
-use Rattle.std.specs.List.{flat_map}
-use Rattle.std.proofs.lemmas.List.Concat.{flat_map-cons}
-use Rattle.dom_base.specs.declared.NodeName.{NodeName}
-use Rattle.dom_base.specs.declared.Owner.{Owner}
-use Rattle.dom_model.specs.Names.{name_eq}
-use Rattle.dom_model.specs.Place.{is_before}
-use Rattle.dom_model.specs.Ranges.{Range, at, is_contained}
-use Rattle.dom_model.specs.Extract.{cut_start, cut_end}
-use Rattle.dom_model.specs.RangeOps.{range_text_of, text_part}
-use Rattle.dom_model.specs.Tree.{Trees, Node, node_in, kind_of, is_text, inclusive_descendants, root_of, length_of}
+use Rattle.dom_base.proofs.Std.{◌≡◌, inl, inr, ℕ, Bool, true, false, ◌&&◌, List, [], ◌∷◌, ◌++◌, refl, sym, ap, ◌∙◌, filter, slice_range, if◌then◌else◌}
+use Rattle.dom_base.proofs.Std.{flat_map, flat_map-cons}
+use Rattle.dom_model.proofs.Model.{NodeName, Owner, name_eq, is_before, Range, at, is_contained, cut_start, cut_end, range_text_of, text_part, Trees, Node}
+use Rattle.dom_model.proofs.Model.{node_in, kind_of, is_text, inclusive_descendants, root_of, length_of}
 use Rattle.dom_tree.proofs.Standing.{once_own}
 use Rattle.dom_ranges.proofs.OwnOrder.{is_before-own, same_root-own, has_own}
 use Rattle.dom_tree.proofs.Owned.{read_own, stays_own}
-use Rattle.dom_tree.specs.Owners.{AreOwned, trees_of_owner}
-use Rattle.dom_laws.proofs.Children.{Has-names}
-use Rattle.dom_laws.proofs.Lists.{In, is_in-from, filter-same, name_eq-from}
-use Rattle.dom_laws.proofs.Shapes.{Has, Has-subtree, Has-above, above-from_below}
-use Rattle.dom_range_ops.specs.Texts.{text_among, contained_text, nodes_around}
+use Rattle.dom_tree.specs.Definitions.{AreOwned, trees_of_owner}
+use Rattle.dom_laws.proofs.Laws.{Has-names, In, is_in-from, filter-same, name_eq-from, Has, Has-subtree, Has-above, above-from_below}
+use Rattle.dom_range_ops.specs.Definitions.{text_among, contained_text, nodes_around}
 use Rattle.dom_range_ops.proofs.OneTree.{HasOneTree, text-tree, root-above, root-path, root-root}
 
 -- parts that are the same, one by one

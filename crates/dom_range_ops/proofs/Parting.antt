@@ -1,20 +1,12 @@
 -- Where the places of two nodes of a tree part: by which stands before the other in tree order.
-use Rattle.std.proofs.Common.{◌≡◌, ◌⊎◌, inl, inr, ℕ, zero, suc, ◌+◌, ◌<◌, ◌≤◌, List, [], ◌∷◌, ◌++◌, length, Option, Some, None, refl, sym, ap, subst, ◌∙◌}
-use Rattle.std.proofs.Common.{arith, append_assoc, length-append}
-use Rattle.std.specs.Option.{option_map_or}
-use Rattle.std.proofs.lemmas.List.{append-nil}
-use Rattle.std.proofs.lemmas.List.Concat.{flat_map-cons}
-use Rattle.dom_base.specs.declared.NodeName.{NodeName}
-use Rattle.dom_model.specs.Names.{name_eq, items_before, items_after}
-use Rattle.dom_model.specs.Place.{place_of}
-use Rattle.dom_model.specs.Tree.{Trees, subtree, inclusive_ancestors, inclusive_descendants, parent_of, children_of, index_of}
+use Rattle.dom_base.proofs.Std.{◌≡◌, ◌⊎◌, inl, inr, ℕ, zero, suc, ◌+◌, ◌<◌, ◌≤◌, List, [], ◌∷◌, ◌++◌, length, Option, Some, None, refl, sym, ap, subst, ◌∙◌}
+use Rattle.dom_base.proofs.Std.{arith, append_assoc, length-append, option_map_or, append-nil, flat_map-cons}
+use Rattle.dom_model.proofs.Model.{NodeName, name_eq, items_before, items_after, place_of, Trees, subtree, inclusive_ancestors, inclusive_descendants}
+use Rattle.dom_model.proofs.Model.{parent_of, children_of, index_of}
 use Rattle.dom_ranges.proofs.Places.{path-child}
-use Rattle.dom_laws.proofs.Children.{parent-of_child, child-of_parent, Has-names, children-single}
-use Rattle.dom_laws.proofs.Lists.{In, In-right, In-parts, Single, Single-apart, same_or_not, split_at, before-split}
-use Rattle.dom_laws.proofs.Order.{IsWithin, stands_in, joined}
-use Rattle.dom_laws.proofs.Shapes.{Has, above-parent, above-present}
-use Rattle.dom_laws.proofs.Counts.{Once}
-use Rattle.dom_laws.proofs.Steps.{child_places, top_places, within-parent, within-root}
+use Rattle.dom_laws.proofs.Laws.{parent-of_child, child-of_parent, Has-names, children-single, In, In-right, In-parts, Single, Single-apart, same_or_not}
+use Rattle.dom_laws.proofs.Laws.{split_at, before-split, IsWithin, stands_in, joined, Has, above-parent, above-present, Once, child_places, top_places}
+use Rattle.dom_laws.proofs.Laws.{within-parent, within-root}
 use Rattle.dom_laws.specs.Within.{ahead_of, beyond}
 
 -- the places of x and y part, and that of x is first

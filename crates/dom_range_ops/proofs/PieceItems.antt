@@ -1,19 +1,13 @@
 -- The items of the pieces of trees, node by node.
-use Rattle.std.proofs.Common.{◌≡◌, inl, inr, ℕ, Bool, true, false, List, [], ◌∷◌, ◌++◌, map, refl, sym, ap, subst, ◌∙◌, append_assoc}
-use Rattle.std.specs.Prelude.{if◌then◌else◌}
-use Rattle.std.specs.List.{flat_map}
-use Rattle.std.proofs.lemmas.List.{append-nil}
-use Rattle.std.proofs.lemmas.List.Concat.{flat_map-cons}
-use Rattle.dom_base.specs.declared.NodeName.{NodeName}
-use Rattle.dom_model.specs.Extract.{Pieces, nothing, whole, cut, clone, pieces_along, all_whole, ◌followed_by◌}
-use Rattle.dom_model.specs.Tree.{Trees, none, tree, Node, nodes, names_of, roots, subtree, trees_below, children_of, is_inclusive_ancestor, kind_of, has_data}
+use Rattle.dom_base.proofs.Std.{◌≡◌, inl, inr, ℕ, Bool, true, false, List, [], ◌∷◌, ◌++◌, map, refl, sym, ap, subst, ◌∙◌, append_assoc, if◌then◌else◌, flat_map}
+use Rattle.dom_base.proofs.Std.{append-nil, flat_map-cons}
+use Rattle.dom_model.proofs.Model.{NodeName, Pieces, whole, cut, clone, pieces_along, all_whole, ◌followed_by◌, Trees, none, tree, Node, nodes, names_of, roots}
+use Rattle.dom_model.proofs.Model.{subtree, trees_below, children_of, is_inclusive_ancestor, kind_of, has_data}
+use Rattle.dom_model.specs.Extract.{nothing}
 use Rattle.dom_slots.proofs.NamesOfNodes.{InNodes, node_in-self, in_left, in_right}
-use Rattle.dom_laws.proofs.Lists.{In}
-use Rattle.dom_laws.proofs.Shapes.{once_apart, Has, subtree-here, subtree-below, subtree-beside, subtree-present, subtree-within}
-use Rattle.dom_laws.proofs.Relatives.{once_below}
-use Rattle.dom_laws.proofs.Counts.{Once, once_subtree}
-use Rattle.dom_laws.proofs.Children.{Has-root}
-use Rattle.dom_range_ops.specs.Pieces.{Item, whole_item, cut_item, clone_item, end_item, items_of, wholes_if}
+use Rattle.dom_laws.proofs.Laws.{In, once_apart, Has, subtree-here, subtree-below, subtree-beside, subtree-present, subtree-within, once_below, Once}
+use Rattle.dom_laws.proofs.Laws.{once_subtree, Has-root}
+use Rattle.dom_range_ops.specs.Definitions.{Item, whole_item, cut_item, clone_item, end_item, items_of, wholes_if}
 
 -- the items of some pieces and then others
 pub items-followed : (a b : Pieces) → items_of (a followed_by b) ≡ items_of a ++ items_of b

@@ -1,21 +1,16 @@
 -- The items of the pieces of a range, by the paths from its ends.
-use Rattle.std.proofs.Common.{◌≡◌, inl, inr, ℕ, Bool, true, false, List, [], ◌∷◌, ◌++◌, map, drop, Some, refl, sym, ap, subst, ◌∙◌, append_assoc}
-use Rattle.std.specs.Prelude.{filter, find, unwrap_or}
-use Rattle.dom_base.specs.declared.NodeName.{NodeName}
-use Rattle.dom_model.specs.Extract.{common_ancestor, tree_holding, all_whole, ◌followed_by◌, pieces_behind, pieces_in_front, pieces_apart}
-use Rattle.dom_model.specs.Names.{first_of, last_of}
-use Rattle.dom_model.specs.Place.{is_before}
-use Rattle.dom_model.specs.Ranges.{Range, is_contained}
-use Rattle.dom_model.specs.Tree.{Trees, children_of, inclusive_ancestors, is_inclusive_ancestor, trees_below, subtree}
+use Rattle.dom_base.proofs.Std.{◌≡◌, inl, inr, ℕ, Bool, true, false, List, [], ◌∷◌, ◌++◌, map, drop, Some, refl, sym, ap, subst, ◌∙◌, append_assoc, filter}
+use Rattle.dom_base.proofs.Std.{find, unwrap_or}
+use Rattle.dom_model.proofs.Model.{NodeName, common_ancestor, tree_holding, all_whole, ◌followed_by◌, pieces_behind, pieces_in_front, pieces_apart, first_of}
+use Rattle.dom_model.proofs.Model.{last_of, is_before, Range, is_contained, Trees, children_of, inclusive_ancestors, is_inclusive_ancestor, trees_below}
+use Rattle.dom_model.proofs.Model.{subtree}
 use Rattle.dom_ranges.specs.declared.table.Points.{Points}
-use Rattle.dom_laws.proofs.Chains.{above-along}
+use Rattle.dom_laws.proofs.Laws.{above-along, In, In-left, In-right, In-not, Single, Single-right, is_in-from, is_in-not, Has, Has-above, above-parent}
+use Rattle.dom_laws.proofs.Laws.{children-single}
 use Rattle.dom_tree.proofs.Standing.{StandOnce, StandAlone, Once-forest, Has-forest}
-use Rattle.dom_laws.proofs.Lists.{In, In-left, In-right, In-not, Single, Single-right, is_in-from, is_in-not}
-use Rattle.dom_laws.proofs.Shapes.{Has, Has-above, above-parent}
-use Rattle.dom_laws.proofs.Children.{children-single}
-use Rattle.dom_tree.specs.Forest.{NamedTrees, name_at}
-use Rattle.dom_range_ops.specs.Pieces.{items_of, whole_item, AreSpanned, ArePaths, side_items, from_sibling, up_to, first_behind, first_from}
-use Rattle.dom_range_ops.specs.Texts.{range_at_points, nodes_around}
+use Rattle.dom_tree.specs.Definitions.{NamedTrees, name_at}
+use Rattle.dom_range_ops.specs.Definitions.{items_of, whole_item, AreSpanned, ArePaths, side_items, from_sibling, up_to, first_behind, first_from}
+use Rattle.dom_range_ops.specs.Definitions.{range_at_points, nodes_around}
 use Rattle.dom_range_ops.proofs.PieceItems.{items-followed, items-whole}
 use Rattle.dom_range_ops.proofs.PieceMiddle.{IsRange, PartAt, start_course, end_course, at_start, at_end, below-leaves, follows, between-contained}
 use Rattle.dom_range_ops.proofs.PieceParts.{Course, at_top, inside, kid-off, begins, stops, side-held}

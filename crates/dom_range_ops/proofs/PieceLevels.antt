@@ -1,20 +1,10 @@
 -- How a boundary point stands to the trees of the children of a node above it.
-use Rattle.std.proofs.Common.{◌≡◌, ◌⊎◌, inl, inr, ℕ, ◌<◌, ◌≤◌, suc, true, false, List, [], ◌∷◌, ◌++◌, length, take, drop, refl, sym, ap, subst, ◌∙◌}
-use Rattle.std.proofs.Common.{arith, append_assoc, length-append, length-take, true≢false}
-use Rattle.std.proofs.lemmas.Bool.{cases_Bool, cond-false, lt-ltb, le-ltb, le-leb, lt-leb}
-use Rattle.std.proofs.lemmas.List.{append-nil}
-use Rattle.dom_base.specs.declared.NodeName.{NodeName}
-use Rattle.dom_model.specs.Names.{name_eq, items_before, items_after}
-use Rattle.dom_model.specs.Place.{Boundary, place_of, is_before}
-use Rattle.dom_model.specs.Ranges.{at}
-use Rattle.dom_model.specs.Tree.{Trees, node_in, kind_of, has_data, children_of, inclusive_ancestors, inclusive_descendants, is_inclusive_ancestor}
-use Rattle.dom_model.specs.Tree.{length_of, subtree}
+use Rattle.dom_base.proofs.Std.{◌≡◌, ◌⊎◌, inl, inr, ℕ, ◌<◌, ◌≤◌, suc, true, false, List, [], ◌∷◌, ◌++◌, length, take, drop, refl, sym, ap, subst, ◌∙◌, arith}
+use Rattle.dom_base.proofs.Std.{append_assoc, length-append, length-take, true≢false, cases_Bool, cond-false, lt-ltb, le-ltb, le-leb, lt-leb, append-nil}
+use Rattle.dom_model.proofs.Model.{NodeName, name_eq, items_before, items_after, Boundary, place_of, is_before, at, Trees, node_in, kind_of, has_data}
+use Rattle.dom_model.proofs.Model.{children_of, inclusive_ancestors, inclusive_descendants, is_inclusive_ancestor, length_of, subtree}
 use Rattle.dom_ranges.proofs.Before.{before-same, before-up, before-down, before-beside}
-use Rattle.dom_laws.proofs.Children.{In-names}
-use Rattle.dom_laws.proofs.Lists.{In, is_in-not, split_at}
-use Rattle.dom_laws.proofs.Order.{IsWithin, here}
-use Rattle.dom_laws.proofs.Shapes.{Has, above-present, below-from_above}
-use Rattle.dom_laws.proofs.Counts.{Once}
+use Rattle.dom_laws.proofs.Laws.{In-names, In, is_in-not, split_at, IsWithin, here, Has, above-present, below-from_above, Once}
 use Rattle.dom_range_ops.proofs.Parting.{under-kid, among-kids}
 
 module _ (ts : Trees) (once : Once ts) where

@@ -1,23 +1,12 @@
 -- What lies between the ends of a range among the children of their lowest common ancestor.
-use Rattle.std.proofs.Common.{◌≡◌, ◌⊎◌, inl, inr, ◌≤◌, Bool, true, false, ◌&&◌, List, ◌∷◌, [], ◌++◌, Some, refl, sym, ap, subst, ◌∙◌, append_assoc}
-use Rattle.std.proofs.Common.{arith, true≢false}
-use Rattle.std.specs.Prelude.{filter}
-use Rattle.std.proofs.lemmas.Bool.{and_parts, false_from_ne_true, le-ltb}
-use Rattle.std.proofs.lemmas.List.{append-nil}
-use Rattle.std.proofs.lemmas.List.Elements.{filter-append}
-use Rattle.dom_base.specs.declared.NodeName.{NodeName}
-use Rattle.dom_model.specs.Names.{last_of}
-use Rattle.dom_model.specs.Place.{boundary_place, is_before}
-use Rattle.dom_model.specs.Ranges.{Range, at, is_contained}
-use Rattle.dom_model.specs.Tree.{Trees, kind_of, has_data, children_of, inclusive_ancestors, inclusive_descendants, length_of, root_of, subtree}
+use Rattle.dom_base.proofs.Std.{◌≡◌, ◌⊎◌, inl, inr, ◌≤◌, Bool, true, false, ◌&&◌, List, ◌∷◌, [], ◌++◌, Some, refl, sym, ap, subst, ◌∙◌, append_assoc, arith}
+use Rattle.dom_base.proofs.Std.{true≢false, filter, and_parts, false_from_ne_true, le-ltb, append-nil, filter-append}
+use Rattle.dom_model.proofs.Model.{NodeName, last_of, boundary_place, is_before, Range, at, is_contained, Trees, kind_of, has_data, children_of}
+use Rattle.dom_model.proofs.Model.{inclusive_ancestors, inclusive_descendants, length_of, root_of, subtree, before-less, before-turned}
 use Rattle.dom_ranges.proofs.Before.{before-same}
-use Rattle.dom_laws.proofs.Chains.{above-along}
-use Rattle.dom_laws.proofs.Children.{In-names, Has-names, parent-of_child}
-use Rattle.dom_laws.proofs.Lists.{In, In-left, In-right, In-parts, filter-none, filter-all}
-use Rattle.dom_laws.proofs.Shapes.{Has, Has-subtree, above-parent, above-present, above-from_below, below-from_above}
-use Rattle.dom_laws.proofs.Counts.{Once}
-use Rattle.dom_model.proofs.ListOrder.{before-less, before-turned}
-use Rattle.dom_range_ops.specs.Texts.{nodes_around}
+use Rattle.dom_laws.proofs.Laws.{above-along, In-names, Has-names, parent-of_child, In, In-left, In-right, In-parts, filter-none, filter-all, Has, Has-subtree}
+use Rattle.dom_laws.proofs.Laws.{above-parent, above-present, above-from_below, below-from_above, Once}
+use Rattle.dom_range_ops.specs.Definitions.{nodes_around}
 use Rattle.dom_range_ops.proofs.OneTree.{root-above, root-path}
 use Rattle.dom_range_ops.proofs.Between.{Splits, two-splits}
 use Rattle.dom_range_ops.proofs.PieceLevels.{Level, above-start, above-end, in-front, in-back, self-in}

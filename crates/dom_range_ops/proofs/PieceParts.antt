@@ -1,21 +1,13 @@
 -- What is taken of the child of the ends' lowest common ancestor in whose tree one of them is.
-use Rattle.std.proofs.Common.{◌≡◌, inl, inr, Bool, true, false, true≢false, not, ◌&&◌, List, [], ◌∷◌, ◌++◌, take, drop, Option, Some, None, refl, sym}
-use Rattle.std.proofs.Common.{ap, subst, ◌∙◌}
-use Rattle.std.specs.Option.{option_map_or}
-use Rattle.std.proofs.lemmas.Bool.{cases_Bool, cond-true, cond-false}
-use Rattle.std.proofs.lemmas.List.{take-append-drop}
-use Rattle.std.proofs.lemmas.Option.{same_Some, none-some}
-use Rattle.dom_base.specs.declared.NodeName.{NodeName}
-use Rattle.dom_model.specs.Extract.{pieces_along, tree_holding}
-use Rattle.dom_model.specs.Names.{name_eq, first_of, last_of, items_before, items_after}
-use Rattle.dom_model.specs.Place.{Boundary}
-use Rattle.dom_model.specs.Tree.{Trees, none, tree, kind_of, has_data, names_of, roots, children_of, inclusive_ancestors, is_inclusive_ancestor}
-use Rattle.dom_model.specs.Tree.{inclusive_descendants, siblings, next_sibling, subtree, trees_below}
-use Rattle.dom_laws.proofs.Children.{In-names, Has-names, child-of_parent, parent-of_child, Has-root}
-use Rattle.dom_laws.proofs.Lists.{In, In-left, In-right, In-parts, is_in-from, no_last, same_or_not, split_at}
-use Rattle.dom_laws.proofs.Shapes.{once_apart, Has, subtree-here, subtree-beside, above-parent, above-present, above-from_below, below-from_above}
-use Rattle.dom_laws.proofs.Counts.{Once}
-use Rattle.dom_range_ops.specs.Pieces.{Item, items_of, first_behind, first_from, side_items}
+use Rattle.dom_base.proofs.Std.{◌≡◌, inl, inr, Bool, true, false, true≢false, not, ◌&&◌, List, [], ◌∷◌, ◌++◌, take, drop, Option, Some, None, refl, sym, ap}
+use Rattle.dom_base.proofs.Std.{subst, ◌∙◌, option_map_or, cases_Bool, cond-true, cond-false, take-append-drop, same_Some, none-some}
+use Rattle.dom_model.proofs.Model.{NodeName, pieces_along, tree_holding, name_eq, first_of, last_of, items_before, items_after, Boundary, Trees, none, tree}
+use Rattle.dom_model.proofs.Model.{kind_of, has_data, names_of, roots, children_of, inclusive_ancestors, is_inclusive_ancestor, inclusive_descendants, siblings}
+use Rattle.dom_model.proofs.Model.{next_sibling, subtree, trees_below}
+use Rattle.dom_laws.proofs.Laws.{In-names, Has-names, child-of_parent, parent-of_child, Has-root, In, In-left, In-right, In-parts, is_in-from, no_last}
+use Rattle.dom_laws.proofs.Laws.{same_or_not, split_at, once_apart, Has, subtree-here, subtree-beside, above-parent, above-present, above-from_below}
+use Rattle.dom_laws.proofs.Laws.{below-from_above, Once}
+use Rattle.dom_range_ops.specs.Definitions.{Item, items_of, first_behind, first_from, side_items}
 use Rattle.dom_range_ops.proofs.PieceItems.{once-below, child-tree}
 use Rattle.dom_range_ops.proofs.PieceLevels.{IsBehind, IsAhead, Level, behind-off, ahead-off, in-front, in-back, self-in}
 use Rattle.dom_range_ops.proofs.PieceSides.{taken, from, to, side-is, last-member, tail-same}

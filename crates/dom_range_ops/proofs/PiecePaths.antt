@@ -1,23 +1,12 @@
 -- The paths from the ends of a range up to the children of their lowest common inclusive ancestor, by keys.
-use Rattle.std.proofs.Common.{◌≡◌, ℕ, zero, suc, ◌<◌, ◌≤◌, ◌-◌, List, [], ◌∷◌, ◌++◌, length, map, take, drop, get_or, Some, refl, sym, ap, subst, ◌∙◌}
-use Rattle.std.proofs.Common.{arith, length-drop}
-use Rattle.std.specs.Prelude.{unwrap_or}
-use Rattle.std.specs.List.{AllByRecursion}
-use Rattle.std.proofs.Math.Seq.{take-suc}
-use Rattle.std.proofs.lemmas.List.{map-append, map_push, take-append-drop}
-use Rattle.std.proofs.lemmas.Option.{same_Some, none-some}
-use Rattle.dom_base.specs.declared.NodeName.{NodeName}
-use Rattle.dom_model.specs.Names.{last_of}
-use Rattle.dom_model.specs.Tree.{inclusive_ancestors, root_of}
-use Rattle.dom_model.proofs.OwnerLaws.{name_eq-true}
+use Rattle.dom_base.proofs.Std.{◌≡◌, ℕ, zero, suc, ◌<◌, ◌≤◌, ◌-◌, List, [], ◌∷◌, ◌++◌, length, map, take, drop, get_or, Some, refl, sym, ap, subst, ◌∙◌, arith}
+use Rattle.dom_base.proofs.Std.{length-drop, unwrap_or, AllByRecursion, take-suc, map-append, map_push, take-append-drop, same_Some, none-some}
+use Rattle.dom_model.proofs.Model.{NodeName, last_of, inclusive_ancestors, root_of, name_eq-true}
 use Rattle.dom_ranges.specs.declared.table.Points.{Points}
 use Rattle.dom_tree.proofs.Standing.{StandOnce, StandAlone, Has-forest}
-use Rattle.dom_laws.proofs.Lists.{last_of-end}
-use Rattle.dom_laws.proofs.Shapes.{above-present}
-use Rattle.dom_tree.specs.Forest.{NamedTrees, name_at}
-use Rattle.dom_tree.specs.Apart.{TellApart}
-use Rattle.dom_range_ops.specs.Pieces.{EndAlike, ArePaths}
-use Rattle.dom_range_ops.specs.Texts.{AreEnds}
+use Rattle.dom_laws.proofs.Laws.{last_of-end, above-present}
+use Rattle.dom_tree.specs.Definitions.{NamedTrees, name_at, TellApart}
+use Rattle.dom_range_ops.specs.Definitions.{EndAlike, ArePaths, AreEnds}
 
 -- ---- what holds of all keys of a list
 

@@ -1,26 +1,12 @@
 -- What is taken of a tree along the path down to a boundary point in it: what is behind the point, or what is in front of it.
-use Rattle.std.proofs.Common.{◌≡◌, inl, inr, ℕ, Bool, true, false, not, List, [], ◌∷◌, ◌++◌, map, take, drop, refl, sym, ap, subst, Some, ◌∙◌, append_assoc}
-use Rattle.std.specs.Prelude.{if◌then◌else◌}
-use Rattle.std.specs.List.{flat_map}
-use Rattle.std.specs.Option.{option_map_or}
-use Rattle.std.proofs.lemmas.Bool.{cases_Bool, cond-false}
-use Rattle.std.proofs.lemmas.List.{append-nil, take-append-drop}
-use Rattle.std.proofs.lemmas.List.Concat.{flat_map-cons}
-use Rattle.std.proofs.lemmas.Grind.{flat_map-append}
-use Rattle.std.proofs.lemmas.Option.{same_Some}
-use Rattle.dom_base.specs.declared.NodeName.{NodeName}
-use Rattle.dom_model.specs.Names.{name_eq, first_of, last_of, items_before, items_after}
-use Rattle.dom_model.specs.Place.{Boundary, is_before}
-use Rattle.dom_model.specs.Ranges.{at}
-use Rattle.dom_model.specs.Tree.{Trees, kind_of, has_data, children_of, inclusive_ancestors, inclusive_descendants, length_of, subtree}
-use Rattle.dom_laws.proofs.Chains.{above-along}
-use Rattle.dom_laws.proofs.Children.{In-names, Has-names, child-of_parent}
-use Rattle.dom_laws.proofs.Lists.{In, In-left, In-right, is_in-from, split_at}
-use Rattle.dom_laws.proofs.Order.{IsWithin, stands_in}
-use Rattle.dom_laws.proofs.Shapes.{Has, Has-subtree, above-parent, above-from_below, below-from_above}
-use Rattle.dom_laws.proofs.Counts.{Once}
-use Rattle.dom_laws.proofs.Steps.{within-child}
-use Rattle.dom_range_ops.specs.Pieces.{Item, whole_item, cut_item, clone_item, end_item, wholes_if, heads, tails, end_items, side_items}
+use Rattle.dom_base.proofs.Std.{◌≡◌, inl, inr, ℕ, Bool, true, false, not, List, [], ◌∷◌, ◌++◌, map, take, drop, refl, sym, ap, subst, Some, ◌∙◌, append_assoc}
+use Rattle.dom_base.proofs.Std.{if◌then◌else◌, flat_map, option_map_or, cases_Bool, cond-false, append-nil, take-append-drop, flat_map-cons, flat_map-append}
+use Rattle.dom_base.proofs.Std.{same_Some}
+use Rattle.dom_model.proofs.Model.{NodeName, name_eq, first_of, last_of, items_before, items_after, Boundary, is_before, at, Trees, kind_of, has_data}
+use Rattle.dom_model.proofs.Model.{children_of, inclusive_ancestors, inclusive_descendants, length_of, subtree}
+use Rattle.dom_laws.proofs.Laws.{above-along, In-names, Has-names, child-of_parent, In, In-left, In-right, is_in-from, split_at, IsWithin, stands_in, Has}
+use Rattle.dom_laws.proofs.Laws.{Has-subtree, above-parent, above-from_below, below-from_above, Once, within-child}
+use Rattle.dom_range_ops.specs.Definitions.{Item, whole_item, cut_item, clone_item, end_item, wholes_if, heads, tails, end_items, side_items}
 use Rattle.dom_range_ops.proofs.PieceItems.{node_items, items-beside, items-on}
 use Rattle.dom_range_ops.proofs.PieceLevels.{IsBehind, IsAhead, Level, behind-off, ahead-off, in-front, in-back, self-in}
 

@@ -1,18 +1,11 @@
 -- Which nodes of a tree stand before a boundary point of it, and which behind.
-use Rattle.std.proofs.Common.{◌≡◌, inl, inr, true, false, List, [], ◌∷◌, ◌++◌, take, drop, sym, ap, ◌∙◌, arith}
-use Rattle.std.proofs.Common.{append_assoc, length-take, length-drop}
-use Rattle.std.proofs.lemmas.Bool.{lt-ltb, le-ltb, le-leb, lt-leb}
-use Rattle.std.proofs.lemmas.Grind.{flat_map-append}
-use Rattle.std.proofs.lemmas.List.{append-nil, take-append-drop}
-use Rattle.dom_base.specs.declared.NodeName.{NodeName}
-use Rattle.dom_model.specs.Place.{Boundary, is_before}
-use Rattle.dom_model.specs.Ranges.{at}
-use Rattle.dom_model.specs.Tree.{Trees, children_of, inclusive_descendants}
+use Rattle.dom_base.proofs.Std.{◌≡◌, inl, inr, true, false, List, [], ◌∷◌, ◌++◌, take, drop, sym, ap, ◌∙◌, arith, append_assoc, length-take, length-drop}
+use Rattle.dom_base.proofs.Std.{lt-ltb, le-ltb, le-leb, lt-leb, flat_map-append, append-nil, take-append-drop}
+use Rattle.dom_model.proofs.Model.{NodeName, Boundary, is_before, at, Trees, children_of, inclusive_descendants}
 use Rattle.dom_ranges.proofs.Before.{before-same, before-up, before-down, before-beside}
-use Rattle.dom_laws.proofs.Lists.{In, In-parts}
-use Rattle.dom_laws.proofs.Order.{IsWithin, stands_in, joined, here, splits}
+use Rattle.dom_laws.proofs.Laws.{In, In-parts, IsWithin, stands_in, joined, here, splits}
 use Rattle.dom_laws.specs.Within.{ahead_of, beyond}
-use Rattle.dom_range_ops.specs.Points.{nodes_after}
+use Rattle.dom_range_ops.specs.Definitions.{nodes_after}
 use Rattle.dom_range_ops.proofs.Parting.{among-kids, behind-apart, ahead-apart}
 
 -- ---- a point of a tree

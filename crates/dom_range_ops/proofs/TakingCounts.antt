@@ -1,20 +1,12 @@
 -- How many nodes there are after the steps of some plans: insertions and changes of data make none.
-use Rattle.std.proofs.Common.{suc, ◌≡◌, Bool, true, false, not, List, [], ◌∷◌, length, Option, Some, None, refl, ◌∙◌}
-use Rattle.std.specs.Prelude.{⊤, if◌then◌else◌}
-use Rattle.std.specs.List.{AllByRecursion}
-use Rattle.std.specs.Option.{option_map_or}
-use Rattle.dom_base.specs.declared.NodeName.{NodeName}
+use Rattle.dom_base.proofs.Std.{suc, ◌≡◌, Bool, true, false, not, List, [], ◌∷◌, length, Option, Some, None, refl, ◌∙◌, ⊤, if◌then◌else◌, AllByRecursion}
+use Rattle.dom_base.proofs.Std.{option_map_or}
+use Rattle.dom_model.proofs.Model.{NodeName, Plan, ◌and_then◌, in_turn, doing, steps_of, Observing, observed, suppressed, telling, remove_plan, removing_from}
+use Rattle.dom_model.proofs.Model.{has_document, changing_document, adopt_plan, document_below, placed_nodes, emptying, making_room, placing, sibling_before}
+use Rattle.dom_model.proofs.Model.{inserting_nodes, insert_plan, making_below, is_empty, Change, child_list, Part, Step, make, make_room, place, take_out}
+use Rattle.dom_model.proofs.Model.{set_document, queue_record, part_step, after, Node, is_fragment, kind_of, parent_of, index_of}
 use Rattle.dom_worlds.proofs.ListLemmas.{all-append}
 use Rattle.dom_worlds.proofs.PlanLemmas.{count-step}
-use Rattle.dom_model.specs.Changes.{Plan, ◌and_then◌, in_turn, doing, steps_of, Observing, observed, suppressed, telling, remove_plan, removing_from}
-use Rattle.dom_model.specs.Changes.{has_document, changing_document, adopt_plan, document_below, placed_nodes, emptying, making_room, placing}
-use Rattle.dom_model.specs.Changes.{sibling_before, inserting_nodes, insert_plan}
-use Rattle.dom_model.specs.Extract.{making_below}
-use Rattle.dom_model.specs.Names.{is_empty}
-use Rattle.dom_model.specs.Output.{Change, child_list}
-use Rattle.dom_model.specs.Part.{Part}
-use Rattle.dom_model.specs.Steps.{Step, make, make_room, place, take_out, set_document, queue_record, part_step, after}
-use Rattle.dom_model.specs.Tree.{Node, is_fragment, kind_of, parent_of, index_of}
 
 -- the step makes no node
 abbrev MakesNone : Step → Type 0

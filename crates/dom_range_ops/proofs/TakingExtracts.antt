@@ -1,37 +1,17 @@
 -- The steps of an extraction, one after another.
-use Rattle.std.proofs.Common.{suc, ◌≡◌, ◌<◌, ◌+◌, ℕ, false, List, [], ◌∷◌, ◌++◌, length, map, is_some, true, Result, Ok, Err, Some, None, refl, sym, ap}
-use Rattle.std.proofs.Common.{◌∙◌, subst, arith, append_assoc}
-use Rattle.std.specs.Prelude.{◌↔◌, IfErr}
-use Rattle.std.specs.List.{AllByRecursion}
-use Rattle.std.proofs.lemmas.Bool.{false_from_ne_true, ltb-true}
-use Rattle.dom_base.specs.declared.NodeName.{NodeName}
-use Rattle.dom_base.specs.declared.Fault.{Fault}
-use Rattle.dom_base.specs.declared.Fault.TheVariants.{Refused, Memory}
-use Rattle.dom_base.specs.declared.Refusal.{Refusal}
-use Rattle.dom_base.specs.declared.Refusal.TheVariants.{Limit}
-use Rattle.dom_base.specs.declared.Owner.{Owner}
-use Rattle.dom_worlds.specs.Worlds.{IsPart}
+use Rattle.dom_base.proofs.Std.{suc, ◌≡◌, ◌<◌, ◌+◌, ℕ, false, List, [], ◌∷◌, ◌++◌, length, map, is_some, true, Result, Ok, Err, Some, None, refl, sym, ap, ◌∙◌}
+use Rattle.dom_base.proofs.Std.{subst, arith, append_assoc, ◌↔◌, IfErr, AllByRecursion, false_from_ne_true, ltb-true}
+use Rattle.dom_model.proofs.Model.{NodeName, Fault, Refused, Memory, Refusal, Limit, Owner, owner-part_of, past_limit, limit_on, first_refusal, Plan}
+use Rattle.dom_model.proofs.Model.{◌and_then◌, doing, both_at, node_of, Part, next_name, range_at, at, make, set_range, part_step, Node, World, part_of}
+use Rattle.dom_worlds.specs.Definitions.{IsPart}
 use Rattle.dom_worlds.proofs.ListLemmas.{all-then}
-use Rattle.dom_model.proofs.PartLaws.{owner-part_of}
-use Rattle.dom_model.specs.CommandRefusals.{past_limit, limit_on}
-use Rattle.dom_model.specs.Validity.{first_refusal}
-use Rattle.dom_model.specs.Changes.{Plan, ◌and_then◌, doing}
-use Rattle.dom_model.specs.Extract.{both_at}
-use Rattle.dom_model.specs.Names.{node_of}
-use Rattle.dom_model.specs.Part.{Part, next_name, range_at}
-use Rattle.dom_model.specs.Ranges.{at}
-use Rattle.dom_model.specs.Steps.{make, set_range, part_step}
-use Rattle.dom_model.specs.Tree.{Node}
-use Rattle.dom_model.specs.World.{World, part_of}
-use Rattle.dom_mutation.specs.Doc.{DocState, made, stepped, name_in, owner_in}
-use Rattle.dom_mutation.specs.Hosting.{IsAlone, PlansOwn}
+use Rattle.dom_mutation.specs.Definitions.{DocState, made, stepped, name_in, owner_in, IsAlone, PlansOwn}
 use Rattle.dom_parts.proofs.Made.{plan_alone, made_then}
 use Rattle.dom_parts.proofs.OwnPlans.{plans_then}
 use Rattle.dom_range_ops.proofs.InsertedRanges.{range-kept}
 use Rattle.dom_range_ops.proofs.TakingDocs.{name-kept, node-kept, new-name, new-node}
 use Rattle.dom_range_ops.proofs.TakingLoops.{plans-item, item-same, piece-kept}
-use Rattle.dom_range_ops.specs.Pieces.{Item, item_in, made_by}
-use Rattle.dom_range_ops.specs.Takings.{top_of, taking_item, taking_items, clones_after, new_names, MayBeTaken, MayTake, IsPieceOf}
+use Rattle.dom_range_ops.specs.Definitions.{Item, item_in, made_by, top_of, taking_item, taking_items, clones_after, new_names, MayBeTaken, MayTake, IsPieceOf}
 use Rattle.dom_range_ops.specs.declared.pieces.Piece.{Piece}
 
 -- the steps for items that may be taken are in their owner's part

@@ -1,21 +1,11 @@
 -- The steps that take pieces are those that take their items, one after another.
-use Rattle.std.proofs.Common.{◌≡◌, [], ◌∷◌, ◌++◌, List, refl, sym, ap, ◌∙◌, append_assoc, ℕ}
-use Rattle.std.specs.Prelude.{◌-◌, None}
-use Rattle.std.proofs.lemmas.List.{append-nil}
-use Rattle.dom_base.specs.declared.NodeName.{NodeName}
+use Rattle.dom_base.proofs.Std.{◌≡◌, [], ◌∷◌, ◌++◌, List, refl, sym, ap, ◌∙◌, append_assoc, ℕ, ◌-◌, None, append-nil}
+use Rattle.dom_model.proofs.Model.{NodeName, Plan, ◌and_then◌, doing, observed, insert_plan, Pieces, whole, cut, clone, clone_part, making_below, taking}
+use Rattle.dom_model.proofs.Model.{pieces_of, new_fragment_node, own_document, both_at, new_place, extracting, Part, next_name, Range, after, make, set_range}
+use Rattle.dom_model.proofs.Model.{replacing_data, node_in, with_name}
 use Rattle.dom_worlds.proofs.PlanLemmas.{after-append}
-use Rattle.dom_model.specs.Changes.{Plan, ◌and_then◌, doing, observed, insert_plan}
-use Rattle.dom_model.specs.Extract.{Pieces, nothing, whole, cut, clone, clone_part, making_below, taking, pieces_of, new_fragment_node, own_document}
-use Rattle.dom_model.specs.Extract.{both_at, new_place, extracting}
-use Rattle.dom_model.specs.Part.{Part, next_name}
-use Rattle.dom_model.specs.Ranges.{Range}
-use Rattle.dom_model.specs.Steps.{after, make, set_range}
-use Rattle.dom_model.specs.TextChanges.{replacing_data}
-use Rattle.dom_model.specs.Tree.{node_in}
-use Rattle.dom_model.specs.TreeChanges.{with_name}
-use Rattle.dom_range_ops.specs.Pieces.{Item, end_item, items_of}
-use Rattle.dom_range_ops.specs.Extractions.{extracting_items}
-use Rattle.dom_range_ops.specs.Takings.{top_of, taking_items}
+use Rattle.dom_model.specs.Extract.{nothing}
+use Rattle.dom_range_ops.specs.Definitions.{Item, end_item, items_of, extracting_items, top_of, taking_items}
 
 -- three plans in turn
 pub then-assoc : (f g h : Plan) (p : Part) → ((f and_then g) and_then h) p ≡ (f and_then (g and_then h)) p

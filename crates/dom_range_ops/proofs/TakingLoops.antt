@@ -1,29 +1,17 @@
 -- Pieces that are taken one after another.
-use Rattle.std.proofs.Common.{zero, suc, ◌≡◌, ◌<◌, ◌≤◌, ℕ, ◌+◌, ◌-◌, List, [], ◌∷◌, ◌++◌, length, map, drop, None, refl, sym, ap, ◌∙◌, subst, arith}
-use Rattle.std.proofs.Common.{append_assoc, get_or, drop-cons, add-one}
-use Rattle.std.specs.List.{AllByRecursion}
-use Rattle.dom_base.specs.declared.NodeName.{NodeName}
-use Rattle.dom_base.specs.declared.Owner.{Owner}
-use Rattle.dom_worlds.specs.Worlds.{IsPart}
+use Rattle.dom_base.proofs.Std.{zero, suc, ◌≡◌, ◌<◌, ◌≤◌, ℕ, ◌+◌, ◌-◌, List, [], ◌∷◌, ◌++◌, length, map, drop, None, refl, sym, ap, ◌∙◌, subst, arith}
+use Rattle.dom_base.proofs.Std.{append_assoc, get_or, drop-cons, add-one, AllByRecursion}
+use Rattle.dom_model.proofs.Model.{NodeName, Owner, owner-part_of, observed, clone_part, making_below, node_of, Part, next_name, after, replacing_data, node_in}
+use Rattle.dom_model.proofs.Model.{with_name, World, part_of}
+use Rattle.dom_worlds.specs.Definitions.{IsPart}
 use Rattle.dom_worlds.proofs.CommandLemmas.{has_node-times}
-use Rattle.dom_model.proofs.PartLaws.{owner-part_of}
-use Rattle.dom_model.specs.Changes.{observed}
-use Rattle.dom_model.specs.Extract.{clone_part, making_below}
-use Rattle.dom_model.specs.Names.{node_of}
-use Rattle.dom_model.specs.Part.{Part, next_name}
-use Rattle.dom_model.specs.Steps.{after}
-use Rattle.dom_model.specs.TextChanges.{replacing_data}
-use Rattle.dom_model.specs.Tree.{node_in}
-use Rattle.dom_model.specs.TreeChanges.{with_name}
-use Rattle.dom_model.specs.World.{World, part_of}
-use Rattle.dom_mutation.specs.Doc.{DocState, made, name_in, owner_in, IsOwnNode}
-use Rattle.dom_mutation.specs.Hosting.{IsAlone, PlansOwn}
+use Rattle.dom_mutation.specs.Definitions.{DocState, made, name_in, owner_in, IsOwnNode, IsAlone, PlansOwn}
 use Rattle.dom_parts.proofs.Made.{plan_alone, made_then}
 use Rattle.dom_parts.proofs.OwnPlans.{plans_then, plans_inserting, plans_data}
 use Rattle.dom_range_ops.proofs.TakingDocs.{name-kept, node-kept, plans-below}
 use Rattle.dom_range_ops.proofs.TakingParts.{takes-on, count-item, made-more}
-use Rattle.dom_range_ops.specs.Pieces.{Item, whole_item, cut_item, clone_item, end_item, item_in, made_by}
-use Rattle.dom_range_ops.specs.Takings.{top_of, taking_item, taking_items, clones_after, new_names, names_in, MayBeTaken, MayTake, IsPieceOf}
+use Rattle.dom_range_ops.specs.Definitions.{Item, whole_item, cut_item, clone_item, end_item, item_in, made_by, top_of, taking_item, taking_items, clones_after}
+use Rattle.dom_range_ops.specs.Definitions.{new_names, names_in, MayBeTaken, MayTake, IsPieceOf}
 use Rattle.dom_range_ops.specs.declared.pieces.Piece.{Piece}
 use Rattle.dom_range_ops.specs.declared.pieces.Piece.TheVariants.{Whole, Cut, Clone, End}
 

@@ -1,25 +1,16 @@
 -- A piece that may be taken, by its key.
-use Rattle.std.proofs.Common.{zero, suc, ◌≡◌, ◌<◌, ℕ, ◌-◌, false, List, [], ◌∷◌, ◌++◌, length, map, reverse, None, refl, sym, ap, ◌∙◌}
-use Rattle.std.proofs.Common.{subst, arith}
-use Rattle.std.specs.Prelude.{slice_get, unwrap_or}
-use Rattle.std.specs.List.{AllByRecursion}
-use Rattle.dom_base.specs.declared.NodeName.{NodeName}
-use Rattle.dom_base.specs.declared.Owner.{Owner}
-use Rattle.dom_worlds.specs.Bounds.{HasBounds}
-use Rattle.dom_worlds.specs.Worlds.{IsPart}
+use Rattle.dom_base.proofs.Std.{zero, suc, ◌≡◌, ◌<◌, ℕ, ◌-◌, false, List, [], ◌∷◌, ◌++◌, length, map, reverse, None, refl, sym, ap, ◌∙◌, subst, arith}
+use Rattle.dom_base.proofs.Std.{slice_get, unwrap_or, AllByRecursion}
+use Rattle.dom_model.proofs.Model.{NodeName, Owner, owner-part_of, node_of, Part, next_name, kind_of, has_data, is_shadow, is_inclusive_ancestor, part_of}
+use Rattle.dom_worlds.specs.Definitions.{HasBounds, IsPart}
 use Rattle.dom_worlds.proofs.CommandLemmas.{has_node-times}
 use Rattle.dom_worlds.proofs.ListLemmas.{all-append, all-then}
-use Rattle.dom_model.proofs.PartLaws.{owner-part_of}
-use Rattle.dom_model.specs.Names.{node_of}
-use Rattle.dom_model.specs.Part.{Part, next_name}
-use Rattle.dom_model.specs.Tree.{kind_of, has_data, is_shadow, is_inclusive_ancestor}
-use Rattle.dom_model.specs.World.{part_of}
-use Rattle.dom_mutation.specs.Doc.{DocState, made, name_in, owner_in, trees_in, IsOwnNode, MayMove}
+use Rattle.dom_mutation.specs.Definitions.{DocState, made, name_in, owner_in, trees_in, IsOwnNode, MayMove}
 use Rattle.dom_range_ops.proofs.TakingDocs.{name-kept, node-kept, new-name, new-node}
 use Rattle.dom_range_ops.proofs.TakingParts.{top-takes}
 use Rattle.dom_range_ops.proofs.TakingStacks.{stack-push, stack-top}
-use Rattle.dom_range_ops.specs.Pieces.{Item, whole_item, item_in, made_by}
-use Rattle.dom_range_ops.specs.Takings.{top_of, taking_item, new_names, names_in, IsTaker, IsTaken, MayBeTaken, MayTake, TakesNew}
+use Rattle.dom_range_ops.specs.Definitions.{Item, whole_item, item_in, made_by, top_of, taking_item, new_names, names_in, IsTaker, IsTaken, MayBeTaken, MayTake}
+use Rattle.dom_range_ops.specs.Definitions.{TakesNew}
 use Rattle.dom_range_ops.specs.declared.pieces.Piece.{Piece}
 
 -- one of some, or another one

@@ -1,9 +1,8 @@
 -- The clones that are not ended, by their keys and by their names.
-use Rattle.std.proofs.Common.{◌≡◌, ℕ, ◌-◌, List, [], ◌∷◌, ◌++◌, length, map, reverse, refl, sym, ap, ◌∙◌, inl, inr, ◌⊎◌, arith, length-append}
-use Rattle.std.specs.Prelude.{slice_get, unwrap_or}
-use Rattle.std.proofs.lemmas.List.{reverse-append, map-append}
-use Rattle.dom_base.specs.declared.NodeName.{NodeName}
-use Rattle.dom_range_ops.specs.Takings.{top_of}
+use Rattle.dom_base.proofs.Std.{◌≡◌, ℕ, ◌-◌, List, [], ◌∷◌, ◌++◌, length, map, reverse, refl, sym, ap, ◌∙◌, inl, inr, ◌⊎◌, arith, length-append, slice_get}
+use Rattle.dom_base.proofs.Std.{unwrap_or, reverse-append, map-append}
+use Rattle.dom_model.proofs.Model.{NodeName}
+use Rattle.dom_range_ops.specs.Definitions.{top_of}
 use Rattle.dom_tree.proofs.Changes.{slice_get-pushed}
 
 -- a list is empty or has a last item

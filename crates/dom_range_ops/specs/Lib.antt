@@ -6,3 +6,4 @@ pub mod Insertions
 pub mod Takings
 pub mod Deletions
 pub mod Extractions
+pub mod Definitions

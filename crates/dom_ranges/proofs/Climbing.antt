@@ -1,16 +1,11 @@
 -- Going up from keys' nodes in a forest, by their places.
-use Rattle.std.proofs.Common.{◌≡◌, ◌≢◌, ℕ, ◌+◌, ◌<◌, inr, inl, true, List, [], ◌∷◌, ◌++◌, length, Option, Some, None, refl, sym, ap, subst, ◌∙◌, arith}
-use Rattle.std.proofs.lemmas.List.{append-nil, append_assoc, length-append}
-use Rattle.dom_model.specs.Names.{first_of}
-use Rattle.dom_model.specs.Place.{same_root}
-use Rattle.dom_model.specs.Tree.{parent_of, index_of, inclusive_ancestors, is_inclusive_ancestor}
-use Rattle.dom_tree.specs.Forest.{NamedTrees, name_at}
-use Rattle.dom_tree.specs.Apart.{TellApart}
-use Rattle.dom_laws.proofs.Chains.{above-along}
+use Rattle.dom_base.proofs.Std.{◌≡◌, ◌≢◌, ℕ, ◌+◌, ◌<◌, inr, inl, true, List, [], ◌∷◌, ◌++◌, length, Option, Some, None, refl, sym, ap, subst, ◌∙◌, arith}
+use Rattle.dom_base.proofs.Std.{append-nil, append_assoc, length-append}
+use Rattle.dom_model.proofs.Model.{first_of, same_root, parent_of, index_of, inclusive_ancestors, is_inclusive_ancestor}
+use Rattle.dom_tree.specs.Definitions.{NamedTrees, name_at, TellApart}
+use Rattle.dom_laws.proofs.Laws.{above-along, In, In-from, is_in-from, above-parent, above-present}
 use Rattle.dom_tree.proofs.Standing.{StandOnce, StandAlone, Once-forest, Has-forest}
-use Rattle.dom_laws.proofs.Lists.{In, In-from, is_in-from}
-use Rattle.dom_laws.proofs.Shapes.{above-parent, above-present}
-use Rattle.dom_ranges.specs.Climbs.{path_at, depth_at, Reaches, AreBeside}
+use Rattle.dom_ranges.specs.Definitions.{path_at, depth_at, Reaches, AreBeside}
 use Rattle.dom_ranges.proofs.Places.{place-present, known, path-child, path-root, path-same, path-tree}
 
 -- a list of one item

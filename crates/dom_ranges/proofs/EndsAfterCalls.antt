@@ -1,14 +1,8 @@
 -- What holds of each end of a table's ranges, after each call; and offsets that fit the code's numbers.
-use Rattle.std.proofs.Common.{◌≡◌, inl, inr, ℕ, ◌+◌, ◌-◌, ◌<◌, ◌^◌, Bool, true, false, cond, [], ◌∷◌, ◌++◌, eqb, nat_lt, Option, Some}
-use Rattle.std.proofs.Common.{None, refl, sym, ap, subst, ◌∙◌, arith}
-use Rattle.std.specs.Prelude.{slice_get, slice_set, ◌&&◌}
-use Rattle.std.specs.Option.{option_map, option_flatten}
-use Rattle.std.proofs.lemmas.Bool.{cases_eq}
-use Rattle.std.proofs.lemmas.Option.{same_Some, none-some}
-use Rattle.dom_model.specs.Place.{Boundary}
-use Rattle.dom_model.specs.Ranges.{Range, at, boundary_eq, after_split}
-use Rattle.dom_ranges.specs.Rules.{Fits}
-use Rattle.dom_ranges.specs.Tables.{RangeList, EachRange, BothEnds, range_in}
+use Rattle.dom_base.proofs.Std.{◌≡◌, inl, inr, ℕ, ◌+◌, ◌-◌, ◌<◌, ◌^◌, Bool, true, false, cond, [], ◌∷◌, ◌++◌, eqb, nat_lt, Option, Some, None, refl, sym, ap}
+use Rattle.dom_base.proofs.Std.{subst, ◌∙◌, arith, slice_get, slice_set, ◌&&◌, option_map, option_flatten, cases_eq, same_Some, none-some}
+use Rattle.dom_model.proofs.Model.{Boundary, Range, at, boundary_eq, after_split}
+use Rattle.dom_ranges.specs.Definitions.{Fits, RangeList, EachRange, BothEnds, range_in}
 use Rattle.dom_ranges.proofs.Lists.{set-at, set-other, append-cases}
 
 module _ (P : Boundary ℕ → Type 0) where

@@ -1,18 +1,13 @@
 -- Listed ends that change places while those at one node are brought together and put back in order.
-use Rattle.std.proofs.Common.{◌≡◌, ◌≢◌, ◌⊎◌, inl, inr, ℕ, ◌+◌, ◌-◌, ◌<◌, ◌≤◌, List, [], ◌∷◌, suc, set, length, get_or, take, drop, ◌++◌}
-use Rattle.std.proofs.Common.{sym, ap, ◌∙◌, subst, arith}
-use Rattle.std.specs.List.{SwappedAt, RotatedLeft, remove}
-use Rattle.std.specs.List.Sorted.{IsPermutation}
-use Rattle.std.proofs.lemmas.List.Sorted.{IsPermutation-remove, IsPermutation-trans, IsPermutation-sym}
+use Rattle.dom_base.proofs.Std.{◌≡◌, ◌≢◌, ◌⊎◌, inl, inr, ℕ, ◌+◌, ◌-◌, ◌<◌, ◌≤◌, List, [], ◌∷◌, suc, set, length, get_or, take, drop, ◌++◌, sym, ap, ◌∙◌, subst}
+use Rattle.dom_base.proofs.Std.{arith, SwappedAt, RotatedLeft, remove, IsPermutation, IsPermutation-remove, IsPermutation-trans, IsPermutation-sym, true}
+use Rattle.dom_base.proofs.Std.{cases_eq, cases_lt, cases_order, le-leb, lt-ltb, append-nil, drop_at, take_all, get_or-take, get_or-drop, length-drop}
+use Rattle.dom_base.proofs.Std.{length-set, get_or-set_same, take-set-le, drop-set-lt, get_or_append_left, get_or-append_right, length-take-le}
 use borrow.Rule.Slice.PartMut.{put_mid, mid_of}
-use Rattle.std.specs.Prelude.{true}
-use Rattle.std.proofs.lemmas.Bool.{cases_eq, cases_lt, cases_order, le-leb, lt-ltb}
-use Rattle.std.proofs.lemmas.List.{append-nil, drop_at, take_all, get_or-take, get_or-drop, length-drop, length-set, get_or-set_same}
-use Rattle.std.proofs.lemmas.List.{take-set-le, drop-set-lt, get_or_append_left, get_or-append_right, length-take-le}
 use Rattle.dom_ranges.specs.declared.ends.RangeEnd.{RangeEnd}
 use Rattle.dom_ranges.specs.declared.ends.Span.{Span}
-use Rattle.dom_model.specs.Place.{Boundary}
-use Rattle.dom_ranges.specs.Listed.{AreAt, AtMostBut, IsFirm, IsOrdered, IsSortedBeside, IsTurned, HasChanged, is_in, point_of}
+use Rattle.dom_model.proofs.Model.{Boundary}
+use Rattle.dom_ranges.specs.Definitions.{AreAt, AtMostBut, IsFirm, IsOrdered, IsSortedBeside, IsTurned, HasChanged, is_in, point_of}
 use Rattle.dom_ranges.proofs.Orders.{points_same}
 
 -- an end that is not at the node was put before those that are

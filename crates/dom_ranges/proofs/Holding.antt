@@ -1,17 +1,11 @@
 -- What a table shows of the slots and the lists that it holds.
-use Rattle.std.proofs.Common.{◌≡◌, Bool, true, false, cond, List, [], ◌∷◌, map, Some, refl, sym, ap, ◌∙◌, true≢false}
-use Rattle.std.specs.Option.{option_map_or}
-use Rattle.std.specs.Map.{lookup}
+use Rattle.dom_base.proofs.Std.{◌≡◌, Bool, true, false, cond, List, [], ◌∷◌, map, Some, refl, sym, ap, ◌∙◌, true≢false, option_map_or, lookup}
 use Rattle.slab.specs.Slab.{Slab}
-use Rattle.dom_base.specs.declared.Owner.{Owner}
-use Rattle.dom_base.specs.declared.Owner.TheVariants.{Page, Component}
+use Rattle.dom_model.proofs.Model.{Owner, Page, Component, ComponentName, owner_eq, same_owner}
 use Rattle.dom_base.specs.contracts.OwnerPartialEq.TheImpl as OwnerImpl
-use Rattle.dom_model.specs.Names.{ComponentName, owner_eq}
-use Rattle.dom_model.proofs.OwnerTests.{same_owner}
 use Rattle.dom_ranges.specs.declared.numbers.Numbers.{Numbers}
 use Rattle.dom_ranges.specs.declared.table.Points.{Points}
-use Rattle.dom_ranges.specs.Tables.{list_of, ranges_of}
-use Rattle.dom_ranges.specs.RangeSlots.{slots_of, lists_of, range_kept, shown}
+use Rattle.dom_ranges.specs.Definitions.{list_of, ranges_of, slots_of, lists_of, range_kept, shown}
 
 -- the list of an owner among lists that were rewritten
 list_of-map : {X Y : Type 0} (f : X → Y) (es : List (Owner × List X)) (o : Owner) → list_of (map (λ e. (e.0, map f e.1)) es) o ≡ map f (list_of es o)

@@ -1,21 +1,14 @@
 -- The ends of all ranges as a rule moves them: in two steps, or not at all.
-use Rattle.std.proofs.Common.{◌≡◌, inl, inr, ℕ, suc, ◌+◌, ◌-◌, ◌<◌, Bool, true, false, cond, List, [], ◌∷◌, length, get_or, Option, Some, None}
-use Rattle.std.proofs.Common.{is_some, eqb, nat_lt, refl, sym, ap, ◌∙◌, subst, arith}
-use Rattle.std.specs.Prelude.{slice_get, ◌&&◌}
-use Rattle.std.specs.Option.{option_map, ForSome}
-use Rattle.std.proofs.lemmas.Bool.{eqb-true, ltb-true, false_from_ne_true}
-use Rattle.std.proofs.lemmas.Option.{slice_get-map}
+use Rattle.dom_base.proofs.Std.{◌≡◌, inl, inr, ℕ, suc, ◌+◌, ◌-◌, ◌<◌, Bool, true, false, cond, List, [], ◌∷◌, length, get_or, Option, Some, None, is_some, eqb}
+use Rattle.dom_base.proofs.Std.{nat_lt, refl, sym, ap, ◌∙◌, subst, arith, slice_get, ◌&&◌, option_map, ForSome, eqb-true, ltb-true, false_from_ne_true}
+use Rattle.dom_base.proofs.Std.{slice_get-map}
 use Rattle.slab.specs.Slab.{Slab, get}
-use Rattle.dom_base.specs.declared.Owner.{Owner}
-use Rattle.dom_model.specs.Place.{Boundary}
-use Rattle.dom_model.specs.Ranges.{at, map_ends, after_insert, after_removal, after_join}
+use Rattle.dom_model.proofs.Model.{Owner, Boundary, at, map_ends, after_insert, after_removal, after_join}
 use Rattle.dom_ranges.specs.declared.numbers.Numbers.{Numbers}
 use Rattle.dom_ranges.specs.declared.table.Points.{Points}
 use Rattle.dom_ranges.specs.declared.ends.RangeEnd.{RangeEnd}
-use Rattle.dom_ranges.specs.Tables.{RangeLists, RangeList, EachRange, BothEnds, ranges_of, range_from, ends_by}
-use Rattle.dom_ranges.specs.RangeSlots.{HaveNumbers, range_kept, slots_of}
-use Rattle.dom_ranges.specs.Listed.{IsListed, IsSortedByPoint, point_of, end_of, end_in}
-use Rattle.dom_ranges.specs.Rules.{IsUpTo, IsNear, after_leaving, after_closing}
+use Rattle.dom_ranges.specs.Definitions.{RangeLists, RangeList, EachRange, BothEnds, ranges_of, range_from, ends_by, HaveNumbers, range_kept, slots_of}
+use Rattle.dom_ranges.specs.Definitions.{IsListed, IsSortedByPoint, point_of, end_of, end_in, IsUpTo, IsNear, after_leaving, after_closing}
 use Rattle.dom_ranges.proofs.Lists.{cons_same}
 use Rattle.dom_ranges.proofs.Listing.{listed-once}
 use Rattle.dom_ranges.proofs.Moved.{both_same}

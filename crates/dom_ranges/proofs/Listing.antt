@@ -1,21 +1,14 @@
 -- The list of ends, each once, as ends come, go and change their nodes.
-use Rattle.std.proofs.Common.{◌≡◌, ◌≢◌, ◌⊎◌, inl, inr, ℕ, zero, suc, ◌+◌, ◌<◌, ◌≤◌, Bool, true, false, cond, List, [], ◌∷◌, ◌++◌, length, get_or, ◌-◌}
-use Rattle.std.proofs.Common.{Option, Some, None, is_some, IsSome, eqb, refl, sym, ap, ◌∙◌, subst, arith, true≢false}
-use Rattle.std.specs.Prelude.{◌&&◌, not}
-use Rattle.std.specs.List.{All}
-use Rattle.std.specs.Option.{option_map}
-use Rattle.std.specs.List.Sorted.{IsPermutation}
-use Rattle.std.proofs.lemmas.Bool.{cases_Bool, cases_eq, cases_lt, eq-eqb, eqb-true}
-use Rattle.std.proofs.lemmas.List.{get_or-append_right, get_or_append_left, length-append}
-use Rattle.std.proofs.lemmas.List.Sums.{sum_by-cons, sum_by-append, get_or-le-sum_by}
-use Rattle.std.proofs.lemmas.List.Sorted.{IsPermutation-refl, IsPermutation-cons, IsPermutation-trans, IsPermutation-append_comm, All-permutation}
-use Rattle.std.proofs.lemmas.List.Sorted.{sum_by-IsPermutation}
-use Rattle.std.proofs.lemmas.Option.{same_Some}
+use Rattle.dom_base.proofs.Std.{◌≡◌, ◌≢◌, ◌⊎◌, inl, inr, ℕ, zero, suc, ◌+◌, ◌<◌, ◌≤◌, Bool, true, false, cond, List, [], ◌∷◌, ◌++◌, length, get_or, ◌-◌, Option}
+use Rattle.dom_base.proofs.Std.{Some, None, is_some, IsSome, eqb, refl, sym, ap, ◌∙◌, subst, arith, true≢false, ◌&&◌, not, All, option_map, IsPermutation}
+use Rattle.dom_base.proofs.Std.{cases_Bool, cases_eq, cases_lt, eq-eqb, eqb-true, get_or-append_right, get_or_append_left, length-append, sum_by-cons}
+use Rattle.dom_base.proofs.Std.{sum_by-append, get_or-le-sum_by, IsPermutation-refl, IsPermutation-cons, IsPermutation-trans, IsPermutation-append_comm}
+use Rattle.dom_base.proofs.Std.{All-permutation, sum_by-IsPermutation, same_Some}
 use Rattle.slab.specs.Slab.{Slab, get, Updates}
-use Rattle.dom_model.specs.Place.{Boundary}
+use Rattle.dom_model.proofs.Model.{Boundary}
 use Rattle.dom_ranges.specs.declared.table.Points.{Points}
 use Rattle.dom_ranges.specs.declared.ends.RangeEnd.{RangeEnd}
-use Rattle.dom_ranges.specs.Listed.{is_end_of, times, point_at, point_of, end_of, Stands, IsListed, IsListedOnce, HasChanged, end_in, with_end_at}
+use Rattle.dom_ranges.specs.Definitions.{is_end_of, times, point_at, point_of, end_of, Stands, IsListed, IsListedOnce, HasChanged, end_in, with_end_at}
 
 -- one for true
 abbrev bit : Bool → ℕ

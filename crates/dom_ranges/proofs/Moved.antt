@@ -1,19 +1,13 @@
 -- The ends of all ranges after two parts of their list were moved.
-use Rattle.std.proofs.Common.{◌≡◌, ◌⊎◌, inl, inr, ℕ, ◌<◌, ◌≤◌, Bool, true, false, not, cond, ◌&&◌, List, length, get_or, min, max, Option, Some, None, is_some}
-use Rattle.std.proofs.Common.{refl, sym, ap, ◌∙◌, subst, arith}
-use Rattle.std.specs.Option.{option_map, ForSome}
-use Rattle.std.proofs.lemmas.Bool.{cases_Bool, cases_lt}
-use Rattle.std.proofs.lemmas.Option.{same_Some}
+use Rattle.dom_base.proofs.Std.{◌≡◌, ◌⊎◌, inl, inr, ℕ, ◌<◌, ◌≤◌, Bool, true, false, not, cond, ◌&&◌, List, length, get_or, min, max, Option, Some, None}
+use Rattle.dom_base.proofs.Std.{is_some, refl, sym, ap, ◌∙◌, subst, arith, option_map, ForSome, cases_Bool, cases_lt, same_Some}
 use Rattle.slab.specs.Slab.{Slab, get}
-use Rattle.dom_model.specs.Place.{Boundary}
-use Rattle.dom_model.specs.Ranges.{at, from_to, map_ends}
-use Rattle.dom_ranges.specs.Rules.{KeepsOrder, KeepsOrderBut}
-use Rattle.dom_ranges.specs.Tables.{range_from, BothEnds}
+use Rattle.dom_model.proofs.Model.{Boundary, at, from_to, map_ends}
+use Rattle.dom_ranges.specs.Definitions.{KeepsOrder, KeepsOrderBut, range_from, BothEnds, point_at, point_of, end_of, end_in, IsListed, IsMovedPart}
+use Rattle.dom_ranges.specs.Definitions.{IsSortedBeside, IsSortedByPoint, IsSortedBut, IsFirm, AreAllIn, is_in, is_chosen}
 use Rattle.dom_ranges.specs.declared.table.Points.{Points}
 use Rattle.dom_ranges.specs.declared.ends.RangeEnd.{RangeEnd}
 use Rattle.dom_ranges.specs.declared.ends.Span.{Span}
-use Rattle.dom_ranges.specs.Listed.{point_at, point_of, end_of, end_in, IsListed, IsMovedPart, IsSortedBeside, IsSortedByPoint, IsSortedBut, IsFirm}
-use Rattle.dom_ranges.specs.Listed.{AreAllIn, is_in, is_chosen}
 use Rattle.dom_ranges.proofs.Listing.{is_end_of-true, counts-listed, times-same}
 use Rattle.dom_ranges.proofs.Parts.{outside-part}
 

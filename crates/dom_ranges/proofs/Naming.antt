@@ -1,26 +1,15 @@
 -- The laws of the table read in names.
-use Rattle.std.proofs.Common.{◌≡◌, inl, inr, ℕ, zero, suc, ◌+◌, ◌-◌, ◌<◌, Bool, true, false, not, cond, List, [], ◌∷◌, ◌++◌, length, eqb, nat_lt}
-use Rattle.std.proofs.Common.{nat_le, Option, Some, None, refl, sym, ap, subst, ◌∙◌, arith, true≢false}
-use Rattle.std.specs.Prelude.{slice_get, slice_set, ◌&&◌, ◌||◌, ◌==◌}
-use Rattle.std.specs.Option.{option_map, option_flatten}
-use Rattle.std.proofs.lemmas.Bool.{cases_Bool, eqb-true, eq-eqb}
-use Rattle.std.proofs.lemmas.List.{map-set, map-append, length-append}
-use Rattle.std.proofs.lemmas.Option.{same_Some, none-some, slice_get-map}
-use Rattle.dom_base.specs.declared.Owner.{Owner}
-use Rattle.dom_base.specs.declared.NodeName.{NodeName}
-use Rattle.dom_model.specs.Names.{name_eq, owner_eq}
-use Rattle.dom_model.proofs.OwnerLaws.{name_eq-same, owner_eq-true, name_eq-other}
-use Rattle.dom_model.specs.Place.{Boundary}
-use Rattle.dom_model.specs.Ranges.{with_start, with_end}
-use Rattle.dom_model.specs.Ranges.{Range, at, from_to, map_ends, boundary_eq, after_insert, after_removal, after_replace_data, after_split, after_join}
-use Rattle.dom_model.specs.Tree.{is_inclusive_ancestor}
-use Rattle.dom_tree.specs.Forest.{NamedTrees, name_at}
-use Rattle.dom_tree.specs.Apart.{TellApart}
-use Rattle.dom_ranges.specs.Naming.{StandAtNodes, IsNamedRule, InsertNamed, RemovalNamed, ReplaceDataNamed, SplitNamed, JoinNamed}
-use Rattle.dom_ranges.specs.Naming.{StartNamed, EndNamed, GrownNamed, MadeNamed, RemovedNamed, RewrittenNamed, CollapsedNamed, named_ends_by}
-use Rattle.dom_ranges.specs.Rules.{IsAtNode, is_inside}
-use Rattle.dom_ranges.specs.Settings.{start_set, end_set, named_boundary, named_range, named_ranges, with_named, have_one_root, is_key_before}
-use Rattle.dom_ranges.specs.Tables.{RangeList, RangeLists, EachRange, BothEnds, ends_by, ranges_of, range_in, with_ranges}
+use Rattle.dom_base.proofs.Std.{◌≡◌, inl, inr, ℕ, zero, suc, ◌+◌, ◌-◌, ◌<◌, Bool, true, false, not, cond, List, [], ◌∷◌, ◌++◌, length, eqb, nat_lt, nat_le}
+use Rattle.dom_base.proofs.Std.{Option, Some, None, refl, sym, ap, subst, ◌∙◌, arith, true≢false, slice_get, slice_set, ◌&&◌, ◌||◌, ◌==◌, option_map}
+use Rattle.dom_base.proofs.Std.{option_flatten, cases_Bool, eqb-true, eq-eqb, map-set, map-append, length-append, same_Some, none-some, slice_get-map}
+use Rattle.dom_model.proofs.Model.{Owner, NodeName, name_eq, owner_eq, name_eq-same, owner_eq-true, name_eq-other, Boundary, with_start, with_end, Range, at}
+use Rattle.dom_model.proofs.Model.{from_to, map_ends, boundary_eq, after_insert, after_removal, after_replace_data, after_split, after_join}
+use Rattle.dom_model.proofs.Model.{is_inclusive_ancestor}
+use Rattle.dom_tree.specs.Definitions.{NamedTrees, name_at, TellApart}
+use Rattle.dom_ranges.specs.Definitions.{StandAtNodes, IsNamedRule, InsertNamed, RemovalNamed, ReplaceDataNamed, SplitNamed, JoinNamed, StartNamed, EndNamed}
+use Rattle.dom_ranges.specs.Definitions.{GrownNamed, MadeNamed, RemovedNamed, RewrittenNamed, CollapsedNamed, named_ends_by, IsAtNode, is_inside, start_set}
+use Rattle.dom_ranges.specs.Definitions.{end_set, named_boundary, named_range, named_ranges, with_named, have_one_root, is_key_before, RangeList, RangeLists}
+use Rattle.dom_ranges.specs.Definitions.{EachRange, BothEnds, ends_by, ranges_of, range_in, with_ranges}
 use Rattle.dom_ranges.proofs.Lists.{cons_same}
 
 -- ---- lists of ranges, each rewritten

@@ -1,11 +1,9 @@
 -- The order of boundary points in the list of ends, and the tests by which it is searched.
-use Rattle.std.proofs.Common.{◌≡◌, inl, inr, ℕ, ◌≤◌, Bool, true, false, List, get_or, eqb, ltb, leb, sym, ap, subst, arith}
-use Rattle.std.specs.Prelude.{◌&&◌, ◌||◌}
-use Rattle.std.specs.List.Sorted.{IsPartitionedBy}
-use Rattle.std.proofs.lemmas.Bool.{cases_Bool, or_cases, or_parts, and_parts, and_cases, eqb-true, eqb-false, ltb-true, ltb-false, leb-true, leb-false}
-use Rattle.dom_model.specs.Place.{Boundary}
+use Rattle.dom_base.proofs.Std.{◌≡◌, inl, inr, ℕ, ◌≤◌, Bool, true, false, List, get_or, eqb, ltb, leb, sym, ap, subst, arith, ◌&&◌, ◌||◌, IsPartitionedBy}
+use Rattle.dom_base.proofs.Std.{cases_Bool, or_cases, or_parts, and_parts, and_cases, eqb-true, eqb-false, ltb-true, ltb-false, leb-true, leb-false}
+use Rattle.dom_model.proofs.Model.{Boundary}
 use Rattle.dom_ranges.specs.declared.ends.RangeEnd.{RangeEnd}
-use Rattle.dom_ranges.specs.Listed.{AtMost, AtMostBut, LessThan, IsSortedByPoint, point_of}
+use Rattle.dom_ranges.specs.Definitions.{AtMost, AtMostBut, LessThan, IsSortedByPoint, point_of}
 
 -- whether a listed end is at a boundary point or before it
 abbrev pub is_at_most : Boundary ℕ → RangeEnd → Bool

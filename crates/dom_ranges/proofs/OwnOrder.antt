@@ -1,22 +1,12 @@
 -- The order of an owner's boundary points of one tree is the same among all trees and among the owner's own.
-use Rattle.std.proofs.Common.{◌≡◌, ◌⊎◌, ℕ, ◌+◌, ◌*◌, Bool, true, false, not, cond, ltb, ◌&&◌, List, [], ◌∷◌, ◌++◌, drop, map, Option, Some, None}
-use Rattle.std.proofs.Common.{refl, sym, ap, ◌∙◌, inl, inr, arith}
-use Rattle.std.specs.Prelude.{option_map, unwrap_or}
-use Rattle.std.specs.Option.{option_or}
-use Rattle.std.proofs.lemmas.Bool.{cases_Bool, eq-eqb, ltb-true, false_from_ne_true}
-use Rattle.std.proofs.lemmas.Option.{same_Some}
-use Rattle.dom_base.specs.declared.NodeName.{NodeName}
-use Rattle.dom_base.specs.declared.Owner.{Owner}
-use Rattle.dom_model.specs.Names.{owner_eq, name_eq, first_of}
-use Rattle.dom_model.specs.Place.{Boundary, place_from, place_of, list_before, is_before, same_root}
-use Rattle.dom_model.specs.Ranges.{Range, from_to, with_start, with_end}
-use Rattle.dom_model.specs.Tree.{Trees, none, tree, root_of}
+use Rattle.dom_base.proofs.Std.{◌≡◌, ◌⊎◌, ℕ, ◌+◌, ◌*◌, Bool, true, false, not, cond, ltb, ◌&&◌, List, [], ◌∷◌, ◌++◌, drop, map, Option, Some, None, refl, sym}
+use Rattle.dom_base.proofs.Std.{ap, ◌∙◌, inl, inr, arith, option_map, unwrap_or, option_or, cases_Bool, eq-eqb, ltb-true, false_from_ne_true, same_Some}
+use Rattle.dom_model.proofs.Model.{NodeName, Owner, owner_eq, name_eq, first_of, Boundary, place_from, place_of, list_before, is_before, same_root, Range}
+use Rattle.dom_model.proofs.Model.{from_to, with_start, with_end, Trees, none, tree, root_of, owner_eq-false, name_eq-turned}
 use Rattle.dom_tree.proofs.Standing.{once_own}
-use Rattle.dom_tree.specs.Owners.{AreOf, HaveOwners, AreOwned, trees_of_owner}
-use Rattle.dom_model.proofs.OwnerLaws.{owner_eq-false, name_eq-turned}
+use Rattle.dom_tree.specs.Definitions.{AreOf, HaveOwners, AreOwned, trees_of_owner}
 use Rattle.dom_ranges.proofs.Places.{place-at_root, known, path-tree}
-use Rattle.dom_laws.proofs.Shapes.{Has}
-use Rattle.dom_laws.proofs.Counts.{Once}
+use Rattle.dom_laws.proofs.Laws.{Has, Once}
 use Rattle.dom_tree.proofs.Owned.{name_apart, read_own}
 
 -- ---- places

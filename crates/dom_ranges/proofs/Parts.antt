@@ -1,18 +1,13 @@
 -- The ends that are listed in a part are moved, one after another.
-use Rattle.std.proofs.Common.{◌≡◌, ◌≢◌, ◌⊎◌, inl, inr, ℕ, ◌+◌, ◌<◌, ◌≤◌, Bool, true, false, List, length, get_or, set, min}
-use Rattle.std.proofs.Common.{[], ◌∷◌, Option, Some, None, ltb, leb, refl, sym, ap, ◌∙◌, subst, arith, true≢false}
-use Rattle.std.specs.Prelude.{◌&&◌, not}
-use Rattle.std.proofs.lemmas.Bool.{cases_Bool, cases_eq, leb-true, ltb-true, le-leb, lt-ltb}
-use Rattle.std.specs.Option.{option_map}
-use Rattle.std.proofs.lemmas.List.{get_or-set_same, get_or-set_other, length-set}
-use Rattle.std.proofs.lemmas.List.Sorted.{IsPermutation-refl}
-use Rattle.std.proofs.lemmas.Option.{same_Some}
+use Rattle.dom_base.proofs.Std.{◌≡◌, ◌≢◌, ◌⊎◌, inl, inr, ℕ, ◌+◌, ◌<◌, ◌≤◌, Bool, true, false, List, length, get_or, set, min, [], ◌∷◌, Option, Some, None, ltb}
+use Rattle.dom_base.proofs.Std.{leb, refl, sym, ap, ◌∙◌, subst, arith, true≢false, ◌&&◌, not, cases_Bool, cases_eq, leb-true, ltb-true, le-leb, lt-ltb}
+use Rattle.dom_base.proofs.Std.{option_map, get_or-set_same, get_or-set_other, length-set, IsPermutation-refl, same_Some}
 use Rattle.slab.specs.Slab.{Slab, get}
-use Rattle.dom_model.specs.Place.{Boundary}
+use Rattle.dom_model.proofs.Model.{Boundary}
 use Rattle.dom_ranges.specs.declared.table.Points.{Points}
 use Rattle.dom_ranges.specs.declared.ends.RangeEnd.{RangeEnd}
 use Rattle.dom_ranges.specs.declared.ends.Span.{Span}
-use Rattle.dom_ranges.specs.Listed.{IsListed, IsMovedPart, HasChanged, Stands, is_in, is_chosen, end_in, end_of, point_of}
+use Rattle.dom_ranges.specs.Definitions.{IsListed, IsMovedPart, HasChanged, Stands, is_in, is_chosen, end_in, end_of, point_of}
 use Rattle.dom_ranges.proofs.Gathering.{HasChanged-set}
 use Rattle.dom_ranges.proofs.Listing.{IsPut, IsListed-put, end-same}
 

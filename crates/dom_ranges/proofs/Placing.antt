@@ -1,18 +1,14 @@
 -- Ends that are brought to their place in a sorted list.
-use Rattle.std.proofs.Common.{◌≡◌, ◌≢◌, ◌⊎◌, inl, inr, ℕ, ◌+◌, ◌-◌, ◌<◌, ◌≤◌, List, [], ◌∷◌, zero, suc, set, length, get_or, ◌++◌, refl}
-use Rattle.std.proofs.Common.{sym, ap, ◌∙◌, subst, arith, true, true≢false}
-use Rattle.std.specs.List.{remove}
-use Rattle.std.specs.List.Sorted.{IsNonDecreasingBy, IsPermutation}
-use Rattle.std.proofs.lemmas.Bool.{cases_lt}
-use Rattle.std.proofs.lemmas.List.{get_or_append_left, get_or-append_right, length-append, length-set, get_or-set_same, get_or-set_other}
-use Rattle.std.proofs.lemmas.List.Edits.{length-remove, get_or-remove_below, get_or-remove_above}
-use Rattle.std.proofs.lemmas.List.Sorted.{All-permutation, length_permutation, IsPermutation-put_mid}
+use Rattle.dom_base.proofs.Std.{◌≡◌, ◌≢◌, ◌⊎◌, inl, inr, ℕ, ◌+◌, ◌-◌, ◌<◌, ◌≤◌, List, [], ◌∷◌, zero, suc, set, length, get_or, ◌++◌, refl, sym, ap, ◌∙◌, subst}
+use Rattle.dom_base.proofs.Std.{arith, true, true≢false, remove, IsNonDecreasingBy, IsPermutation, cases_lt, get_or_append_left, get_or-append_right}
+use Rattle.dom_base.proofs.Std.{length-append, length-set, get_or-set_same, get_or-set_other, length-remove, get_or-remove_below, get_or-remove_above}
+use Rattle.dom_base.proofs.Std.{All-permutation, length_permutation, IsPermutation-put_mid}
 use borrow.Rule.Slice.PartMut.{put_mid, mid_of}
-use Rattle.dom_model.specs.Place.{Boundary}
+use Rattle.dom_model.proofs.Model.{Boundary}
 use Rattle.dom_ranges.specs.declared.ends.RangeEnd.{RangeEnd}
 use Rattle.dom_ranges.specs.declared.ends.Span.{Span}
-use Rattle.dom_ranges.specs.Listed.{AreAt, AtMost, AtMostBut, LessThan, IsOrdered, IsSortedBeside, IsSortedByPoint, IsSortedBut, IsTurned}
-use Rattle.dom_ranges.specs.Listed.{is_in, point_of, offset_of}
+use Rattle.dom_ranges.specs.Definitions.{AreAt, AtMost, AtMostBut, LessThan, IsOrdered, IsSortedBeside, IsSortedByPoint, IsSortedBut, IsTurned, is_in, point_of}
+use Rattle.dom_ranges.specs.Definitions.{offset_of}
 use Rattle.dom_ranges.proofs.Gathering.{IsOrdered-turned, length-mid, mid-outside, mid-part, mid-was}
 use Rattle.dom_ranges.proofs.Orders.{AtMostBut-nodes, points_same}
 use Rattle.dom_ranges.proofs.Parts.{outside-part}

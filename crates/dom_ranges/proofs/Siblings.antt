@@ -1,17 +1,11 @@
 -- The index of a node by the sibling before it.
-use Rattle.std.proofs.Common.{◌≡◌, inl, ℕ, ◌+◌, ◌<◌, true, [], ◌∷◌, ◌++◌, length, Option, Some, None, refl, sym, ap, subst, ◌∙◌, arith}
-use Rattle.std.proofs.Common.{append_assoc, length-append}
-use Rattle.std.specs.Option.{option_map, option_map_or}
-use Rattle.std.proofs.lemmas.Option.{none-some}
-use Rattle.dom_base.specs.declared.NodeName.{NodeName}
-use Rattle.dom_model.specs.Names.{name_eq, last_of, items_before, items_after}
-use Rattle.dom_model.proofs.OwnerLaws.{name_eq-same}
-use Rattle.dom_model.specs.Tree.{Trees, children_of, parent_of, siblings, previous_sibling, index_of}
-use Rattle.dom_tree.specs.Forest.{NamedTrees, name_at}
-use Rattle.dom_laws.proofs.Lists.{In, In-right, Single, Single-apart, no_last, last_split, split_at, before-split}
-use Rattle.dom_laws.proofs.Shapes.{Has}
-use Rattle.dom_laws.proofs.Counts.{Once}
-use Rattle.dom_laws.proofs.Children.{parent-of_child, child-of_parent, children-single}
+use Rattle.dom_base.proofs.Std.{◌≡◌, inl, ℕ, ◌+◌, ◌<◌, true, [], ◌∷◌, ◌++◌, length, Option, Some, None, refl, sym, ap, subst, ◌∙◌, arith, append_assoc}
+use Rattle.dom_base.proofs.Std.{length-append, option_map, option_map_or, none-some}
+use Rattle.dom_model.proofs.Model.{NodeName, name_eq, last_of, items_before, items_after, name_eq-same, Trees, children_of, parent_of, siblings}
+use Rattle.dom_model.proofs.Model.{previous_sibling, index_of}
+use Rattle.dom_tree.specs.Definitions.{NamedTrees, name_at}
+use Rattle.dom_laws.proofs.Laws.{In, In-right, Single, Single-apart, no_last, last_split, split_at, before-split, Has, Once, parent-of_child, child-of_parent}
+use Rattle.dom_laws.proofs.Laws.{children-single}
 use Rattle.dom_tree.proofs.Standing.{StandOnce, StandAlone, Once-forest, Has-forest}
 
 module _ (ts : Trees) (once : Once ts) where

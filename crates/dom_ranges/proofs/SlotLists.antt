@@ -1,18 +1,11 @@
 -- The slots of all owners, after a component's list of slots was written.
-use Rattle.std.proofs.Common.{◌≡◌, ◌≢◌, ℕ, ◌<◌, cond, List, [], Option, Some, Vec, Global, refl, sym, ap, ◌∙◌, subst}
-use Rattle.std.specs.Prelude.{MatchOption}
-use Rattle.std.specs.HashMap.{get}
-use Rattle.std.specs.Option.{option_map_or}
-use Rattle.std.specs.Vec.{vec_len, vec_capacity}
-use Rattle.std.proofs.lemmas.Bool.{cond-false}
-use Rattle.dom_base.specs.declared.Owner.{Owner}
-use Rattle.dom_base.specs.declared.Owner.TheVariants.{Page, Component}
+use Rattle.dom_base.proofs.Std.{◌≡◌, ◌≢◌, ℕ, ◌<◌, cond, List, [], Option, Some, Vec, Global, refl, sym, ap, ◌∙◌, subst, MatchOption, get, option_map_or}
+use Rattle.dom_base.proofs.Std.{vec_len, vec_capacity, cond-false}
+use Rattle.dom_model.proofs.Model.{Owner, Page, Component, owner_eq, ne-owner_eq}
 use Rattle.dom_base.specs.contracts.OwnerPartialEq.TheImpl as OwnerImpl
-use Rattle.dom_model.specs.Names.{owner_eq}
-use Rattle.dom_model.proofs.OwnerLaws.{ne-owner_eq}
 use Rattle.dom_tree.proofs.OwnerLists.{had, written-same}
 use Rattle.dom_ranges.specs.declared.numbers.Numbers.{Numbers}
-use Rattle.dom_ranges.specs.RangeSlots.{slots_of, HasRoom}
+use Rattle.dom_ranges.specs.Definitions.{slots_of, HasRoom}
 
 -- a component's list with room has room for one slot more
 pub room_of : (n : Numbers) (owner : Owner) (v : Vec (Option ℕ) Global) → owner ≢ Page → get OwnerImpl.ghosts.eq n.components owner ≡ Some v →

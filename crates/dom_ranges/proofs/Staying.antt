@@ -1,22 +1,14 @@
 -- The ends of a table's ranges stay at nodes, and below a bound.
-use Rattle.std.proofs.Common.{◌≡◌, inl, inr, ℕ, zero, suc, ◌+◌, ◌-◌, ◌≤◌, Bool, true, false, not, cond, List, [], ◌∷◌, ◌++◌, eqb, nat_lt}
-use Rattle.std.proofs.Common.{nat_le, Option, Some, None, refl, sym, subst, arith, true≢false}
-use Rattle.std.specs.Prelude.{slice_get, slice_set, ◌&&◌, ◌||◌}
-use Rattle.std.specs.Option.{option_map, option_flatten}
-use Rattle.std.proofs.lemmas.Bool.{eqb-true, leb-false, or_parts}
-use Rattle.std.proofs.lemmas.Option.{same_Some, none-some}
-use Rattle.dom_base.specs.declared.Owner.{Owner}
-use Rattle.dom_base.specs.declared.NodeName.{NodeName}
-use Rattle.dom_model.specs.Names.{owner_eq}
-use Rattle.dom_model.specs.Place.{Boundary}
-use Rattle.dom_model.specs.Ranges.{Range, at, from_to, boundary_eq, after_insert, after_removal, after_replace_data, after_split, after_join}
+use Rattle.dom_base.proofs.Std.{◌≡◌, inl, inr, ℕ, zero, suc, ◌+◌, ◌-◌, ◌≤◌, Bool, true, false, not, cond, List, [], ◌∷◌, ◌++◌, eqb, nat_lt, nat_le, Option}
+use Rattle.dom_base.proofs.Std.{Some, None, refl, sym, subst, arith, true≢false, slice_get, slice_set, ◌&&◌, ◌||◌, option_map, option_flatten, eqb-true}
+use Rattle.dom_base.proofs.Std.{leb-false, or_parts, same_Some, none-some}
+use Rattle.dom_model.proofs.Model.{Owner, NodeName, owner_eq, Boundary, Range, at, from_to, boundary_eq, after_insert, after_removal, after_replace_data}
+use Rattle.dom_model.proofs.Model.{after_split, after_join}
 use Rattle.node_arena.proofs.Numbers.{slice_get-set}
-use Rattle.dom_ranges.specs.Rules.{is_inside}
-use Rattle.dom_ranges.specs.Settings.{have_one_root, is_key_before, start_set, end_set}
-use Rattle.dom_ranges.specs.Staying.{IsWithin, HasRanges, Brings, NoneWithin, SameWithin, MoreWithin, WithinAtNodes, SomeWithin}
-use Rattle.dom_ranges.specs.Staying.{MadeWithin, RemovedWithin, WrittenWithin, StartWithin, EndWithin, CollapsedWithin}
-use Rattle.dom_ranges.specs.Staying.{InsertWithin, RemovalWithin, ReplaceDataWithin, SplitWithin, JoinWithin}
-use Rattle.dom_ranges.specs.Tables.{RangeList, RangeLists, EachRange, BothEnds, ranges_of, range_in, collapsed_range}
+use Rattle.dom_ranges.specs.Definitions.{is_inside, have_one_root, is_key_before, start_set, end_set, IsWithin, HasRanges, Brings, NoneWithin, SameWithin}
+use Rattle.dom_ranges.specs.Definitions.{MoreWithin, WithinAtNodes, SomeWithin, MadeWithin, RemovedWithin, WrittenWithin, StartWithin, EndWithin}
+use Rattle.dom_ranges.specs.Definitions.{CollapsedWithin, InsertWithin, RemovalWithin, ReplaceDataWithin, SplitWithin, JoinWithin, RangeList, RangeLists}
+use Rattle.dom_ranges.specs.Definitions.{EachRange, BothEnds, ranges_of, range_in, collapsed_range}
 use Rattle.dom_ranges.proofs.Naming.{EachRange-ends}
 
 -- ---- lists of ranges

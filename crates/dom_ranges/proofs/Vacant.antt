@@ -1,18 +1,13 @@
 -- A table without live ranges: no rule rewrites anything there. And what is held, by what is shown.
-use Rattle.std.proofs.Common.{◌≡◌, ◌⊎◌, inl, inr, ℕ, zero, suc, Bool, true, false, cond, List, [], ◌∷◌, Option, Some, None, is_some, refl, sym, ap, ◌∙◌, arith}
-use Rattle.std.specs.Prelude.{count_by, slice_index_or}
-use Rattle.std.specs.Option.{option_map, option_flatten}
-use Rattle.std.proofs.lemmas.Option.{same_Some, none-some}
-use Rattle.std.proofs.lemmas.List.Sums.{sum_by-cons}
+use Rattle.dom_base.proofs.Std.{◌≡◌, ◌⊎◌, inl, inr, ℕ, zero, suc, Bool, true, false, cond, List, [], ◌∷◌, Option, Some, None, is_some, refl, sym, ap, ◌∙◌}
+use Rattle.dom_base.proofs.Std.{arith, count_by, slice_index_or, option_map, option_flatten, same_Some, none-some, sum_by-cons}
 use Rattle.slab.specs.Slab.{Slab, get, slab_len}
-use Rattle.dom_base.specs.declared.Owner.{Owner}
-use Rattle.dom_model.specs.Place.{Boundary}
+use Rattle.dom_model.proofs.Model.{Owner, Boundary}
 use Rattle.dom_ranges.specs.declared.ends.RangeEnd.{RangeEnd}
 use Rattle.dom_ranges.specs.declared.numbers.Numbers.{Numbers}
 use Rattle.dom_ranges.specs.declared.table.Points.{Points}
-use Rattle.dom_ranges.specs.Listed.{IsListed, IsListedAt, end_of, end_in}
-use Rattle.dom_ranges.specs.RangeSlots.{range_kept, HaveNumbers}
-use Rattle.dom_ranges.specs.Tables.{RangeList, RangeLists, ranges_of, range_in, range_from, ends_by, HasEndAt}
+use Rattle.dom_ranges.specs.Definitions.{IsListed, IsListedAt, end_of, end_in, range_kept, HaveNumbers, RangeList, RangeLists, ranges_of, range_in, range_from}
+use Rattle.dom_ranges.specs.Definitions.{ends_by, HasEndAt}
 use Rattle.dom_ranges.proofs.Writing.{Shows, range-standing}
 
 -- no rule rewrites anything

@@ -1,21 +1,13 @@
 -- What a table shows and keeps when a slot is written, filled or emptied.
-use Rattle.std.proofs.Common.{◌≡◌, ◌≢◌, ℕ, Bool, true, false, cond, List, [], ◌∷◌, ◌++◌, length, map, Option, Some, None, IsSome, is_some, refl, sym}
-use Rattle.std.proofs.Common.{ap, subst, ◌∙◌, ◌⊎◌, inl, inr, true≢false}
-use Rattle.std.specs.Prelude.{slice_get, slice_set, if◌then◌else◌}
-use Rattle.std.specs.Option.{option_map, option_flatten}
-use Rattle.std.proofs.lemmas.Bool.{cases_Bool, cases_eq}
-use Rattle.std.proofs.lemmas.List.{map-append, map-set, length-map}
-use Rattle.std.proofs.lemmas.Option.{same_Some, none-some, slice_get-map}
+use Rattle.dom_base.proofs.Std.{◌≡◌, ◌≢◌, ℕ, Bool, true, false, cond, List, [], ◌∷◌, ◌++◌, length, map, Option, Some, None, IsSome, is_some, refl, sym, ap}
+use Rattle.dom_base.proofs.Std.{subst, ◌∙◌, ◌⊎◌, inl, inr, true≢false, slice_get, slice_set, if◌then◌else◌, option_map, option_flatten, cases_Bool, cases_eq}
+use Rattle.dom_base.proofs.Std.{map-append, map-set, length-map, same_Some, none-some, slice_get-map}
 use Rattle.slab.specs.Slab.{Slab, get, Updates}
-use Rattle.dom_base.specs.declared.Owner.{Owner}
-use Rattle.dom_model.specs.Names.{owner_eq}
-use Rattle.dom_model.proofs.OwnerLaws.{owner_eq-same, owner_eq-true, owner_eq-false}
-use Rattle.dom_model.specs.Ranges.{Range}
+use Rattle.dom_model.proofs.Model.{Owner, owner_eq, owner_eq-same, owner_eq-true, owner_eq-false, Range}
 use Rattle.dom_ranges.specs.declared.numbers.Numbers.{Numbers}
 use Rattle.dom_ranges.specs.declared.table.Points.{Points}
-use Rattle.dom_ranges.specs.Staying.{HasRanges}
-use Rattle.dom_ranges.specs.Tables.{RangeLists, ranges_of, range_in, range_from, with_ranges}
-use Rattle.dom_ranges.specs.RangeSlots.{slots_of, range_kept, shown, StandsUnder, HaveNumbers}
+use Rattle.dom_ranges.specs.Definitions.{HasRanges, RangeLists, ranges_of, range_in, range_from, with_ranges, slots_of, range_kept, shown, StandsUnder}
+use Rattle.dom_ranges.specs.Definitions.{HaveNumbers}
 use Rattle.dom_ranges.proofs.Holding.{ranges_of-shown}
 use Rattle.dom_ranges.proofs.Lists.{map_kept, map_twice, map_set, set_over, set-at, set-absent, set-other, append-cases, append-kept, append-last}
 

@@ -7,3 +7,4 @@ pub mod Settings
 pub mod Naming
 pub mod Listed
 pub mod Staying
+pub mod Definitions

@@ -1,12 +1,7 @@
 -- The parts of a text between bytes of one kind, one after the other.
-use Rattle.std.proofs.Common.{◌≡◌, ℕ, zero, suc, ◌+◌, Bool, false, eqb, List, [], ◌∷◌, ◌++◌, length, Option, Some, None, ap, ◌∙◌, arith, refl}
-use Rattle.std.specs.List.{All, AllByRecursion, slice_split}
-use Rattle.std.specs.Borrow.{Bor}
-use Rattle.std.proofs.lemmas.List.Splits.{slice_split_at, slice_split_none}
-use Rattle.std.specs.Prelude.{codes}
-use Rattle.std.proofs.lemmas.Bool.{ne_eqb, eq-eqb}
-use Rattle.std.proofs.lemmas.List.Splits.{length-slice_split}
-use Rattle.dom_text.specs.Readers.{between_commas, take_name, show_of_names}
+use Rattle.dom_base.proofs.Std.{◌≡◌, ℕ, zero, suc, ◌+◌, Bool, false, eqb, List, [], ◌∷◌, ◌++◌, length, Option, Some, None, ap, ◌∙◌, arith, refl, All}
+use Rattle.dom_base.proofs.Std.{AllByRecursion, slice_split, Bor, slice_split_at, slice_split_none, codes, ne_eqb, eq-eqb, length-slice_split}
+use Rattle.dom_text.specs.Definitions.{between_commas, take_name, show_of_names}
 use Rattle.dom_reader.proofs.Firsts.{Lacks}
 
 -- a fact of each byte, by its place

@@ -1,11 +1,9 @@
 -- A piece that is fed line by line.
-use Rattle.std.proofs.Common.{◌≡◌, ℕ, ◌+◌, List, [], ◌∷◌, ◌++◌, length, take, drop, map, refl, sym, ap, subst, ◌∙◌, append_assoc, append-nil}
-use Rattle.std.specs.Prelude.{Result, Ok, Err, OnOk, OnErr, is_ok, if◌then◌else◌}
-use Rattle.std.proofs.lemmas.List.{map-append}
+use Rattle.dom_base.proofs.Std.{◌≡◌, ℕ, ◌+◌, List, [], ◌∷◌, ◌++◌, length, take, drop, map, refl, sym, ap, subst, ◌∙◌, append_assoc, append-nil, Result, Ok, Err}
+use Rattle.dom_base.proofs.Std.{OnOk, OnErr, is_ok, if◌then◌else◌, map-append, take-append_seam}
 use Rattle.memchr.specs.Find.{NoneBefore, Nowhere, Passes, is_byte}
 use Rattle.dom_reader.proofs.Firsts.{cut_at_first, none_found}
-use Rattle.std.proofs.Math.Seq.{take-append_seam}
-use Rattle.dom_text.specs.Lines.{line_feed, Cut, cut_of, kept_line, IsOneLine}
+use Rattle.dom_text.specs.Definitions.{line_feed, Cut, cut_of, kept_line, IsOneLine}
 use Rattle.dom_reader.specs.Streams.{IsKept, kept_cut, fed, after_lines, IsFedPart}
 use Rattle.dom_reader.proofs.StreamLaws.{kept_line-none, cut_of-front, cut_of-one_line, one_line-append, fed-none, fed-pieces, fed-is_kept}
 

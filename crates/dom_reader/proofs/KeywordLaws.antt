@@ -1,9 +1,7 @@
 -- A command's word is found among those with its first byte.
-use Rattle.std.proofs.Common.{◌≡◌, ℕ, Bool, true, false, List, [], ◌∷◌, Some, None, Bor, cond, refl, sym, ap, ◌∙◌, eq-eqb, ◌<◌, length, get_or, arith}
-use Rattle.std.specs.Prelude.{find, filter, bytes_eq, map, option_map}
-use Rattle.std.proofs.lemmas.Iterator.Adapters.{option_map_id}
-use Rattle.dom_text.specs.Commands.{Keyword, keyword_word, keywords}
-use Rattle.dom_text.specs.Readers.{named}
+use Rattle.dom_base.proofs.Std.{◌≡◌, ℕ, Bool, true, false, List, [], ◌∷◌, Some, None, Bor, cond, refl, sym, ap, ◌∙◌, eq-eqb, ◌<◌, length, get_or, arith, find}
+use Rattle.dom_base.proofs.Std.{filter, bytes_eq, map, option_map, option_map_id}
+use Rattle.dom_text.specs.Definitions.{Keyword, keyword_word, keywords, named}
 use Rattle.dom_text.specs.Decode.{keyword_of}
 use Rattle.dom_text.proofs.NumberLaws.{bytes_eq-true}
 use Rattle.dom_reader.specs.declared.keywords.Keyword.{Keyword as Grouped}

@@ -1,10 +1,10 @@
 -- The last word of a line, where there is one more.
-use Rattle.std.proofs.Common.{◌≡◌, false, ℕ, List, [], ◌∷◌, Option, Some, None, refl}
+use Rattle.dom_base.proofs.Std.{◌≡◌, false, ℕ, List, [], ◌∷◌, Option, Some, None, refl}
 use Rattle.dom_words.specs.declared.not_read.NotRead.{NotRead}
 use Rattle.dom_words.specs.declared.not_read.NotRead.TheVariants.{Syntax, Memory}
 use Rattle.dom_words.specs.Gives.{Fails}
-use Rattle.dom_model.specs.Names.{Word, is_empty}
-use Rattle.dom_text.specs.Readers.{◌>>=◌, at_end, next_word, last_as}
+use Rattle.dom_model.proofs.Model.{Word, is_empty}
+use Rattle.dom_text.specs.Definitions.{◌>>=◌, at_end, next_word, last_as}
 use Rattle.dom_reader.specs.Filters.{last_word}
 
 -- The word at the end of a line that goes on, and what it says.

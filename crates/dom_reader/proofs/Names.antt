@@ -1,11 +1,6 @@
 -- Names are ASCII, and so bytes of words.
-use Rattle.std.proofs.Common.{◌≡◌, ℕ, true, List, [], ◌∷◌, refl, arith}
-use Rattle.std.specs.Prelude.{◌||◌, ◌==◌}
-use Rattle.std.specs.List.{list_all}
-use Rattle.std.specs.Char.{is_ascii_graphic}
-use Rattle.std.proofs.lemmas.Bool.{and_parts, and_from, or_left}
-use Rattle.std.proofs.lemmas.Bool.Decides.{nat_tests}
-use Rattle.dom_model.specs.Names.{begins_name, continues_name, is_digit, is_name}
+use Rattle.dom_base.proofs.Std.{◌≡◌, ℕ, true, List, [], ◌∷◌, refl, arith, ◌||◌, ◌==◌, list_all, is_ascii_graphic, and_parts, and_from, or_left, nat_tests}
+use Rattle.dom_model.proofs.Model.{begins_name, continues_name, is_digit, is_name}
 
 -- the bytes of a name are bytes of words
 graphic_letter : (b : ℕ) → continues_name b ≡ true → is_ascii_graphic b ≡ true

@@ -1,14 +1,11 @@
 -- Parts of a text, each of which is to be a name.
-use Rattle.std.proofs.Common.{◌≡◌, ℕ, Bool, true, false, List, [], ◌∷◌, ◌++◌, Some, None, refl, ap, sym, ◌∙◌, append_assoc, append-nil, arith}
-use Rattle.std.proofs.lemmas.Grind.{common_steps}
-use Rattle.std.specs.Prelude.{map, ◌&&◌}
-use Rattle.std.specs.List.{list_all}
-use Rattle.std.proofs.lemmas.List.{map-append}
+use Rattle.dom_base.proofs.Std.{◌≡◌, ℕ, Bool, true, false, List, [], ◌∷◌, ◌++◌, Some, None, refl, ap, sym, ◌∙◌, append_assoc, append-nil, arith, common_steps}
+use Rattle.dom_base.proofs.Std.{map, ◌&&◌, list_all, map-append}
 use Rattle.dom_words.specs.declared.not_read.NotRead.{NotRead}
 use Rattle.dom_words.specs.declared.not_read.NotRead.TheVariants.{Syntax, Memory}
 use Rattle.dom_words.specs.Gives.{Fails}
-use Rattle.dom_model.specs.Names.{is_name}
-use Rattle.dom_text.specs.Readers.{only_if}
+use Rattle.dom_model.proofs.Model.{is_name}
+use Rattle.dom_text.specs.Definitions.{only_if}
 
 -- what was put behind the others, seen one by one
 pub put_behind : {X Y : Type 0} (seen : X → Y) (xs after : List X) (x : X) → after ≡ xs ++ x ∷ [] → map seen after ≡ map seen xs ++ seen x ∷ []

@@ -1,10 +1,8 @@
 -- Laws of lines that come in pieces: whatever the pieces, the lines are those of the whole stream.
-use Rattle.std.proofs.Common.{◌≡◌, ℕ, zero, suc, ◌+◌, ◌-◌, ◌≤◌, Bool, true, false, eqb, List, [], ◌∷◌, ◌++◌, length, take, map, min, refl, sym, ap}
-use Rattle.std.proofs.Common.{◌∙◌, append_assoc, arith, inl, inr}
-use Rattle.std.proofs.lemmas.Bool.{cases_lt}
-use Rattle.std.proofs.lemmas.List.{map-append, length-append, length-take, take_all}
-use Rattle.std.proofs.Math.Seq.{take-append-add}
-use Rattle.dom_text.specs.Lines.{line_feed, lines_of, Cut, byte_before, cut_of, last_line, max_line, kept_line, IsOneLine}
+use Rattle.dom_base.proofs.Std.{◌≡◌, ℕ, zero, suc, ◌+◌, ◌-◌, ◌≤◌, Bool, true, false, eqb, List, [], ◌∷◌, ◌++◌, length, take, map, min, refl, sym, ap, ◌∙◌}
+use Rattle.dom_base.proofs.Std.{append_assoc, arith, inl, inr, cases_lt, map-append, length-append, length-take, take_all, take-append-add}
+use Rattle.dom_text.specs.Definitions.{line_feed, lines_of, Cut, byte_before, cut_of, last_line, max_line, IsOneLine}
+use Rattle.dom_text.specs.Lines.{kept_line}
 use Rattle.dom_text.proofs.LineLaws.{lines_of-cut, cut_of-pieces}
 use Rattle.dom_reader.specs.Streams.{kept_cut, fed, after_lines, fed_all, stream_of, IsKept}
 

@@ -1,7 +1,7 @@
 -- A line that lies whole in the bytes that came: what it is, and what feeding it would have made.
-use Rattle.std.proofs.Common.{◌≡◌, ℕ, ◌+◌, ◌<◌, List, [], ◌∷◌, ◌++◌, length, take, drop, min, sym, ap, ◌∙◌, append_assoc, length-append, arith}
+use Rattle.dom_base.proofs.Std.{◌≡◌, ℕ, ◌+◌, ◌<◌, List, [], ◌∷◌, ◌++◌, length, take, drop, min, sym, ap, ◌∙◌, append_assoc, length-append, arith}
 use Rattle.memchr.specs.Find.{NoneBefore, Passes, is_byte}
-use Rattle.dom_text.specs.Lines.{line_feed, max_line}
+use Rattle.dom_text.specs.Definitions.{line_feed, max_line}
 use Rattle.dom_reader.specs.Streams.{fed, IsWholeLine}
 use Rattle.dom_reader.proofs.Firsts.{cut_at_first}
 use Rattle.dom_reader.proofs.StreamLaws.{kept_line-room}

@@ -1,12 +1,8 @@
 -- Tests of lists whose items are seen in some way.
-use Rattle.std.proofs.Common.{◌≡◌, ℕ, Bool, List, [], ◌∷◌, Option, Some, None, refl, ap, sym}
-use Rattle.std.specs.Prelude.{not, ◌&&◌, ◌||◌, map}
-use Rattle.std.specs.List.{list_any, list_all}
-use Rattle.std.specs.Option.{option_map, is_some}
-use Rattle.std.proofs.lemmas.Option.{none-some}
-use Rattle.dom_base.specs.declared.NodeName.{NodeName}
-use Rattle.dom_model.specs.Names.{last_of, is_empty}
-use Rattle.dom_laws.proofs.Lists.{no_last}
+use Rattle.dom_base.proofs.Std.{◌≡◌, ℕ, Bool, List, [], ◌∷◌, Option, Some, None, refl, ap, sym, not, ◌&&◌, ◌||◌, map, list_any, list_all, option_map, is_some}
+use Rattle.dom_base.proofs.Std.{none-some}
+use Rattle.dom_model.proofs.Model.{NodeName, last_of, is_empty}
+use Rattle.dom_laws.proofs.Laws.{no_last}
 
 -- all that are seen pass where all pass as they are seen
 pub all_seen : {X Y : Type 0} (test : Y → Bool) (view : X → Y) (xs : List X) → list_all (λ x. test (view x)) xs ≡ list_all test (map view xs)

@@ -1,17 +1,10 @@
 -- A search along a run of `>` and `+`, step by step: what it has come to answers for what it began with.
-use Rattle.std.proofs.Common.{◌≡◌, inl, inr, Bool, true, false, List, [], ◌∷◌, ◌++◌, Option, Some, None, refl, ap, sym, subst, ◌∙◌, append_assoc, true≢false}
-use Rattle.std.specs.Prelude.{◌&&◌, option_to_list}
-use Rattle.std.specs.List.{list_any}
-use Rattle.std.proofs.lemmas.Bool.{and_parts, and_left}
-use Rattle.dom_base.specs.declared.NodeName.{NodeName}
-use Rattle.dom_model.specs.Names.{last_of}
-use Rattle.dom_model.specs.Tree.{Trees, ancestors, parent_of}
-use Rattle.dom_model.specs.Selectors.{Complex, alone, joined, Combinator, child, next, CompoundPart, compound_matches, complex_matches}
-use Rattle.dom_model.specs.Selectors.{combined_with, elements_before}
-use Rattle.dom_laws.proofs.Lists.{In, In-left, In-right, In-parts}
-use Rattle.dom_laws.proofs.Shapes.{Has, proper-parent}
-use Rattle.dom_laws.proofs.Counts.{Once}
-use Rattle.dom_selectors.specs.Search.{last_compound, elements_to, MatchesAbove}
+use Rattle.dom_base.proofs.Std.{◌≡◌, inl, inr, Bool, true, false, List, [], ◌∷◌, ◌++◌, Option, Some, None, refl, ap, sym, subst, ◌∙◌, append_assoc, true≢false}
+use Rattle.dom_base.proofs.Std.{◌&&◌, option_to_list, list_any, and_parts, and_left}
+use Rattle.dom_model.proofs.Model.{NodeName, last_of, Trees, ancestors, parent_of, Complex, alone, joined, Combinator, child, next, CompoundPart}
+use Rattle.dom_model.proofs.Model.{compound_matches, complex_matches, combined_with, elements_before}
+use Rattle.dom_laws.proofs.Laws.{In, In-left, In-right, In-parts, Has, proper-parent, Once}
+use Rattle.dom_selectors.specs.Definitions.{last_compound, elements_to, MatchesAbove}
 use Rattle.dom_selectors.proofs.JoinedLaws.{or_none}
 use Rattle.dom_selectors.proofs.Earlier.{any-passes, passes-any, stands-matching, IsEarlier, earlier-in, nearest}
 

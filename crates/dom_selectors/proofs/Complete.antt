@@ -1,17 +1,12 @@
 -- What is in the grammar is read: tokens and simple selectors.
-use Rattle.std.proofs.Common.{◌≡◌, ℕ, Bool, true, false, [], ◌∷◌, ◌++◌, Option, Some, None, refl, ap, ◌∙◌, append_assoc, arith}
-use Rattle.std.specs.Prelude.{◌||◌, ◌==◌, option_map, take_while, codes}
-use Rattle.std.specs.Option.{option_and_then, option_or}
-use Rattle.std.specs.List.{list_all}
-use Rattle.std.proofs.lemmas.Bool.{cond-true, cond-false, and_parts, eq-eqb}
-use Rattle.std.proofs.lemmas.Bool.Decides.{nat_tests}
-use Rattle.std.proofs.lemmas.List.Sums.{take_while-cons}
-use Rattle.dom_model.specs.Names.{Word, DomString, begins_name, continues_name, is_name}
-use Rattle.dom_model.specs.Selectors.{Simple, AttributeTest, is_space, of_type, of_any_type, of_id, of_class, with_attribute, with_value, first_child}
-use Rattle.dom_model.specs.Selectors.{last_child, equals, has_word, begins_with_dash, begins, ends, holds}
-use Rattle.dom_model.specs.SelectorText.{drop_while, skip_space, read_map, expect, closed_by, read_name, may_stand_quoted, read_quoted, read_value}
-use Rattle.dom_model.specs.SelectorText.{read_one_of, signs, read_test_of, read_test, read_attribute, read_simple}
-use Rattle.dom_selectors.specs.Grammar.{IsBracketed, IsTested, IsSpaces, IsValue, plain, double, single, sign, IsSimple}
+use Rattle.dom_base.proofs.Std.{◌≡◌, ℕ, Bool, true, false, [], ◌∷◌, ◌++◌, Option, Some, None, refl, ap, ◌∙◌, append_assoc, arith, ◌||◌, ◌==◌, option_map}
+use Rattle.dom_base.proofs.Std.{take_while, codes, option_and_then, option_or, list_all, cond-true, cond-false, and_parts, eq-eqb, nat_tests, take_while-cons}
+use Rattle.dom_model.proofs.Model.{Word, DomString, begins_name, continues_name, is_name, Simple, AttributeTest, is_space, of_type, of_any_type, of_id}
+use Rattle.dom_model.proofs.Model.{of_class, with_value, first_child, last_child, equals, has_word, begins_with_dash, begins, ends, holds, drop_while}
+use Rattle.dom_model.proofs.Model.{skip_space, read_map, expect, closed_by, read_name, may_stand_quoted, read_quoted, read_value, read_one_of, signs}
+use Rattle.dom_model.proofs.Model.{read_test_of, read_test, read_attribute, read_simple}
+use Rattle.dom_model.specs.Selectors.{with_attribute}
+use Rattle.dom_selectors.specs.Definitions.{IsBracketed, IsTested, IsSpaces, IsValue, plain, double, single, sign, IsSimple}
 use Rattle.dom_selectors.proofs.TokenLaws.{expect_at}
 
 -- whether the first unit passes

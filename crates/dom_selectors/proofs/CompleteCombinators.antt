@@ -1,22 +1,12 @@
 -- What is in the grammar is read: combinators, complex selectors and lists.
-use Rattle.std.proofs.Common.{◌≡◌, ◌<◌, false, List, [], ◌∷◌, ◌++◌, length, Option, Some, None, refl, ap, sym, subst, ◌∙◌}
-use Rattle.std.proofs.Common.{append_assoc, length-append, arith}
-use Rattle.std.specs.Prelude.{◌||◌, ◌==◌, fold, option_map, codes, nat_lt, if◌then◌else◌}
-use Rattle.std.specs.Option.{option_and_then, option_or}
-use Rattle.std.specs.List.{list_all}
-use Rattle.std.proofs.lemmas.Bool.{cond-true, cond_both, and_parts, or_parts, lt-ltb, false≢true}
-use Rattle.std.proofs.lemmas.List.{append-nil}
-use Rattle.std.proofs.lemmas.Option.{none-some}
-use Rattle.dom_model.specs.Names.{DomString, is_empty}
-use Rattle.dom_model.specs.Selectors.{CompoundPart, Combinator, Complex, is_space}
-use Rattle.dom_model.specs.Selectors.{descendant, child, next, later, alone}
-use Rattle.dom_model.specs.SelectorText.{skip_space, read_map, expect, read_all, read_one_of}
-use Rattle.dom_model.specs.SelectorText.{read_compound, read_combinator, read_link, read_complex}
-use Rattle.dom_model.specs.SelectorText.{read_next, link, whole, parse_selectors}
-use Rattle.dom_selectors.specs.Grammar.{IsSpaces, IsSpaced, IsCombinator, IsLink}
-use Rattle.dom_selectors.specs.Grammar.{IsComplex, IsSelector}
-use Rattle.dom_selectors.specs.Texts.{combinator_signs}
-use Rattle.dom_selectors.specs.Reads.{behind_list}
+use Rattle.dom_base.proofs.Std.{◌≡◌, ◌<◌, false, List, [], ◌∷◌, ◌++◌, length, Option, Some, None, refl, ap, sym, subst, ◌∙◌, append_assoc, length-append, arith}
+use Rattle.dom_base.proofs.Std.{◌||◌, ◌==◌, fold, option_map, codes, nat_lt, if◌then◌else◌, option_and_then, option_or, list_all, cond-true, cond_both}
+use Rattle.dom_base.proofs.Std.{and_parts, or_parts, lt-ltb, false≢true, append-nil, none-some}
+use Rattle.dom_model.proofs.Model.{DomString, is_empty, CompoundPart, Combinator, Complex, is_space, descendant, child, next, later, alone, skip_space}
+use Rattle.dom_model.proofs.Model.{read_map, expect, read_all, read_one_of, read_compound, read_combinator, read_link, read_complex, read_next, link}
+use Rattle.dom_model.proofs.Model.{parse_selectors}
+use Rattle.dom_model.specs.SelectorText.{whole}
+use Rattle.dom_selectors.specs.Definitions.{IsSpaces, IsSpaced, IsCombinator, IsLink, IsComplex, IsSelector, combinator_signs, behind_list}
 use Rattle.dom_selectors.proofs.Shorter.{link-ends, next-ends}
 use Rattle.dom_selectors.proofs.Repeats.{all-one, all-none}
 use Rattle.dom_selectors.proofs.Complete.{head_passes, skip-read}

@@ -1,26 +1,14 @@
 -- The elements before a node among its siblings: how they split, and what stands above them.
-use Rattle.std.proofs.Common.{◌≡◌, inl, inr, ℕ, ◌<◌, Bool, true, false, List, [], ◌∷◌, ◌++◌, length, Option, Some, None, refl, ap, sym, subst, ◌∙◌}
-use Rattle.std.proofs.Common.{arith, append_assoc, length-append, true≢false}
-use Rattle.std.specs.Prelude.{◌||◌, filter}
-use Rattle.std.specs.List.{list_any, find}
-use Rattle.std.specs.Option.{option_map, ForSome}
-use Rattle.std.proofs.lemmas.Option.{none-some, same_Some}
-use Rattle.std.specs.Prelude.{unwrap_or}
-use Rattle.std.proofs.lemmas.Bool.{cases_Bool, or_left, or_right, or_cases, and_parts}
-use Rattle.std.proofs.lemmas.List.Folds.{list_any-append}
-use Rattle.dom_base.specs.declared.NodeName.{NodeName}
-use Rattle.dom_model.specs.Names.{name_eq, last_of, items_before, items_after}
-use Rattle.dom_model.specs.Tree.{Trees, Node, nodes, names_of, no_node, is_element, kind_of, ancestors, inclusive_ancestors, parent_of}
-use Rattle.dom_model.specs.Selectors.{compound_matches, elements_before, CompoundPart}
-use Rattle.dom_model.proofs.OwnerLaws.{name_eq-other}
-use Rattle.dom_tree.specs.Forest.{NamedTrees, name_at}
-use Rattle.dom_laws.proofs.Lists.{In, split_at, last_split, no_last, filter-yes, filter-no}
-use Rattle.dom_laws.proofs.Shapes.{Has, has_or_not, Has-above, above-proper, proper-parent}
-use Rattle.dom_laws.proofs.Counts.{Once}
-use Rattle.dom_laws.proofs.Children.{Has-names}
-use Rattle.dom_laws.proofs.Chains.{above-split}
+use Rattle.dom_base.proofs.Std.{◌≡◌, inl, inr, ℕ, ◌<◌, Bool, true, false, List, [], ◌∷◌, ◌++◌, length, Option, Some, None, refl, ap, sym, subst, ◌∙◌, arith}
+use Rattle.dom_base.proofs.Std.{append_assoc, length-append, true≢false, ◌||◌, filter, list_any, find, option_map, ForSome, none-some, same_Some, unwrap_or}
+use Rattle.dom_base.proofs.Std.{cases_Bool, or_left, or_right, or_cases, and_parts, list_any-append}
+use Rattle.dom_model.proofs.Model.{NodeName, name_eq, last_of, items_before, items_after, Trees, Node, nodes, names_of, no_node, is_element, kind_of, ancestors}
+use Rattle.dom_model.proofs.Model.{inclusive_ancestors, parent_of, compound_matches, elements_before, CompoundPart, name_eq-other}
+use Rattle.dom_tree.specs.Definitions.{NamedTrees, name_at}
+use Rattle.dom_laws.proofs.Laws.{In, split_at, last_split, no_last, filter-yes, filter-no, Has, has_or_not, Has-above, above-proper, proper-parent, Once}
+use Rattle.dom_laws.proofs.Laws.{Has-names, above-split}
 use Rattle.dom_tree.proofs.Standing.{StandOnce, StandAlone, Once-forest, Has-forest}
-use Rattle.dom_selectors.specs.Search.{elements_to}
+use Rattle.dom_selectors.specs.Definitions.{elements_to}
 use Rattle.dom_selectors.proofs.Beside.{before_list, before-at}
 use Rattle.dom_selectors.proofs.JoinedLaws.{from_above, above-parent, or_none}
 

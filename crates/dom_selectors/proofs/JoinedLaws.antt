@@ -1,22 +1,13 @@
 -- Complex selectors seen from the right, and the ancestors of a node one after another.
-use Rattle.std.proofs.Common.{◌≡◌, ℕ, suc, ◌<◌, Bool, true, false, List, [], ◌∷◌, ◌++◌, length, Option, Some, None, refl, ap, sym, ◌∙◌, arith}
-use Rattle.std.specs.Prelude.{◌||◌, map, fold}
-use Rattle.std.specs.List.{list_any}
-use Rattle.std.specs.Option.{option_map}
-use Rattle.std.proofs.lemmas.List.{map-append}
-use Rattle.std.proofs.lemmas.List.Sums.{fold-append}
-use Rattle.dom_base.specs.declared.NodeName.{NodeName}
-use Rattle.dom_model.specs.Selectors.{alone, joined}
-use Rattle.dom_model.specs.SelectorText.{link}
-use Rattle.dom_model.specs.Tree.{Trees, ancestors, parent_of}
-use Rattle.dom_tree.specs.Forest.{NamedTrees, name_at}
+use Rattle.dom_base.proofs.Std.{◌≡◌, ℕ, suc, ◌<◌, Bool, true, false, List, [], ◌∷◌, ◌++◌, length, Option, Some, None, refl, ap, sym, ◌∙◌, arith, ◌||◌, map}
+use Rattle.dom_base.proofs.Std.{fold, list_any, option_map, map-append, fold-append, drop}
+use Rattle.dom_model.proofs.Model.{NodeName, alone, joined, link, Trees, ancestors, parent_of}
+use Rattle.dom_tree.specs.Definitions.{NamedTrees, name_at}
 use Rattle.dom_selectors.specs.declared.selector.CompoundPart.{CompoundPart}
 use Rattle.dom_selectors.specs.declared.selector.Link.{Link}
-use Rattle.dom_selectors.specs.Views.{compound_view, combinator_view, link_view, complex_from}
+use Rattle.dom_selectors.specs.Definitions.{compound_view, combinator_view, link_view, complex_from}
 use Rattle.dom_tree.proofs.Standing.{StandOnce, StandAlone, Once-forest, Has-forest}
-use Rattle.dom_laws.proofs.Shapes.{Has, above-root, proper-parent}
-use Rattle.dom_laws.proofs.Counts.{Once}
-use Rattle.std.specs.Prelude.{drop}
+use Rattle.dom_laws.proofs.Laws.{Has, above-root, proper-parent, Once}
 
 -- a last link is the outermost
 pub joined_last : (first : List CompoundPart) (left : List Link) (last : Link) →

@@ -1,12 +1,7 @@
 -- Names are ASCII.
-use Rattle.std.proofs.Common.{◌≡◌, ℕ, zero, suc, ◌<◌, Bool, true, false, cond, List, [], ◌∷◌, Option, Some, None, refl, ap, sym, subst, ◌∙◌, arith}
-use Rattle.std.specs.Prelude.{◌||◌, ◌==◌, take_while}
-use Rattle.std.specs.Str.{IsAscii}
-use Rattle.std.proofs.lemmas.Bool.{or_left, cond-true, cond-false, cond_both}
-use Rattle.std.proofs.lemmas.List.Sums.{take_while-cons}
-use Rattle.std.proofs.lemmas.Bool.Decides.{nat_tests}
-use Rattle.dom_model.specs.Names.{Word, DomString, begins_name, continues_name, is_digit}
-use Rattle.dom_model.specs.SelectorText.{drop_while, read_name}
+use Rattle.dom_base.proofs.Std.{◌≡◌, ℕ, zero, suc, ◌<◌, Bool, true, false, cond, List, [], ◌∷◌, Option, Some, None, refl, ap, sym, subst, ◌∙◌, arith, ◌||◌}
+use Rattle.dom_base.proofs.Std.{◌==◌, take_while, IsAscii, or_left, cond-true, cond-false, cond_both, take_while-cons, nat_tests}
+use Rattle.dom_model.proofs.Model.{Word, DomString, begins_name, continues_name, is_digit, drop_while, read_name}
 
 -- a unit of a name is below 128
 name_unit : (c : ℕ) → continues_name c ≡ true → c < 128

@@ -1,16 +1,13 @@
 -- The walk along the siblings on one side of a node, as far as the nearest element.
-use Rattle.std.proofs.Common.{◌≡◌, ℕ, suc, ◌<◌, Bool, true, false, List, [], ◌∷◌, ◌++◌, length, Option, Some, None, refl, ap, sym, ◌∙◌, arith, length-append}
-use Rattle.std.specs.Prelude.{filter}
-use Rattle.std.specs.Option.{option_map}
-use Rattle.dom_base.specs.declared.NodeName.{NodeName}
-use Rattle.dom_model.specs.Names.{first_of, last_of}
-use Rattle.dom_model.specs.Tree.{Trees, is_element, kind_of}
-use Rattle.dom_tree.specs.Forest.{NamedTrees, name_at}
+use Rattle.dom_base.proofs.Std.{◌≡◌, ℕ, suc, ◌<◌, Bool, true, false, List, [], ◌∷◌, ◌++◌, length, Option, Some, None, refl, ap, sym, ◌∙◌, arith, length-append}
+use Rattle.dom_base.proofs.Std.{filter, option_map}
+use Rattle.dom_model.proofs.Model.{NodeName, first_of, last_of, Trees, is_element, kind_of}
+use Rattle.dom_tree.specs.Definitions.{NamedTrees, name_at}
 use Rattle.dom_tree.proofs.Standing.{StandOnce, StandAlone, Once-forest, Has-forest}
-use Rattle.dom_laws.proofs.Lists.{filter-no, first-hit, last-hit, last-miss}
+use Rattle.dom_laws.proofs.Laws.{filter-no, first-hit, last-hit, last-miss}
 use Rattle.dom_selectors.specs.declared.siblings.Side.{Side}
 use Rattle.dom_selectors.specs.declared.siblings.Side.TheVariants.{Before, Behind}
-use Rattle.dom_selectors.specs.Siblings.{sibling_on, element_on}
+use Rattle.dom_selectors.specs.Definitions.{sibling_on, element_on}
 use Rattle.dom_selectors.proofs.Beside.{before_list, after_list, up_to, from, before-previous, after-next}
 
 -- the siblings on a side of a node

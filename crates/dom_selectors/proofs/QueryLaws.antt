@@ -1,13 +1,8 @@
 -- A walk through the tree below a node.
-use Rattle.std.proofs.Common.{◌≡◌, ℕ, Bool, true, false, List, [], ◌∷◌, ◌++◌, ap, sym, ◌∙◌, append_assoc}
-use Rattle.std.specs.Prelude.{map, filter, drop}
-use Rattle.std.proofs.lemmas.List.{map-append}
-use Rattle.dom_base.specs.declared.NodeName.{NodeName}
-use Rattle.dom_model.specs.Tree.{Trees, descendants}
+use Rattle.dom_base.proofs.Std.{◌≡◌, ℕ, Bool, true, false, List, [], ◌∷◌, ◌++◌, ap, sym, ◌∙◌, append_assoc, map, filter, drop, map-append}
+use Rattle.dom_model.proofs.Model.{NodeName, Trees, descendants}
 use Rattle.dom_laws.specs.Within.{behind}
-use Rattle.dom_laws.proofs.Lists.{filter-yes, filter-no}
-use Rattle.dom_laws.proofs.Order.{IsWithin}
-use Rattle.dom_laws.proofs.Steps.{ordered, top_places}
+use Rattle.dom_laws.proofs.Laws.{filter-yes, filter-no, IsWithin, ordered, top_places}
 
 -- the nodes behind the top are those below it
 pub behind_top : (ts : Trees) (top : NodeName) → IsWithin ts top top → behind ts top top ≡ descendants ts top

@@ -1,10 +1,8 @@
 -- Readers that read one after another.
-use Rattle.std.proofs.Common.{◌≡◌, ℕ, zero, suc, ◌<◌, ◌≤◌, List, [], ◌∷◌, ◌++◌, length, Option, Some, None, Bor, refl, ap, sym, ◌∙◌, arith, append_assoc}
-use Rattle.std.specs.Prelude.{map, option_map}
-use Rattle.std.proofs.lemmas.List.{map-append}
-use Rattle.dom_model.specs.Names.{DomString}
-use Rattle.dom_model.specs.SelectorText.{Reader, read_more, read_each, read_all}
-use Rattle.dom_selectors.specs.Reads.{behind_list}
+use Rattle.dom_base.proofs.Std.{◌≡◌, ℕ, zero, suc, ◌<◌, ◌≤◌, List, [], ◌∷◌, ◌++◌, length, Option, Some, None, Bor, refl, ap, sym, ◌∙◌, arith, append_assoc, map}
+use Rattle.dom_base.proofs.Std.{option_map, map-append}
+use Rattle.dom_model.proofs.Model.{DomString, Reader, read_more, read_each, read_all}
+use Rattle.dom_selectors.specs.Definitions.{behind_list}
 use Rattle.dom_selectors.proofs.Shorter.{Shrinks, Shrinks-rest, Ends}
 
 -- rounds at the end of the units read nothing

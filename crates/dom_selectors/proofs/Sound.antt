@@ -1,17 +1,13 @@
 -- What is read is in the grammar.
-use Rattle.std.proofs.Common.{◌≡◌, ℕ, Bool, true, false, [], ◌∷◌, ◌++◌, Option, Some, None, refl, ap, sym, subst, ◌∙◌, append_assoc}
-use Rattle.std.specs.Prelude.{◌||◌, ◌==◌, option_map, take_while, codes}
-use Rattle.std.specs.Option.{option_and_then, option_or}
-use Rattle.std.specs.List.{list_all}
-use Rattle.std.proofs.lemmas.Bool.{cond_both, cond-true, cond-false, and_from, eqb-true}
-use Rattle.std.proofs.lemmas.List.Sums.{take_while-cons}
-use Rattle.std.proofs.lemmas.List.Folds.{list_all-append}
-use Rattle.dom_model.specs.Names.{Word, DomString, begins_name, continues_name, is_name}
-use Rattle.dom_model.specs.Selectors.{Simple, AttributeTest, is_space, of_id, of_class, with_attribute, with_value, first_child, last_child, equals}
-use Rattle.dom_model.specs.Selectors.{has_word, begins_with_dash, begins, ends, holds}
-use Rattle.dom_model.specs.SelectorText.{Reader, drop_while, skip_space, read_map, expect, closed_by, read_name, may_stand_quoted, read_quoted}
-use Rattle.dom_model.specs.SelectorText.{read_value, read_one_of, signs, read_test_of, read_test, read_attribute, read_simple}
-use Rattle.dom_selectors.specs.Grammar.{Form, IsSpaces, IsName, IsQuoted, IsValue, plain, double, single, sign, IsSimple}
+use Rattle.dom_base.proofs.Std.{◌≡◌, ℕ, Bool, true, false, [], ◌∷◌, ◌++◌, Option, Some, None, refl, ap, sym, subst, ◌∙◌, append_assoc, ◌||◌, ◌==◌, option_map}
+use Rattle.dom_base.proofs.Std.{take_while, codes, option_and_then, option_or, list_all, cond_both, cond-true, cond-false, and_from, eqb-true, take_while-cons}
+use Rattle.dom_base.proofs.Std.{list_all-append}
+use Rattle.dom_model.proofs.Model.{Word, DomString, begins_name, continues_name, is_name, Simple, AttributeTest, is_space, of_id, of_class, with_value}
+use Rattle.dom_model.proofs.Model.{first_child, last_child, equals, has_word, begins_with_dash, begins, ends, holds, Reader, drop_while, skip_space, read_map}
+use Rattle.dom_model.proofs.Model.{expect, closed_by, read_name, may_stand_quoted, read_quoted, read_value, read_one_of, signs, read_test_of, read_test}
+use Rattle.dom_model.proofs.Model.{read_attribute, read_simple}
+use Rattle.dom_model.specs.Selectors.{with_attribute}
+use Rattle.dom_selectors.specs.Definitions.{Form, IsSpaces, IsName, IsQuoted, IsValue, plain, double, single, sign, IsSimple}
 use Rattle.dom_selectors.proofs.TokenLaws.{expect_at}
 
 -- what was read stands in front, if anything was

@@ -7,3 +7,4 @@ pub mod Words
 pub mod Grammar
 pub mod Laws
 pub mod Siblings
+pub mod Definitions

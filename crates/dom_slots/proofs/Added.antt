@@ -1,33 +1,16 @@
 -- A new node, alone in its tree, changes nothing of what is assigned.
-use Rattle.std.proofs.Common.{◌≡◌, ◌⊎◌, inl, inr, ℕ, ◌+◌, ◌<◌, ◌≤◌, Bool, true, false, List, [], ◌∷◌, ◌++◌, All, map, filter, drop, length, Option}
-use Rattle.std.proofs.Common.{Some, None, refl, sym, ap, subst, ◌∙◌, arith}
-use Rattle.std.specs.Prelude.{nat_eq, find, if◌then◌else◌, option_to_list, unwrap_or}
-use Rattle.std.specs.Option.{option_map, option_map_or, option_and_then, option_or}
-use Rattle.std.proofs.lemmas.Bool.{cases_Bool, cond-false, eqb-true}
-use Rattle.std.proofs.lemmas.List.{length_push}
-use Rattle.std.proofs.lemmas.List.Elements.{All-head, All-tail}
-use Rattle.std.proofs.lemmas.List.Folds.{find-append}
-use Rattle.std.proofs.Math.ListN.{get_or-append}
-use Rattle.std.proofs.Math.Nat.{eq-or-lt_of_le}
-use Rattle.std.proofs.Math.Seq.{get_or-append_seam}
-use Rattle.dom_base.specs.declared.NodeName.{NodeName}
-use Rattle.dom_base.specs.declared.Owner.TheVariants.{Page}
-use Rattle.dom_model.specs.Names.{name_eq, name_before, node_of, is_in, first_of, last_of}
-use Rattle.dom_model.specs.Tree.{Trees, none, tree, Node, nodes, roots, names_of, no_node, node_in, or_else, subtree, inclusive_ancestors, parent_of}
-use Rattle.dom_model.specs.Tree.{root_of, trees_below, children_of}
-use Rattle.dom_model.specs.TreeChanges.{with_node, put_root}
-use Rattle.dom_model.specs.Slots.{is_slot_element, slots_among, slot_in}
-use Rattle.dom_model.proofs.OwnerLaws.{name_eq-other}
-use Rattle.dom_tree.specs.Forest.{NamedTrees, name_at}
+use Rattle.dom_base.proofs.Std.{◌≡◌, ◌⊎◌, inl, inr, ℕ, ◌+◌, ◌<◌, ◌≤◌, Bool, true, false, List, [], ◌∷◌, ◌++◌, All, map, filter, drop, length, Option, Some}
+use Rattle.dom_base.proofs.Std.{None, refl, sym, ap, subst, ◌∙◌, arith, nat_eq, find, if◌then◌else◌, option_to_list, unwrap_or, option_map, option_map_or}
+use Rattle.dom_base.proofs.Std.{option_and_then, option_or, cases_Bool, cond-false, eqb-true, length_push, All-head, All-tail, find-append, get_or-append}
+use Rattle.dom_base.proofs.Std.{eq-or-lt_of_le, get_or-append_seam}
+use Rattle.dom_model.proofs.Model.{NodeName, Page, name_eq, name_before, node_of, is_in, first_of, last_of, Trees, none, tree, Node, nodes, roots, names_of}
+use Rattle.dom_model.proofs.Model.{no_node, node_in, or_else, subtree, inclusive_ancestors, parent_of, root_of, trees_below, children_of, with_node, put_root}
+use Rattle.dom_model.proofs.Model.{is_slot_element, slots_among, slot_in, name_eq-other}
+use Rattle.dom_tree.specs.Definitions.{NamedTrees, name_at}
 use Rattle.dom_tree.proofs.Standing.{Once-forest}
-use Rattle.dom_laws.proofs.Lists.{name_eq-from, same_or_not}
-use Rattle.dom_laws.proofs.Removal.{above-put_others}
-use Rattle.dom_laws.proofs.Shapes.{once_apart, Has, above-absent, subtree-absent}
-use Rattle.dom_laws.proofs.Counts.{Once}
-use Rattle.dom_slots.specs.Hosts.{ShadowHost, HostsAreNodes, host_named, root_named, host_of_root}
-use Rattle.dom_slots.specs.Kept.{SlotsNow, HasOneMore, AreSlotsOf}
-use Rattle.dom_slots.specs.Shadows.{ShadowTrees, shadow_trees, slot_at, assigned_at, assigned_under}
-use Rattle.dom_slots.specs.Tables.{list_of}
+use Rattle.dom_laws.proofs.Laws.{name_eq-from, same_or_not, above-put_others, once_apart, Has, above-absent, subtree-absent, Once}
+use Rattle.dom_slots.specs.Definitions.{ShadowHost, HostsAreNodes, host_named, root_named, host_of_root, SlotsNow, HasOneMore, AreSlotsOf, ShadowTrees}
+use Rattle.dom_slots.specs.Definitions.{shadow_trees, slot_at, assigned_at, assigned_under, list_of}
 use Rattle.dom_slots.proofs.Hosted.{host-key, root-key}
 
 -- ---- a tree of one node among others

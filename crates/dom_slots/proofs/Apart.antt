@@ -1,29 +1,16 @@
 -- A step that is made outside of shadow trees changes at most what is assigned to the old and to the new slot of its node,
 -- and signals no others.
-use Rattle.std.proofs.Common.{◌≡◌, inl, inr, ℕ, ◌<◌, Bool, true, false, ◌&&◌, List, [], ◌∷◌, ◌++◌, map, filter, length, Option, None, Some, refl, sym}
-use Rattle.std.proofs.Common.{ap, subst, ◌∙◌, true≢false}
-use Rattle.std.specs.Prelude.{if◌then◌else◌, is_none, is_some, option_to_list}
-use Rattle.std.specs.Option.{option_map, option_map_or, ForSome}
-use Rattle.std.proofs.lemmas.Bool.{and_parts}
-use Rattle.std.proofs.lemmas.List.{append-nil}
-use Rattle.std.proofs.lemmas.Option.{same_Some, none-some}
-use Rattle.dom_base.specs.declared.NodeName.{NodeName}
-use Rattle.dom_model.specs.Names.{name_eq, is_in, is_empty, distinct}
-use Rattle.dom_model.specs.Slots.{is_slot_element, slots_among}
-use Rattle.dom_model.specs.Tree.{Trees, node_in, subtree, parent_of, root_of}
-use Rattle.dom_model.specs.TreeChanges.{placed, taken_out, with_attribute}
-use Rattle.dom_tree.specs.Forest.{NamedTrees, name_at}
-use Rattle.dom_tree.specs.Apart.{TellApart}
-use Rattle.dom_laws.proofs.Lists.{In, In-parts}
-use Rattle.dom_laws.proofs.Shapes.{Has}
-use Rattle.dom_slots.specs.Hosts.{ShadowHost, host_named}
-use Rattle.dom_slots.specs.Insides.{own_slots}
-use Rattle.dom_slots.specs.Kept.{SlotsNow, StandsOnce, IsEndOf}
+use Rattle.dom_base.proofs.Std.{◌≡◌, inl, inr, ℕ, ◌<◌, Bool, true, false, ◌&&◌, List, [], ◌∷◌, ◌++◌, map, filter, length, Option, None, Some, refl, sym, ap}
+use Rattle.dom_base.proofs.Std.{subst, ◌∙◌, true≢false, if◌then◌else◌, is_none, is_some, option_to_list, option_map, option_map_or, ForSome, and_parts}
+use Rattle.dom_base.proofs.Std.{append-nil, same_Some, none-some}
+use Rattle.dom_model.proofs.Model.{NodeName, name_eq, is_in, is_empty, distinct, is_slot_element, slots_among, Trees, node_in, subtree, parent_of, root_of}
+use Rattle.dom_model.proofs.Model.{placed, taken_out, with_attribute}
+use Rattle.dom_tree.specs.Definitions.{NamedTrees, name_at, TellApart}
+use Rattle.dom_laws.proofs.Laws.{In, In-parts, Has}
+use Rattle.dom_slots.specs.Definitions.{ShadowHost, host_named, own_slots, SlotsNow, StandsOnce, IsEndOf, AreRenewed, IsButFor, shadows, shadow_trees, slot_at}
+use Rattle.dom_slots.specs.Definitions.{assigned_at, is_bare_at, is_changed_at, signalled_by, StepHasNodes, step_node, is_move, around_of, left_by, IsStepFrom}
+use Rattle.dom_slots.specs.Definitions.{step_signals, is_outside, is_apart, SlotTable, IsTableOf}
 use Rattle.dom_slots.specs.declared.step.SlotChange.{SlotChange}
-use Rattle.dom_slots.specs.Renewals.{AreRenewed, IsButFor}
-use Rattle.dom_slots.specs.Shadows.{shadows, shadow_trees, slot_at, assigned_at, is_bare_at, is_changed_at, signalled_by}
-use Rattle.dom_slots.specs.Steps.{StepHasNodes, step_node, is_move, around_of, left_by, IsStepFrom, step_signals, is_outside, is_apart}
-use Rattle.dom_slots.specs.Tables.{SlotTable, IsTableOf}
 use Rattle.dom_slots.specs.declared.step.Step.{Step}
 use Rattle.dom_slots.specs.declared.step.Step.TheVariants.{Place, Removal, Attribute}
 use Rattle.dom_slots.proofs.Attributed.{parent-changed, changed-keeps, changed-stays}

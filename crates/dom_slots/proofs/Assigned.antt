@@ -1,17 +1,10 @@
 -- A node in a table's list of a slot has this slot in the forest of the table.
-use Rattle.std.proofs.Common.{◌≡◌, inl, inr, ℕ, ◌<◌, Bool, true, false, List, [], ◌∷◌, map, length, filter, Option, Some, None, sym, ap, subst, ◌∙◌, true≢false}
-use Rattle.std.specs.Prelude.{nat_eq, option_to_list}
-use Rattle.std.specs.Option.{option_map_or}
-use Rattle.std.proofs.lemmas.Bool.{cases_Bool, cases_lt, eqb-true, or_cases}
-use Rattle.dom_base.specs.declared.NodeName.{NodeName}
-use Rattle.dom_model.specs.Names.{name_eq, is_in}
-use Rattle.dom_model.specs.Tree.{children_of, root_of}
-use Rattle.dom_model.proofs.OwnerLaws.{name_eq-true}
-use Rattle.dom_tree.specs.Forest.{NamedTrees, name_at}
-use Rattle.dom_laws.proofs.Lists.{In}
-use Rattle.dom_slots.specs.Hosts.{ShadowHost}
-use Rattle.dom_slots.specs.Shadows.{ShadowTrees, shadows, slot_at, assigned_at, assigned_under, is_assigned_at}
-use Rattle.dom_slots.specs.Tables.{SlotTable, list_of, IsTableOf}
+use Rattle.dom_base.proofs.Std.{◌≡◌, inl, inr, ℕ, ◌<◌, Bool, true, false, List, [], ◌∷◌, map, length, filter, Option, Some, None, sym, ap, subst, ◌∙◌}
+use Rattle.dom_base.proofs.Std.{true≢false, nat_eq, option_to_list, option_map_or, cases_Bool, cases_lt, eqb-true, or_cases}
+use Rattle.dom_model.proofs.Model.{NodeName, name_eq, is_in, children_of, root_of, name_eq-true}
+use Rattle.dom_tree.specs.Definitions.{NamedTrees, name_at}
+use Rattle.dom_laws.proofs.Laws.{In}
+use Rattle.dom_slots.specs.Definitions.{ShadowHost, ShadowTrees, shadows, slot_at, assigned_at, assigned_under, is_assigned_at, SlotTable, list_of, IsTableOf}
 
 -- a key among keys has its name among their names
 pub names-in : (names : List NodeName) (k : ℕ) (ks : List ℕ) → is_in nat_eq k ks ≡ true → In (name_at names k) (map (name_at names) ks)

@@ -1,22 +1,15 @@
 -- A host more whose shadow tree has no slot changes nothing of what is assigned.
-use Rattle.std.proofs.Common.{◌≡◌, inl, inr, Bool, true, false, List, [], ◌∷◌, ◌++◌, Option, Some, None, filter, refl, sym, ap, subst, ◌∙◌, true≢false}
-use Rattle.std.specs.Prelude.{find, if◌then◌else◌, option_to_list, unwrap_or}
-use Rattle.std.specs.Option.{option_map, option_map_or, option_and_then}
-use Rattle.std.proofs.lemmas.Bool.{and_parts, false_from_ne_true}
-use Rattle.dom_base.specs.declared.NodeName.{NodeName}
-use Rattle.dom_model.specs.Names.{DomString, name_eq, is_in, last_of}
-use Rattle.dom_model.specs.Tree.{Trees, Node, nodes, names_of, node_in, parent_of, root_of, children_of, subtree, inclusive_ancestors, inclusive_descendants}
-use Rattle.dom_model.specs.Slots.{slots_among, slot_in, has_slot_name, slottable_name, is_slot_element}
-use Rattle.dom_model.proofs.OwnerLaws.{name_eq-true}
-use Rattle.dom_tree.specs.Forest.{NamedTrees, name_at}
-use Rattle.dom_laws.proofs.Lists.{In, In-from, is_in-from, is_in-not, filter-none, filter-yes, filter-no, last_split, In-right}
-use Rattle.dom_laws.proofs.Counts.{Once}
-use Rattle.dom_laws.proofs.Shapes.{Has, Has-subtree, above-present, below-from_above}
-use Rattle.dom_laws.proofs.Children.{In-names, Has-names}
+use Rattle.dom_base.proofs.Std.{◌≡◌, inl, inr, Bool, true, false, List, [], ◌∷◌, ◌++◌, Option, Some, None, filter, refl, sym, ap, subst, ◌∙◌, true≢false, find}
+use Rattle.dom_base.proofs.Std.{if◌then◌else◌, option_to_list, unwrap_or, option_map, option_map_or, option_and_then, and_parts, false_from_ne_true}
+use Rattle.dom_model.proofs.Model.{NodeName, DomString, name_eq, is_in, last_of, Trees, Node, nodes, names_of, node_in, parent_of, root_of, children_of}
+use Rattle.dom_model.proofs.Model.{subtree, inclusive_ancestors, inclusive_descendants, slots_among, slot_in, has_slot_name, slottable_name, is_slot_element}
+use Rattle.dom_model.proofs.Model.{name_eq-true}
+use Rattle.dom_tree.specs.Definitions.{NamedTrees, name_at}
+use Rattle.dom_laws.proofs.Laws.{In, In-from, is_in-from, is_in-not, filter-none, filter-yes, filter-no, last_split, In-right, Once, Has, Has-subtree}
+use Rattle.dom_laws.proofs.Laws.{above-present, below-from_above, In-names, Has-names}
 use Rattle.dom_slots.proofs.NamesOfNodes.{named-filter}
 use Rattle.dom_slots.proofs.Entering.{NoneHas, unassigned}
-use Rattle.dom_slots.specs.Hosts.{ShadowHost, host_named, root_named}
-use Rattle.dom_slots.specs.Shadows.{ShadowTrees, shadow_trees, slot_at, assigned_at, assigned_under, is_assigned_at}
+use Rattle.dom_slots.specs.Definitions.{ShadowHost, host_named, root_named, ShadowTrees, shadow_trees, slot_at, assigned_at, assigned_under, is_assigned_at}
 
 -- what one more item adds to what is found
 find_there : (p : ShadowHost → Bool) (f : ShadowHost → NodeName) (hosts : List ShadowHost) (h : ShadowHost) (r : NodeName) →

@@ -1,16 +1,10 @@
 -- A node whose attributes are changed outside of shadow trees leaves all others where they are assigned.
-use Rattle.std.proofs.Common.{◌≡◌, ◌⊎◌, inl, inr, Bool, true, false, List, [], ◌∷◌, None, Some, refl, sym, ap, ◌∙◌}
-use Rattle.std.specs.Prelude.{drop, find, if◌then◌else◌, unwrap_or}
-use Rattle.std.specs.Option.{option_map}
-use Rattle.std.proofs.lemmas.Bool.{cases_Bool}
-use Rattle.dom_base.specs.declared.NodeName.{NodeName}
-use Rattle.dom_model.specs.Names.{name_eq, first_of, last_of}
-use Rattle.dom_model.specs.Tree.{Trees, none, tree, Node, nodes, no_node, node_in, subtree, parent_of, root_of, children_of}
-use Rattle.dom_model.specs.TreeChanges.{map_nodes, change_node}
-use Rattle.dom_model.proofs.OwnerLaws.{name_eq-true, name_eq-other}
-use Rattle.dom_laws.proofs.Shapes.{Has, has_or_not}
-use Rattle.dom_slots.specs.Hosts.{ShadowHost, host_named}
-use Rattle.dom_slots.specs.Shadows.{shadow_trees, is_assigned_at, assigned_at}
+use Rattle.dom_base.proofs.Std.{◌≡◌, ◌⊎◌, inl, inr, Bool, true, false, List, [], ◌∷◌, None, Some, refl, sym, ap, ◌∙◌, drop, find, if◌then◌else◌, unwrap_or}
+use Rattle.dom_base.proofs.Std.{option_map, cases_Bool}
+use Rattle.dom_model.proofs.Model.{NodeName, name_eq, first_of, last_of, Trees, none, tree, Node, nodes, no_node, node_in, subtree, parent_of, root_of}
+use Rattle.dom_model.proofs.Model.{children_of, map_nodes, change_node, name_eq-true, name_eq-other}
+use Rattle.dom_laws.proofs.Laws.{Has, has_or_not}
+use Rattle.dom_slots.specs.Definitions.{ShadowHost, host_named, shadow_trees, is_assigned_at, assigned_at}
 use Rattle.dom_slots.proofs.PlacedTrees.{others}
 use Rattle.dom_slots.proofs.Moved.{AreBoth, IsAside, root-aside}
 use Rattle.dom_slots.proofs.Recast.{nodes_recast, path_recast, subtree_recast, children_recast, found_recast}

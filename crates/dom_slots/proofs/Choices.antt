@@ -1,5 +1,5 @@
 -- Three tests, one after another.
-use Rattle.std.proofs.Common.{◌≡◌, Bool, true, false, ◌&&◌, refl, sym, ap, ◌∙◌}
+use Rattle.dom_base.proofs.Std.{◌≡◌, Bool, true, false, ◌&&◌, refl, sym, ap, ◌∙◌}
 
 -- where the first two hold, the last decides
 pub all-three : (a b e : Bool) → a ≡ true → b ≡ true → e ≡ (a && (b && e))

@@ -1,9 +1,8 @@
 -- A list is shorter without a node just where the node stood in it.
-use Rattle.std.proofs.Common.{◌≡◌, ℕ, suc, ◌≤◌, Bool, true, false, not, ◌||◌, List, [], ◌∷◌, length, refl, sym, ap, ◌∙◌, arith}
-use Rattle.std.specs.Prelude.{nat_eq, nat_lt, if◌then◌else◌}
-use Rattle.std.proofs.lemmas.Bool.{lt-ltb, ltb-true, ltb_from_iff}
+use Rattle.dom_base.proofs.Std.{◌≡◌, ℕ, suc, ◌≤◌, Bool, true, false, not, ◌||◌, List, [], ◌∷◌, length, refl, sym, ap, ◌∙◌, arith, nat_eq, nat_lt, if◌then◌else◌}
+use Rattle.dom_base.proofs.Std.{lt-ltb, ltb-true, ltb_from_iff}
 use Rattle.node_arena.specs.Nodes.{without}
-use Rattle.dom_model.specs.Names.{is_in}
+use Rattle.dom_model.proofs.Model.{is_in}
 use Rattle.dom_slots.proofs.Mapping.{nat_eq-turned}
 
 no-longer : (n : ℕ) (xs : List ℕ) → length (without n xs) ≤ length xs

@@ -1,31 +1,17 @@
 -- What the end of a step signals, and what stands before and after it.
-use Rattle.std.proofs.Common.{◌≡◌, ℕ, ◌<◌, Bool, true, false, not, List, [], ◌++◌, None, map, length, refl, sym, ap, subst, ◌∙◌, true≢false}
-use Rattle.std.specs.Prelude.{option_to_list}
-use Rattle.std.specs.Option.{option_map, option_map_or, option_and_then}
-use Rattle.std.proofs.lemmas.Bool.{or_parts, true_from_ne_false}
-use Rattle.std.proofs.lemmas.List.Elements.{All-nil}
-use Rattle.std.proofs.lemmas.List.Folds.{list_any-append}
-use Rattle.std.proofs.lemmas.Option.{get_or_from_slice_get, slice_get_within}
-use Rattle.dom_base.specs.declared.NodeName.{NodeName}
-use Rattle.dom_base.specs.declared.Owner.TheVariants.{Page}
-use Rattle.dom_model.specs.Names.{name_eq, is_in, list_eq, node_of}
-use Rattle.dom_model.specs.Slots.{slot_in, slots_among}
-use Rattle.dom_model.specs.Tree.{Trees, node_in, has_node, subtree, parent_of}
-use Rattle.dom_tree.specs.Forest.{NamedTrees, name_at}
-use Rattle.dom_tree.specs.Apart.{TellApart}
+use Rattle.dom_base.proofs.Std.{◌≡◌, ℕ, ◌<◌, Bool, true, false, not, List, [], ◌++◌, None, map, length, refl, sym, ap, subst, ◌∙◌, true≢false, option_to_list}
+use Rattle.dom_base.proofs.Std.{option_map, option_map_or, option_and_then, or_parts, true_from_ne_false, All-nil, list_any-append, get_or_from_slice_get}
+use Rattle.dom_base.proofs.Std.{slice_get_within}
+use Rattle.dom_model.proofs.Model.{NodeName, Page, name_eq, is_in, list_eq, node_of, slot_in, slots_among, Trees, node_in, has_node, subtree, parent_of}
+use Rattle.dom_tree.specs.Definitions.{NamedTrees, name_at, TellApart}
 use Rattle.dom_tree.proofs.Standing.{Once-forest, Has-forest}
-use Rattle.dom_laws.proofs.Lists.{In}
-use Rattle.dom_laws.proofs.Shapes.{Has}
-use Rattle.dom_slots.specs.Hosts.{ShadowHost}
-use Rattle.dom_slots.specs.Insides.{own_slots}
-use Rattle.dom_slots.specs.Kept.{SlotsNow, StandsOnce, AreSlotsOf, IsBegun, IsEndOf}
+use Rattle.dom_laws.proofs.Laws.{In, Has}
+use Rattle.dom_slots.specs.Definitions.{ShadowHost, own_slots, SlotsNow, StandsOnce, AreSlotsOf, IsBegun, IsEndOf, AreRenewed, IsButFor, names_but, ShadowTrees}
+use Rattle.dom_slots.specs.Definitions.{shadows, shadow_trees, slot_at, assigned_at, is_assigned_at, is_changed_at, signalled_by, StepHasNodes, IsStepFrom}
+use Rattle.dom_slots.specs.Definitions.{step_node, around_of, is_move, step_signals, SlotTable, list_of, IsTableOf}
 use Rattle.dom_slots.specs.declared.step.SlotChange.{SlotChange}
-use Rattle.dom_slots.specs.Renewals.{AreRenewed, IsButFor, names_but}
-use Rattle.dom_slots.specs.Shadows.{ShadowTrees, shadows, shadow_trees, slot_at, assigned_at, is_assigned_at, is_changed_at, signalled_by}
-use Rattle.dom_slots.specs.Steps.{StepHasNodes, IsStepFrom, step_node, around_of, is_move, step_signals}
 use Rattle.dom_slots.specs.declared.step.Step.{Step}
 use Rattle.dom_slots.specs.declared.step.Step.TheVariants.{Place, Removal, Attribute}
-use Rattle.dom_slots.specs.Tables.{SlotTable, list_of, IsTableOf}
 use Rattle.dom_slots.proofs.Assigned.{listed-slot}
 use Rattle.dom_slots.proofs.Hosted.{named-key, host-key}
 use Rattle.dom_slots.proofs.Moved.{AreBoth}

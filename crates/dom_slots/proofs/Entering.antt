@@ -1,19 +1,12 @@
 -- A list is entered in a table, and nothing is assigned to what is no slot of a host's tree.
-use Rattle.std.proofs.Common.{◌≡◌, ℕ, ◌<◌, ◌≤◌, Bool, true, false, ◌||◌, List, [], ◌∷◌, All, length, filter, Option, Some, None, refl, sym, ap, subst}
-use Rattle.std.proofs.Common.{◌∙◌, true≢false, arith}
-use Rattle.std.specs.Prelude.{nat_eq, if◌then◌else◌, find, option_to_list}
-use Rattle.std.specs.Option.{option_map, option_map_or, option_and_then}
-use Rattle.std.proofs.lemmas.Bool.{ne_eqb, false_from_ne_true, and_parts, or_left, or_right}
-use Rattle.dom_base.specs.declared.NodeName.{NodeName}
-use Rattle.dom_model.specs.Names.{DomString, name_eq, is_in}
-use Rattle.dom_model.specs.Tree.{Node, nodes, names_of, node_in, parent_of, root_of, children_of, subtree}
-use Rattle.dom_model.specs.Slots.{slots_among, slot_in, has_slot_name, slottable_name, is_slot_element}
-use Rattle.dom_model.proofs.OwnerLaws.{name_eq-true}
-use Rattle.dom_tree.specs.Forest.{NamedTrees, name_at}
-use Rattle.dom_laws.proofs.Lists.{name_eq-from, filter-none}
-use Rattle.dom_slots.specs.Hosts.{ShadowHost, root_named}
-use Rattle.dom_slots.specs.Shadows.{shadows, slot_at, assigned_at, assigned_under, is_assigned_at}
-use Rattle.dom_slots.specs.Tables.{SlotTable, list_of}
+use Rattle.dom_base.proofs.Std.{◌≡◌, ℕ, ◌<◌, ◌≤◌, Bool, true, false, ◌||◌, List, [], ◌∷◌, All, length, filter, Option, Some, None, refl, sym, ap, subst, ◌∙◌}
+use Rattle.dom_base.proofs.Std.{true≢false, arith, nat_eq, if◌then◌else◌, find, option_to_list, option_map, option_map_or, option_and_then, ne_eqb}
+use Rattle.dom_base.proofs.Std.{false_from_ne_true, and_parts, or_left, or_right}
+use Rattle.dom_model.proofs.Model.{NodeName, DomString, name_eq, is_in, Node, nodes, names_of, node_in, parent_of, root_of, children_of, subtree, slots_among}
+use Rattle.dom_model.proofs.Model.{slot_in, has_slot_name, slottable_name, is_slot_element, name_eq-true}
+use Rattle.dom_tree.specs.Definitions.{NamedTrees, name_at}
+use Rattle.dom_laws.proofs.Laws.{name_eq-from, filter-none}
+use Rattle.dom_slots.specs.Definitions.{ShadowHost, root_named, shadows, slot_at, assigned_at, assigned_under, is_assigned_at, SlotTable, list_of}
 
 -- a list is entered
 module _ (f : NamedTrees) (s : ℕ) (list : List ℕ) (mid new : SlotTable)

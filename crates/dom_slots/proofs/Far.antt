@@ -1,22 +1,13 @@
 -- What is assigned to a node stays where no slot is moved and no slot has an attribute changed, and where the node is no slot
 -- of a tree that a slot joins, leaves or is changed in.
-use Rattle.std.proofs.Common.{◌≡◌, ◌⊎◌, inl, inr, true, false, ◌&&◌, List, [], ◌∷◌, Option, Some, None, refl, sym, ap, subst, ◌∙◌, true≢false}
-use Rattle.std.specs.Prelude.{find, option_to_list}
-use Rattle.std.specs.Option.{option_map, option_map_or}
-use Rattle.std.proofs.lemmas.Bool.{cases_Bool, and_parts, false_from_ne_true}
-use Rattle.std.proofs.lemmas.Option.{none-some}
-use Rattle.dom_base.specs.declared.NodeName.{NodeName}
-use Rattle.dom_model.specs.Names.{Word, DomString, text_eq, name_eq, is_in, first_of}
-use Rattle.dom_model.specs.Slots.{is_slot_element, has_slot_name, slot_name, slottable_name, slot_in, slots_among}
-use Rattle.dom_model.specs.Tree.{Trees, none, tree, Node, nodes, node_in, subtree, parent_of, root_of, inclusive_descendants}
-use Rattle.dom_model.specs.TreeChanges.{change_node, with_attribute}
-use Rattle.dom_tree.specs.Forest.{name_at}
-use Rattle.dom_laws.proofs.Children.{In-names}
-use Rattle.dom_laws.proofs.Lists.{In, is_in-from, is_in-not, filter-none}
-use Rattle.dom_laws.proofs.Shapes.{Has, has_or_not, subtree-present}
-use Rattle.dom_laws.proofs.Counts.{Once}
-use Rattle.dom_slots.specs.Hosts.{ShadowHost}
-use Rattle.dom_slots.specs.Shadows.{shadow_trees, is_assigned_at, assigned_at}
+use Rattle.dom_base.proofs.Std.{◌≡◌, ◌⊎◌, inl, inr, true, false, ◌&&◌, List, [], ◌∷◌, Option, Some, None, refl, sym, ap, subst, ◌∙◌, true≢false, find}
+use Rattle.dom_base.proofs.Std.{option_to_list, option_map, option_map_or, cases_Bool, and_parts, false_from_ne_true, none-some}
+use Rattle.dom_model.proofs.Model.{NodeName, Word, DomString, text_eq, name_eq, is_in, first_of, is_slot_element, has_slot_name, slot_name, slottable_name}
+use Rattle.dom_model.proofs.Model.{slot_in, slots_among, Trees, none, tree, Node, nodes, node_in, subtree, parent_of, root_of, inclusive_descendants}
+use Rattle.dom_model.proofs.Model.{change_node, with_attribute}
+use Rattle.dom_tree.specs.Definitions.{name_at}
+use Rattle.dom_laws.proofs.Laws.{In-names, In, is_in-from, is_in-not, filter-none, Has, has_or_not, subtree-present, Once}
+use Rattle.dom_slots.specs.Definitions.{ShadowHost, shadow_trees, is_assigned_at, assigned_at}
 use Rattle.dom_slots.proofs.Attaching.{in_filter, to_filter}
 use Rattle.dom_slots.proofs.Attributed as Attributed
 use Rattle.dom_slots.proofs.Entering.{NoneHas, unslotted}

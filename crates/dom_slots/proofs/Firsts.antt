@@ -1,16 +1,11 @@
 -- What is assigned to a slot, by the name of the slot: a child of its host is where the slot is the first of its name, and the
 -- child looks for that name.
-use Rattle.std.proofs.Common.{◌≡◌, inl, inr, ℕ, Bool, true, false, ◌&&◌, ◌||◌, ◌==◌, List, [], ◌∷◌, Option, None, Some, refl, sym, ap, ◌∙◌, true≢false}
-use Rattle.std.specs.Prelude.{find, if◌then◌else◌, option_to_list}
-use Rattle.std.specs.Option.{option_map, option_map_or, option_and_then}
-use Rattle.std.proofs.lemmas.Bool.{and_parts, eqb-true, eq-eqb, false_from_ne_true}
-use Rattle.dom_base.specs.declared.NodeName.{NodeName}
-use Rattle.dom_model.specs.Names.{DomString, text_eq, name_eq, is_in}
-use Rattle.dom_model.specs.Slots.{has_slot_name, is_slot_element, slot_name, slottable_name}
-use Rattle.dom_model.specs.Tree.{Trees, Node, nodes, node_in, subtree, parent_of}
-use Rattle.dom_model.proofs.OwnerLaws.{name_eq-true}
-use Rattle.dom_laws.proofs.Counts.{Once}
-use Rattle.dom_slots.specs.Shadows.{ShadowTrees, is_assigned_at, is_first_at, looks_for}
+use Rattle.dom_base.proofs.Std.{◌≡◌, inl, inr, ℕ, Bool, true, false, ◌&&◌, ◌||◌, ◌==◌, List, [], ◌∷◌, Option, None, Some, refl, sym, ap, ◌∙◌, true≢false, find}
+use Rattle.dom_base.proofs.Std.{if◌then◌else◌, option_to_list, option_map, option_map_or, option_and_then, and_parts, eqb-true, eq-eqb, false_from_ne_true}
+use Rattle.dom_model.proofs.Model.{NodeName, DomString, text_eq, name_eq, is_in, has_slot_name, is_slot_element, slot_name, slottable_name, Trees, Node, nodes}
+use Rattle.dom_model.proofs.Model.{node_in, subtree, parent_of, name_eq-true}
+use Rattle.dom_laws.proofs.Laws.{Once}
+use Rattle.dom_slots.specs.Definitions.{ShadowTrees, is_assigned_at, is_first_at, looks_for}
 use Rattle.dom_slots.proofs.NamesOfNodes.{InNodes, in_tree, node_in-self}
 
 -- texts that are the same one by one

@@ -1,20 +1,13 @@
 -- Hosts by their keys and by their names, and the slot of a node by the way in which it is looked for.
-use Rattle.std.proofs.Common.{◌≡◌, inl, inr, ℕ, ◌<◌, Bool, true, false, ◌||◌, List, [], ◌∷◌, length, Option, Some, None, refl, sym, ap, ◌∙◌}
-use Rattle.std.specs.Prelude.{nat_eq, not, if◌then◌else◌, find, is_some, is_none, option_to_list}
-use Rattle.std.specs.Option.{option_map, option_and_then, option_eq, ForSome}
-use Rattle.std.proofs.lemmas.Bool.{cases_Bool, eqb-true, eq-eqb, both_ways}
-use Rattle.std.proofs.lemmas.Option.{same_Some, none-some}
-use Rattle.dom_base.specs.declared.NodeName.{NodeName}
-use Rattle.dom_model.specs.Names.{DomString, name_eq, is_in}
-use Rattle.dom_model.specs.Tree.{Node, node_in, nodes, parent_of, subtree}
-use Rattle.dom_model.specs.Slots.{has_slot_name, slottable_name, slot_in}
-use Rattle.dom_model.proofs.OwnerLaws.{name_eq-other}
-use Rattle.dom_tree.specs.Forest.{NamedTrees, name_at}
-use Rattle.dom_tree.specs.Apart.{TellApart}
-use Rattle.dom_laws.proofs.Lists.{name_eq-from}
+use Rattle.dom_base.proofs.Std.{◌≡◌, inl, inr, ℕ, ◌<◌, Bool, true, false, ◌||◌, List, [], ◌∷◌, length, Option, Some, None, refl, sym, ap, ◌∙◌, nat_eq, not}
+use Rattle.dom_base.proofs.Std.{if◌then◌else◌, find, is_some, is_none, option_to_list, option_map, option_and_then, option_eq, ForSome, cases_Bool, eqb-true}
+use Rattle.dom_base.proofs.Std.{eq-eqb, both_ways, same_Some, none-some}
+use Rattle.dom_model.proofs.Model.{NodeName, DomString, name_eq, is_in, Node, node_in, nodes, parent_of, subtree, has_slot_name, slottable_name, slot_in}
+use Rattle.dom_model.proofs.Model.{name_eq-other}
+use Rattle.dom_tree.specs.Definitions.{NamedTrees, name_at, TellApart}
+use Rattle.dom_laws.proofs.Laws.{name_eq-from}
 use Rattle.node_arena.specs.contracts.key.KeyPartialEq.TheImpl as KeyImpl
-use Rattle.dom_slots.specs.Hosts.{ShadowHost, HostsAreNodes, host_of_root, root_of_host, host_named, root_named}
-use Rattle.dom_slots.specs.Shadows.{ShadowTrees, shadows, slot_at}
+use Rattle.dom_slots.specs.Definitions.{ShadowHost, HostsAreNodes, host_of_root, root_of_host, host_named, root_named, ShadowTrees, shadows, slot_at}
 
 -- a value that is there has a name
 pub is_some-named : {X Y : Type 0} (f : X → Y) (o : Option X) → is_some o ≡ is_some (option_map f o)

@@ -1,14 +1,10 @@
 -- Where there are no hosts, nothing is assigned and no slot is signalled.
-use Rattle.std.proofs.Common.{◌≡◌, Bool, false, ◌&&◌, List, [], ◌∷◌, ◌++◌, Option, None, Some, filter, refl, sym, ap, ◌∙◌}
-use Rattle.std.specs.Prelude.{ℕ, if◌then◌else◌, is_some, option_to_list}
-use Rattle.std.specs.Option.{option_map_or}
-use Rattle.dom_tree.specs.Forest.{name_at}
-use Rattle.dom_base.specs.declared.NodeName.{NodeName}
-use Rattle.dom_model.specs.Names.{name_eq, distinct, is_empty}
-use Rattle.dom_model.specs.Slots.{is_slot_element, slots_among}
-use Rattle.dom_model.specs.Tree.{Trees, node_in, root_of, subtree}
-use Rattle.dom_slots.specs.Shadows.{ShadowTrees, shadow_trees, slot_at, assigned_at, is_changed_at, is_bare_at, signals_at}
-use Rattle.dom_slots.specs.Steps.{step_node, around_of, is_move, step_signals}
+use Rattle.dom_base.proofs.Std.{◌≡◌, Bool, false, ◌&&◌, List, [], ◌∷◌, ◌++◌, Option, None, Some, filter, refl, sym, ap, ◌∙◌, ℕ, if◌then◌else◌, is_some}
+use Rattle.dom_base.proofs.Std.{option_to_list, option_map_or}
+use Rattle.dom_tree.specs.Definitions.{name_at}
+use Rattle.dom_model.proofs.Model.{NodeName, name_eq, distinct, is_empty, is_slot_element, slots_among, Trees, node_in, root_of, subtree}
+use Rattle.dom_slots.specs.Definitions.{ShadowTrees, shadow_trees, slot_at, assigned_at, is_changed_at, is_bare_at, signals_at, step_node, around_of, is_move}
+use Rattle.dom_slots.specs.Definitions.{step_signals}
 use Rattle.dom_slots.specs.declared.step.Step.{Step}
 use Rattle.dom_slots.proofs.Choices.{third-fails}
 

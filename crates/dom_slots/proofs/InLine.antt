@@ -1,11 +1,8 @@
 -- The slots of a node to which one was given in line.
-use Rattle.std.proofs.Common.{◌≡◌, inl, inr, ℕ, zero, suc, ◌<◌, false, List, [], ◌∷◌, ◌++◌, length, None, refl, sym, ap, subst, ◌∙◌, true≢false}
-use Rattle.std.specs.Prelude.{nat_eq, slice_get, slice_index_or, slice_set, if◌then◌else◌, Vec}
-use Rattle.std.proofs.lemmas.Bool.{cases_Bool, eqb-true, eq-eqb}
-use Rattle.std.proofs.lemmas.List.{get_or-set_same, get_or-set_other}
-use Rattle.std.proofs.lemmas.Option.{none-some}
-use Rattle.dom_slots.specs.KeyMaps.{list_at}
-use Rattle.dom_slots.specs.NodeSlots.{in_line, slots_at}
+use Rattle.dom_base.proofs.Std.{◌≡◌, inl, inr, ℕ, zero, suc, ◌<◌, false, List, [], ◌∷◌, ◌++◌, length, None, refl, sym, ap, subst, ◌∙◌, true≢false, nat_eq}
+use Rattle.dom_base.proofs.Std.{slice_get, slice_index_or, slice_set, if◌then◌else◌, Vec, cases_Bool, eqb-true, eq-eqb, get_or-set_same, get_or-set_other}
+use Rattle.dom_base.proofs.Std.{none-some}
+use Rattle.dom_slots.specs.Definitions.{list_at, in_line, slots_at}
 
 -- of no first one there is none
 none-there : (xs : List ℕ) → slice_get xs 0 ≡ None → xs ≡ []

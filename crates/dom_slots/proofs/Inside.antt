@@ -1,32 +1,19 @@
 -- A step inside of a shadow tree changes at most what is assigned to the old and to the new slot of its node and, where it
 -- moves a slot or changes its attributes, to the slots of the trees that it concerns.
-use Rattle.std.proofs.Common.{◌≡◌, ◌⊎◌, inl, inr, ℕ, ◌<◌, Bool, true, false, not, ◌&&◌, List, [], ◌++◌, All, map, filter, length, Option, None, Some}
-use Rattle.std.proofs.Common.{fold, refl, sym, ap, subst, ◌∙◌, true≢false}
-use Rattle.std.specs.Prelude.{option_to_list}
-use Rattle.std.specs.Option.{option_map, option_map_or}
-use Rattle.std.proofs.lemmas.Bool.{or_parts, or_left, false_from_ne_true}
-use Rattle.std.proofs.lemmas.List.Folds.{list_any-append}
-use Rattle.std.proofs.lemmas.Option.{same_Some, none-some}
-use Rattle.dom_base.specs.declared.NodeName.{NodeName}
-use Rattle.dom_model.specs.Names.{DomString, text_eq, name_eq, is_in, append_once}
-use Rattle.dom_model.specs.Slots.{is_slot_element, slot_name, slots_among}
-use Rattle.dom_model.specs.Tree.{Trees, none, node_in, subtree, parent_of, root_of}
-use Rattle.dom_model.specs.TreeChanges.{with_attribute}
-use Rattle.dom_tree.specs.Forest.{NamedTrees, name_at}
-use Rattle.dom_tree.specs.Apart.{TellApart}
-use Rattle.dom_laws.proofs.Lists.{In, is_in-from, In-from, In-parts}
-use Rattle.dom_laws.proofs.Shapes.{Has}
-use Rattle.dom_slots.specs.Insides.{is_called, tree_slots, own_slots, bare_around, slots_around, left_slots, MovesNone, MovesCalled, AreSilent}
-use Rattle.dom_slots.specs.Insides.{MayMove, IsInside}
-use Rattle.dom_slots.specs.Kept.{SlotsNow, StandsOnce, IsEndOf}
+use Rattle.dom_base.proofs.Std.{◌≡◌, ◌⊎◌, inl, inr, ℕ, ◌<◌, Bool, true, false, not, ◌&&◌, List, [], ◌++◌, All, map, filter, length, Option, None, Some, fold}
+use Rattle.dom_base.proofs.Std.{refl, sym, ap, subst, ◌∙◌, true≢false, option_to_list, option_map, option_map_or, or_parts, or_left, false_from_ne_true}
+use Rattle.dom_base.proofs.Std.{list_any-append, same_Some, none-some}
+use Rattle.dom_model.proofs.Model.{NodeName, DomString, text_eq, name_eq, is_in, append_once, is_slot_element, slot_name, slots_among, Trees, none, node_in}
+use Rattle.dom_model.proofs.Model.{subtree, parent_of, root_of, with_attribute}
+use Rattle.dom_tree.specs.Definitions.{NamedTrees, name_at, TellApart}
+use Rattle.dom_laws.proofs.Laws.{In, is_in-from, In-from, In-parts, Has}
+use Rattle.dom_slots.specs.Definitions.{is_called, tree_slots, own_slots, bare_around, slots_around, left_slots, MovesNone, MovesCalled, AreSilent, MayMove}
+use Rattle.dom_slots.specs.Definitions.{IsInside, SlotsNow, StandsOnce, IsEndOf, AreRenewed, IsButFor, ShadowTrees, shadows, shadow_trees, slot_at, assigned_at}
+use Rattle.dom_slots.specs.Definitions.{is_changed_at, signalled_by, StepHasNodes, step_node, is_move, around_of, left_by, IsStepFrom, step_signals, SlotTable}
+use Rattle.dom_slots.specs.Definitions.{list_of, IsTableOf, is_wanted}
 use Rattle.dom_slots.specs.declared.step.SlotChange.{SlotChange}
-use Rattle.dom_slots.specs.Renewals.{AreRenewed, IsButFor}
-use Rattle.dom_slots.specs.Shadows.{ShadowTrees, shadows, shadow_trees, slot_at, assigned_at, is_changed_at, signalled_by}
-use Rattle.dom_slots.specs.Steps.{StepHasNodes, step_node, is_move, around_of, left_by, IsStepFrom, step_signals}
-use Rattle.dom_slots.specs.Tables.{SlotTable, list_of, IsTableOf}
 use Rattle.dom_slots.specs.declared.step.Step.{Step}
 use Rattle.dom_slots.specs.declared.step.Step.TheVariants.{Place, Removal, Attribute}
-use Rattle.dom_slots.specs.Waiting.{is_wanted}
 use Rattle.dom_slots.proofs.Attaching.{in_filter, unfiltered}
 use Rattle.dom_slots.proofs.Ended.{told-signals, there-was, there-now, both-stand, not-own, none-own, but-for, others-among, renewed-table}
 use Rattle.dom_slots.proofs.Far.{IsAway, IsFar, unlike, KeepsFar, AloneKept, slot-among, own_tree, far-so, alone-so, attribute-slot, changed-far, changed-still}

@@ -1,29 +1,17 @@
 -- A list that a node joins.
-use Rattle.std.proofs.Common.{◌≡◌, inl, inr, ℕ, ◌<◌, Bool, true, false, not, ◌&&◌, ◌||◌, List, [], ◌∷◌, ◌++◌, All, map, filter, length, Option, None}
-use Rattle.std.proofs.Common.{Some, refl, sym, ap, subst, ◌∙◌, true≢false}
-use Rattle.std.specs.Prelude.{nat_eq, drop, if◌then◌else◌, option_to_list}
-use Rattle.std.specs.Option.{option_map, option_map_or, option_eq, ForSome}
-use Rattle.std.proofs.lemmas.Bool.{eqb-true, eq-eqb, and_parts, or_right, false_from_ne_true}
-use Rattle.std.proofs.lemmas.List.{map-append, append-nil}
-use Rattle.std.proofs.lemmas.List.Elements.{All-nil, All-cons, All-head, All-tail, All-append, filter-append}
-use Rattle.std.proofs.lemmas.Option.{same_Some, none-some}
-use Rattle.dom_base.specs.declared.NodeName.{NodeName}
-use Rattle.dom_model.specs.Names.{name_eq, list_eq, is_in, is_empty, first_of, items_before, items_after}
-use Rattle.dom_model.specs.Slots.{slot_name}
-use Rattle.dom_model.specs.Tree.{node_in, parent_of, root_of, children_of, siblings}
-use Rattle.dom_model.proofs.OwnerLaws.{name_eq-other}
-use Rattle.dom_tree.specs.Forest.{NamedTrees, name_at}
-use Rattle.dom_tree.specs.Apart.{TellApart}
-use Rattle.dom_laws.proofs.Children.{parent-of_child, child-of_parent, children-single}
-use Rattle.dom_laws.proofs.Lists.{In, Single, Single-apart, Single-right, In-parts, after-in, name_eq-from, filter-same, filter-yes, first_split}
-use Rattle.dom_laws.proofs.Lists.{split_at}
-use Rattle.dom_laws.proofs.Counts.{Once}
-use Rattle.dom_laws.proofs.Shapes.{Has}
+use Rattle.dom_base.proofs.Std.{◌≡◌, inl, inr, ℕ, ◌<◌, Bool, true, false, not, ◌&&◌, ◌||◌, List, [], ◌∷◌, ◌++◌, All, map, filter, length, Option, None, Some}
+use Rattle.dom_base.proofs.Std.{refl, sym, ap, subst, ◌∙◌, true≢false, nat_eq, drop, if◌then◌else◌, option_to_list, option_map, option_map_or, option_eq}
+use Rattle.dom_base.proofs.Std.{ForSome, eqb-true, eq-eqb, and_parts, or_right, false_from_ne_true, map-append, append-nil, All-nil, All-cons, All-head}
+use Rattle.dom_base.proofs.Std.{All-tail, All-append, filter-append, same_Some, none-some}
+use Rattle.dom_model.proofs.Model.{NodeName, name_eq, list_eq, is_in, is_empty, first_of, items_before, items_after, slot_name, node_in, parent_of, root_of}
+use Rattle.dom_model.proofs.Model.{children_of, siblings, name_eq-other}
+use Rattle.dom_tree.specs.Definitions.{NamedTrees, name_at, TellApart}
+use Rattle.dom_laws.proofs.Laws.{parent-of_child, child-of_parent, children-single, In, Single, Single-apart, Single-right, In-parts, after-in, name_eq-from}
+use Rattle.dom_laws.proofs.Laws.{filter-same, filter-yes, first_split, split_at, Once, Has}
 use Rattle.node_arena.specs.Nodes.{put_before, insert_before}
 use Rattle.node_arena.specs.contracts.key.KeyPartialEq.TheImpl as KeyImpl
-use Rattle.dom_slots.specs.Hosts.{ShadowHost, host_named}
-use Rattle.dom_slots.specs.Renewals.{names_but}
-use Rattle.dom_slots.specs.Shadows.{ShadowTrees, shadows, slot_at, is_assigned_at, is_first_at, assigned_at, assigned_under, looks_for}
+use Rattle.dom_slots.specs.Definitions.{ShadowHost, host_named, names_but, ShadowTrees, shadows, slot_at, is_assigned_at, is_first_at, assigned_at}
+use Rattle.dom_slots.specs.Definitions.{assigned_under, looks_for}
 use Rattle.dom_slots.proofs.Assigned.{names-in}
 use Rattle.dom_slots.proofs.Attaching.{in_filter}
 use Rattle.dom_slots.proofs.Firsts.{assigned-first}

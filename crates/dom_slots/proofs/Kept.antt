@@ -1,10 +1,7 @@
 -- The hosts as a `Slots` holds them, and where they are found.
-use Rattle.std.proofs.Common.{◌≡◌, ℕ, Bool, true, false, List, [], ◌∷◌, ◌++◌, Option, None, Some, refl, sym, ◌∙◌, true≢false, arith}
-use Rattle.std.specs.Prelude.{nat_eq, find, if◌then◌else◌}
-use Rattle.std.specs.Option.{option_map}
-use Rattle.std.proofs.lemmas.Bool.{eqb-true, eq-eqb}
-use Rattle.std.proofs.lemmas.Option.{none-some}
-use Rattle.dom_slots.specs.Hosts.{ShadowHost}
+use Rattle.dom_base.proofs.Std.{◌≡◌, ℕ, Bool, true, false, List, [], ◌∷◌, ◌++◌, Option, None, Some, refl, sym, ◌∙◌, true≢false, arith, nat_eq, find}
+use Rattle.dom_base.proofs.Std.{if◌then◌else◌, option_map, eqb-true, eq-eqb, none-some}
+use Rattle.dom_slots.specs.Definitions.{ShadowHost}
 
 -- one host more, where none was found by its key, is found by it, and the others as before
 module _ (key value : ShadowHost → ℕ) (h : ShadowHost) where

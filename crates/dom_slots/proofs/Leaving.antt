@@ -1,20 +1,11 @@
 -- Lists that a node leaves.
-use Rattle.std.proofs.Common.{◌≡◌, ℕ, ◌<◌, Bool, true, false, not, ◌&&◌, ◌||◌, ◌==◌, List, [], ◌∷◌, ◌++◌, All, map, filter, length, Option, Some, refl, sym}
-use Rattle.std.proofs.Common.{ap, subst, ◌∙◌, true≢false}
-use Rattle.std.specs.Prelude.{nat_eq, if◌then◌else◌, option_to_list}
-use Rattle.std.specs.Option.{option_map}
-use Rattle.std.proofs.lemmas.Bool.{eqb-true, eq-eqb, or_parts, false_from_ne_true}
-use Rattle.std.proofs.lemmas.List.Elements.{All-head, All-tail, All-filter}
-use Rattle.dom_base.specs.declared.NodeName.{NodeName}
-use Rattle.dom_model.specs.Names.{name_eq, list_eq, is_in, append_once}
-use Rattle.dom_model.proofs.OwnerLaws.{name_eq-turned}
-use Rattle.dom_tree.specs.Forest.{NamedTrees, name_at}
-use Rattle.dom_tree.specs.Apart.{TellApart}
+use Rattle.dom_base.proofs.Std.{◌≡◌, ℕ, ◌<◌, Bool, true, false, not, ◌&&◌, ◌||◌, ◌==◌, List, [], ◌∷◌, ◌++◌, All, map, filter, length, Option, Some, refl, sym}
+use Rattle.dom_base.proofs.Std.{ap, subst, ◌∙◌, true≢false, nat_eq, if◌then◌else◌, option_to_list, option_map, eqb-true, eq-eqb, or_parts, false_from_ne_true}
+use Rattle.dom_base.proofs.Std.{All-head, All-tail, All-filter}
+use Rattle.dom_model.proofs.Model.{NodeName, name_eq, list_eq, is_in, append_once, name_eq-turned}
+use Rattle.dom_tree.specs.Definitions.{NamedTrees, name_at, TellApart}
 use Rattle.node_arena.specs.Nodes.{without}
-use Rattle.dom_slots.specs.Hosts.{ShadowHost}
-use Rattle.dom_slots.specs.Renewals.{AreRenewed, Renews, names_but}
-use Rattle.dom_slots.specs.Shadows.{shadows, assigned_at}
-use Rattle.dom_slots.specs.Tables.{SlotTable, list_of}
+use Rattle.dom_slots.specs.Definitions.{ShadowHost, AreRenewed, Renews, names_but, shadows, assigned_at, SlotTable, list_of}
 use Rattle.dom_slots.proofs.Hosted.{key-test}
 use Rattle.dom_slots.proofs.Renewing.{same_keys, renewed-more}
 

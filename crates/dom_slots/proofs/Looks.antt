@@ -1,17 +1,9 @@
 -- Where no slot is moved and no slot has an attribute changed, slots are found as before.
-use Rattle.std.proofs.Common.{◌≡◌, inl, inr, Bool, true, false, List, [], ◌∷◌, ◌++◌, map, Option, Some, None, refl, sym, ap, ◌∙◌, true≢false}
-use Rattle.std.specs.Prelude.{find, if◌then◌else◌, unwrap_or}
-use Rattle.std.specs.Option.{option_map, option_and_then, option_or}
-use Rattle.std.proofs.lemmas.Bool.{cases_Bool, and_parts, false_from_ne_true}
-use Rattle.std.proofs.lemmas.List.{append-nil}
-use Rattle.dom_base.specs.declared.NodeName.{NodeName}
-use Rattle.dom_model.specs.Names.{DomString, name_eq}
-use Rattle.dom_model.specs.Slots.{has_slot_name, is_slot_element, slottable_name, slot_in, slots_among}
-use Rattle.dom_model.specs.Tree.{Trees, none, tree, Node, nodes, no_node, node_in, or_else, subtree}
-use Rattle.dom_model.specs.TreeChanges.{change_node}
-use Rattle.dom_model.proofs.OwnerLaws.{name_eq-true, name_eq-other}
-use Rattle.dom_laws.proofs.Shapes.{Has, has_or_not, subtree-absent}
-use Rattle.dom_laws.proofs.Counts.{Once}
+use Rattle.dom_base.proofs.Std.{◌≡◌, inl, inr, Bool, true, false, List, [], ◌∷◌, ◌++◌, map, Option, Some, None, refl, sym, ap, ◌∙◌, true≢false, find}
+use Rattle.dom_base.proofs.Std.{if◌then◌else◌, unwrap_or, option_map, option_and_then, option_or, cases_Bool, and_parts, false_from_ne_true, append-nil}
+use Rattle.dom_model.proofs.Model.{NodeName, DomString, name_eq, has_slot_name, is_slot_element, slottable_name, slot_in, slots_among, Trees, none, tree, Node}
+use Rattle.dom_model.proofs.Model.{nodes, no_node, node_in, or_else, subtree, change_node, name_eq-true, name_eq-other}
+use Rattle.dom_laws.proofs.Laws.{Has, has_or_not, subtree-absent, Once}
 use Rattle.dom_slots.proofs.Attaching.{no-slot_named}
 use Rattle.dom_slots.proofs.Attributed.{changed, changed_name}
 use Rattle.dom_slots.proofs.PlacedTrees.{Spot, Before, Below, Behind, grafted, tree-own, ReadAlike, ReadAlike-others}

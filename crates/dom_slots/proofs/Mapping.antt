@@ -1,13 +1,9 @@
 -- The members of lists after nodes were taken out of them and put into them, and the lists of slots beside the slots of nodes.
-use Rattle.std.proofs.Common.{◌≡◌, inl, inr, ℕ, ◌+◌, ◌<◌, Bool, true, false, not, ◌&&◌, ◌||◌, List, [], ◌∷◌, ◌++◌, take, length, get_or, Option, Some}
-use Rattle.std.proofs.Common.{None, refl, sym, ap, ◌∙◌, true≢false}
-use Rattle.std.specs.Prelude.{nat_eq, slice_get, if◌then◌else◌}
-use Rattle.std.proofs.lemmas.Bool.{cases_Bool, eqb-true, eq-eqb, false_from_ne_true}
-use Rattle.std.proofs.lemmas.List.{take_more}
-use Rattle.std.proofs.lemmas.List.Folds.{list_any-append}
-use Rattle.std.proofs.lemmas.Option.{same_Some, none-some}
+use Rattle.dom_base.proofs.Std.{◌≡◌, inl, inr, ℕ, ◌+◌, ◌<◌, Bool, true, false, not, ◌&&◌, ◌||◌, List, [], ◌∷◌, ◌++◌, take, length, get_or, Option, Some, None}
+use Rattle.dom_base.proofs.Std.{refl, sym, ap, ◌∙◌, true≢false, nat_eq, slice_get, if◌then◌else◌, cases_Bool, eqb-true, eq-eqb, false_from_ne_true, take_more}
+use Rattle.dom_base.proofs.Std.{list_any-append, same_Some, none-some}
 use Rattle.node_arena.specs.Nodes.{put_before, insert_before, without}
-use Rattle.dom_model.specs.Names.{is_in}
+use Rattle.dom_model.proofs.Model.{is_in}
 
 -- ---- members
 

@@ -1,15 +1,9 @@
 -- A tree that is moved outside of shadow trees leaves all others than its root where they are assigned.
-use Rattle.std.proofs.Common.{◌≡◌, ◌⊎◌, inl, inr, ◌+◌, length, List, Option, None, Some, refl, sym, ap, subst, ◌∙◌, arith, length-append}
-use Rattle.std.specs.Prelude.{unwrap_or}
-use Rattle.dom_base.specs.declared.NodeName.{NodeName}
-use Rattle.dom_model.specs.Names.{name_eq, items_before, last_of}
-use Rattle.dom_model.specs.Tree.{Trees, none, tree, Node, nodes, roots, names_of, node_in, trees_below, subtree, inclusive_ancestors, parent_of}
-use Rattle.dom_model.specs.Tree.{root_of, children_of}
-use Rattle.dom_laws.proofs.Chains.{above-split}
-use Rattle.dom_laws.proofs.Children.{parent-of_child}
-use Rattle.dom_laws.proofs.Shapes.{Has, has_or_not, subtree-here, subtree-present, above-from_below, above-parent}
-use Rattle.dom_laws.proofs.Counts.{Once}
-use Rattle.dom_slots.specs.Hosts.{ShadowHost, host_named}
+use Rattle.dom_base.proofs.Std.{◌≡◌, ◌⊎◌, inl, inr, ◌+◌, length, List, Option, None, Some, refl, sym, ap, subst, ◌∙◌, arith, length-append, unwrap_or}
+use Rattle.dom_model.proofs.Model.{NodeName, name_eq, items_before, last_of, Trees, none, tree, Node, nodes, roots, names_of, node_in, trees_below, subtree}
+use Rattle.dom_model.proofs.Model.{inclusive_ancestors, parent_of, root_of, children_of}
+use Rattle.dom_laws.proofs.Laws.{above-split, parent-of_child, Has, has_or_not, subtree-here, subtree-present, above-from_below, above-parent, Once}
+use Rattle.dom_slots.specs.Definitions.{ShadowHost, host_named}
 use Rattle.dom_slots.proofs.PlacedTrees.{Spot, grafted, Has-grafted, others, above-others, tree-others, tree-own, ReadAlike, ReadAlike-others}
 use Rattle.dom_slots.proofs.NamesOfNodes.{InNodes, in_tree, node_in-self}
 use Rattle.dom_slots.proofs.Rooted.{root-alone, root-parent, root-below, root-of_root, in-tree_of_root, root-within}

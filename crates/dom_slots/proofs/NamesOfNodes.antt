@@ -1,15 +1,8 @@
 -- Nodes of trees and their names: what is asked of the nodes is asked of the names.
-use Rattle.std.proofs.Common.{◌≡◌, ◌⊎◌, inl, inr, Bool, List, [], ◌∷◌, ◌++◌, Some, filter, refl, sym, ap, subst, ◌∙◌}
-use Rattle.std.specs.Prelude.{find, unwrap_or}
-use Rattle.std.specs.Option.{option_map}
-use Rattle.std.proofs.lemmas.Bool.{cases_Bool}
-use Rattle.dom_base.specs.declared.NodeName.{NodeName}
-use Rattle.dom_model.specs.Names.{name_eq, first_of}
-use Rattle.dom_model.specs.Tree.{Trees, none, tree, Node, nodes, names_of, node_in, no_node, subtree, or_else, inclusive_descendants}
-use Rattle.dom_model.proofs.OwnerLaws.{name_eq-other}
-use Rattle.dom_laws.proofs.Lists.{In, Single, name_eq-from}
-use Rattle.dom_laws.proofs.Counts.{Once}
-use Rattle.dom_laws.proofs.Children.{Single-names}
+use Rattle.dom_base.proofs.Std.{◌≡◌, ◌⊎◌, inl, inr, Bool, List, [], ◌∷◌, ◌++◌, Some, filter, refl, sym, ap, subst, ◌∙◌, find, unwrap_or, option_map, cases_Bool}
+use Rattle.dom_model.proofs.Model.{NodeName, name_eq, first_of, Trees, none, tree, Node, nodes, names_of, node_in, no_node, subtree, or_else}
+use Rattle.dom_model.proofs.Model.{inclusive_descendants, name_eq-other}
+use Rattle.dom_laws.proofs.Laws.{In, Single, name_eq-from, Once, Single-names}
 
 -- a node is among these
 abbrev pub InNodes : Node → List Node → Type 0

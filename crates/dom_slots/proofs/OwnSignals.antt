@@ -1,12 +1,8 @@
 -- Slots that are signalled already are not signalled again.
-use Rattle.std.proofs.Common.{◌≡◌, inl, inr, Bool, true, false, ◌||◌, List, [], ◌∷◌, ◌++◌, fold, filter, refl, sym, ap, ◌∙◌, true≢false}
-use Rattle.std.specs.Prelude.{if◌then◌else◌}
-use Rattle.std.proofs.lemmas.Bool.{or_left, or_right}
-use Rattle.std.proofs.lemmas.List.Folds.{list_any-append}
-use Rattle.std.proofs.lemmas.List.Sums.{fold-append}
-use Rattle.dom_base.specs.declared.NodeName.{NodeName}
-use Rattle.dom_model.specs.Names.{name_eq, is_in, append_once, distinct}
-use Rattle.dom_laws.proofs.Lists.{In, is_in-from, In-from, name_eq-from, filter-yes, filter-no}
+use Rattle.dom_base.proofs.Std.{◌≡◌, inl, inr, Bool, true, false, ◌||◌, List, [], ◌∷◌, ◌++◌, fold, filter, refl, sym, ap, ◌∙◌, true≢false, if◌then◌else◌}
+use Rattle.dom_base.proofs.Std.{or_left, or_right, list_any-append, fold-append}
+use Rattle.dom_model.proofs.Model.{NodeName, name_eq, is_in, append_once, distinct}
+use Rattle.dom_laws.proofs.Laws.{In, is_in-from, In-from, name_eq-from, filter-yes, filter-no}
 use Rattle.dom_slots.proofs.Signalled.{fold-distinct}
 
 -- names that are there stay there

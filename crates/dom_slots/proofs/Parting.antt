@@ -1,23 +1,12 @@
 -- The lists of the old and of the new slot of a node, where all others stay.
-use Rattle.std.proofs.Common.{◌≡◌, ℕ, ◌<◌, Bool, false, not, ◌||◌, List, [], ◌++◌, All, map, filter, length, Option, None, Some, refl, sym, ap, subst}
-use Rattle.std.proofs.Common.{◌∙◌, true≢false}
-use Rattle.std.specs.Prelude.{nat_eq, option_to_list}
-use Rattle.std.specs.Option.{option_map, option_eq, ForSome}
-use Rattle.std.proofs.lemmas.Bool.{eqb-true, eq-eqb, false_from_ne_true}
-use Rattle.std.proofs.lemmas.List.{append-nil}
-use Rattle.std.proofs.lemmas.List.Elements.{filter-append}
-use Rattle.dom_base.specs.declared.NodeName.{NodeName}
-use Rattle.dom_model.specs.Names.{name_eq, is_in}
-use Rattle.dom_tree.specs.Forest.{NamedTrees, name_at}
-use Rattle.dom_tree.specs.Apart.{TellApart}
+use Rattle.dom_base.proofs.Std.{◌≡◌, ℕ, ◌<◌, Bool, false, not, ◌||◌, List, [], ◌++◌, All, map, filter, length, Option, None, Some, refl, sym, ap, subst, ◌∙◌}
+use Rattle.dom_base.proofs.Std.{true≢false, nat_eq, option_to_list, option_map, option_eq, ForSome, eqb-true, eq-eqb, false_from_ne_true, append-nil}
+use Rattle.dom_base.proofs.Std.{filter-append}
+use Rattle.dom_model.proofs.Model.{NodeName, name_eq, is_in}
+use Rattle.dom_tree.specs.Definitions.{NamedTrees, name_at, TellApart}
 use Rattle.node_arena.specs.Nodes.{without}
 use Rattle.node_arena.specs.contracts.key.KeyPartialEq.TheImpl as KeyImpl
-use Rattle.dom_slots.specs.Hosts.{ShadowHost}
-use Rattle.dom_slots.specs.Insides.{own_slots}
-use Rattle.dom_slots.specs.Renewals.{AreRenewed, IsButFor, names_but}
-use Rattle.dom_slots.specs.Shadows.{shadows, slot_at, assigned_at}
-use Rattle.dom_slots.specs.Steps.{step_node}
-use Rattle.dom_slots.specs.Tables.{SlotTable, list_of}
+use Rattle.dom_slots.specs.Definitions.{ShadowHost, own_slots, AreRenewed, IsButFor, names_but, shadows, slot_at, assigned_at, step_node, SlotTable, list_of}
 use Rattle.dom_slots.specs.declared.step.Step.{Step}
 use Rattle.dom_slots.proofs.Assigned.{slot-assigned}
 use Rattle.dom_slots.proofs.Hosted.{key-test, named-key}

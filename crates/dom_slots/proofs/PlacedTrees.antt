@@ -1,16 +1,9 @@
 -- Trees into which one more tree was put: what is read of its nodes, and of the others.
-use Rattle.std.proofs.Common.{◌≡◌, inl, inr, List, [], ◌∷◌, not, None, Option, refl, sym, ap, subst, ◌∙◌}
-use Rattle.std.specs.Prelude.{if◌then◌else◌, drop}
-use Rattle.std.proofs.lemmas.Bool.{cases_Bool}
-use Rattle.dom_base.specs.declared.NodeName.{NodeName}
-use Rattle.dom_model.specs.Names.{name_eq, name_before, first_of}
-use Rattle.dom_model.specs.Tree.{Trees, none, tree, Node, roots, names_of, or_else, subtree, on_top, inclusive_ancestors, parent_of}
-use Rattle.dom_model.specs.TreeChanges.{without, is_given, put_before, put_below, put_root}
-use Rattle.dom_model.proofs.OwnerLaws.{name_eq-other}
-use Rattle.dom_slots.specs.Renewals.{names_but}
-use Rattle.dom_laws.proofs.Lists.{name_eq-from, filter-no}
-use Rattle.dom_laws.proofs.Shapes.{once_apart, Has, above-absent, subtree-absent, subtree-here, subtree-below, subtree-beside}
-use Rattle.dom_laws.proofs.Counts.{Once}
+use Rattle.dom_base.proofs.Std.{◌≡◌, inl, inr, List, [], ◌∷◌, not, None, Option, refl, sym, ap, subst, ◌∙◌, if◌then◌else◌, drop, cases_Bool}
+use Rattle.dom_model.proofs.Model.{NodeName, name_eq, name_before, first_of, Trees, none, tree, Node, roots, names_of, or_else, subtree, on_top}
+use Rattle.dom_model.proofs.Model.{inclusive_ancestors, parent_of, without, is_given, put_before, put_below, put_root, name_eq-other}
+use Rattle.dom_slots.specs.Definitions.{names_but}
+use Rattle.dom_laws.proofs.Laws.{name_eq-from, filter-no, once_apart, Has, above-absent, subtree-absent, subtree-here, subtree-below, subtree-beside, Once}
 
 -- where a tree is put into others: before the first of them, or below or behind that one's root
 pub data Spot : Type 0 where

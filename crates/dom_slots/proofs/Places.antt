@@ -1,9 +1,6 @@
 -- The places of nodes in lists.
-use Rattle.std.proofs.Common.{◌≡◌, ℕ, ◌+◌, ◌<◌, ◌≤◌, Bool, true, false, cond, not, List, [], ◌∷◌, length, Some, None, refl, sym, ap, ◌∙◌}
-use Rattle.std.proofs.Common.{true≢false, arith, one-add}
-use Rattle.std.specs.Prelude.{nat_eq, nat_lt, if◌then◌else◌, unwrap_or}
-use Rattle.std.specs.List.{insert, position, position_or_len}
-use Rattle.std.proofs.lemmas.Bool.{lt-ltb}
+use Rattle.dom_base.proofs.Std.{◌≡◌, ℕ, ◌+◌, ◌<◌, ◌≤◌, Bool, true, false, cond, not, List, [], ◌∷◌, length, Some, None, refl, sym, ap, ◌∙◌, true≢false, arith}
+use Rattle.dom_base.proofs.Std.{one-add, nat_eq, nat_lt, if◌then◌else◌, unwrap_or, insert, position, position_or_len, lt-ltb}
 use Rattle.node_arena.specs.Nodes.{put_before}
 
 -- ---- the place of a node

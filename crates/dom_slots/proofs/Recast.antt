@@ -1,18 +1,10 @@
 -- Nodes with other documents or data leave all that is assigned: slots are read from names, kinds and attributes.
-use Rattle.std.proofs.Common.{◌≡◌, inl, inr, Bool, true, false, List, [], ◌∷◌, ◌++◌, All, map, filter, drop, Option, Some, None, refl, sym, ap, ◌∙◌}
-use Rattle.std.specs.Prelude.{find, if◌then◌else◌, option_to_list, unwrap_or}
-use Rattle.std.specs.Option.{option_map, option_map_or, option_and_then}
-use Rattle.std.proofs.lemmas.List.{map-append}
-use Rattle.dom_base.specs.declared.NodeName.{NodeName}
-use Rattle.dom_model.specs.Names.{DomString, Word, name_eq, is_in, first_of}
-use Rattle.dom_model.specs.Tree.{Trees, none, tree, Node, nodes, roots, names_of, no_node, node_in, or_else, subtree, inclusive_ancestors}
-use Rattle.dom_model.specs.Tree.{trees_below, children_of}
-use Rattle.dom_model.specs.TreeChanges.{map_nodes}
-use Rattle.dom_model.specs.Slots.{has_slot_name, slottable_name}
-use Rattle.dom_tree.specs.Forest.{NamedTrees, name_at}
-use Rattle.dom_slots.specs.Hosts.{ShadowHost, host_named, root_named}
-use Rattle.dom_slots.specs.Shadows.{ShadowTrees, shadow_trees, slot_at, assigned_at}
-use Rattle.dom_slots.specs.Kept.{SlotsNow, AreSlotsOf}
+use Rattle.dom_base.proofs.Std.{◌≡◌, Bool, true, false, List, [], ◌∷◌, map, filter, drop, Option, Some, None, refl, sym, ap, ◌∙◌, find, if◌then◌else◌}
+use Rattle.dom_base.proofs.Std.{option_to_list, unwrap_or, option_map, option_map_or, option_and_then, map-append}
+use Rattle.dom_model.proofs.Model.{NodeName, DomString, name_eq, is_in, first_of, Trees, none, tree, Node, nodes, roots, names_of, no_node, node_in, or_else}
+use Rattle.dom_model.proofs.Model.{subtree, inclusive_ancestors, trees_below, children_of, map_nodes, has_slot_name, slottable_name}
+use Rattle.dom_tree.specs.Definitions.{NamedTrees, name_at}
+use Rattle.dom_slots.specs.Definitions.{ShadowHost, host_named, root_named, ShadowTrees, shadow_trees, slot_at, assigned_at, SlotsNow, AreSlotsOf}
 
 -- a change of nodes that no slot sees
 pub record KeepsSlots (h : Node → Node) : Type 0 where

@@ -1,22 +1,11 @@
 -- The list of a slot is renewed.
-use Rattle.std.proofs.Common.{◌≡◌, inl, inr, ℕ, ◌<◌, Bool, true, false, not, ◌&&◌, ◌||◌, List, [], ◌∷◌, ◌++◌, All, map, fold, filter, length, refl}
-use Rattle.std.proofs.Common.{◌+◌, take, get_or, append_assoc, sym, ap, subst, ◌∙◌, true≢false}
-use Rattle.std.specs.Prelude.{nat_eq, if◌then◌else◌}
-use Rattle.std.proofs.lemmas.Bool.{and_parts, or_parts, or_left, or_right, eqb-true}
-use Rattle.std.proofs.lemmas.List.{append-nil, map-append, take_more}
-use Rattle.std.proofs.lemmas.List.Elements.{All-nil, filter-append}
-use Rattle.std.proofs.lemmas.List.Folds.{list_any-append}
-use Rattle.dom_base.specs.declared.NodeName.{NodeName}
-use Rattle.dom_model.specs.Names.{name_eq, list_eq, is_in, append_once}
-use Rattle.dom_model.proofs.OwnerLaws.{name_eq-turned, name_eq-true}
-use Rattle.dom_tree.specs.Forest.{NamedTrees, name_at}
-use Rattle.dom_tree.specs.Apart.{TellApart}
-use Rattle.dom_laws.proofs.Lists.{In, In-parts, In-from, is_in-from, filter-yes, filter-no, filter-none}
-use Rattle.dom_slots.specs.Hosts.{ShadowHost}
-use Rattle.dom_slots.specs.Renewals.{AreRenewed, Renews}
-use Rattle.dom_slots.specs.Insides.{AreRight}
-use Rattle.dom_slots.specs.Shadows.{shadows, assigned_at}
-use Rattle.dom_slots.specs.Tables.{SlotTable, list_of}
+use Rattle.dom_base.proofs.Std.{◌≡◌, inl, inr, ℕ, ◌<◌, Bool, true, false, not, ◌&&◌, ◌||◌, List, [], ◌∷◌, ◌++◌, All, map, fold, filter, length, refl, ◌+◌, take}
+use Rattle.dom_base.proofs.Std.{get_or, append_assoc, sym, ap, subst, ◌∙◌, true≢false, nat_eq, if◌then◌else◌, and_parts, or_parts, or_left, or_right, eqb-true}
+use Rattle.dom_base.proofs.Std.{append-nil, map-append, take_more, All-nil, filter-append, list_any-append}
+use Rattle.dom_model.proofs.Model.{NodeName, name_eq, list_eq, is_in, append_once, name_eq-turned, name_eq-true}
+use Rattle.dom_tree.specs.Definitions.{NamedTrees, name_at, TellApart}
+use Rattle.dom_laws.proofs.Laws.{In, In-parts, In-from, is_in-from, filter-yes, filter-no, filter-none}
+use Rattle.dom_slots.specs.Definitions.{ShadowHost, AreRenewed, Renews, AreRight, shadows, assigned_at, SlotTable, list_of}
 use Rattle.dom_slots.proofs.Entering.{entered_nodes, entered_beyond}
 use Rattle.dom_slots.proofs.Hosted.{key-test}
 use Rattle.dom_slots.proofs.OwnSignals.{again_added, passing, passes}

@@ -1,15 +1,8 @@
 -- The root of a node: it stands above the node, and all nodes of its tree have it as their root.
-use Rattle.std.proofs.Common.{◌≡◌, inl, inr, List, [], ◌∷◌, ◌++◌, Option, None, Some, refl, sym, ap, subst, ◌∙◌}
-use Rattle.std.specs.Prelude.{unwrap_or}
-use Rattle.std.specs.List.{last_or}
-use Rattle.dom_base.specs.declared.NodeName.{NodeName}
-use Rattle.dom_model.specs.Names.{name_eq, items_before, last_of}
-use Rattle.dom_model.specs.Tree.{Trees, subtree, inclusive_ancestors, parent_of, root_of}
-use Rattle.dom_laws.proofs.Chains.{above-split}
-use Rattle.dom_laws.proofs.Lists.{In}
-use Rattle.dom_laws.proofs.Shapes.{Has, has_or_not, subtree-absent, Has-above, Has-subtree, above-from_below, below-from_above, above-parent}
-use Rattle.dom_laws.proofs.Shapes.{above-present, above-root}
-use Rattle.dom_laws.proofs.Counts.{Once}
+use Rattle.dom_base.proofs.Std.{◌≡◌, inl, inr, List, [], ◌∷◌, ◌++◌, Option, None, Some, refl, sym, ap, subst, ◌∙◌, unwrap_or, last_or}
+use Rattle.dom_model.proofs.Model.{NodeName, name_eq, items_before, last_of, Trees, subtree, inclusive_ancestors, parent_of, root_of}
+use Rattle.dom_laws.proofs.Laws.{above-split, In, Has, has_or_not, subtree-absent, Has-above, Has-subtree, above-from_below, below-from_above, above-parent}
+use Rattle.dom_laws.proofs.Laws.{above-present, above-root, Once}
 
 -- the last item is one of the items
 last-in : (x : NodeName) (xs : List NodeName) (d : NodeName) → In (unwrap_or (last_or (Some x) xs) d) (x ∷ xs)

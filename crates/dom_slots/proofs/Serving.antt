@@ -1,24 +1,14 @@
 -- Slots are served in turn: the first of each name gets what waits under it, and the others nothing.
-use Rattle.std.proofs.Common.{◌≡◌, inl, ℕ, Bool, true, false, ◌&&◌, ◌||◌, List, [], ◌∷◌, ◌++◌, Option, Some, map, filter, refl, sym, ap, subst, ◌∙◌}
-use Rattle.std.proofs.Common.{append_assoc, true≢false}
-use Rattle.std.specs.Prelude.{find, if◌then◌else◌, option_to_list}
-use Rattle.std.specs.Option.{option_map, option_map_or, option_and_then}
-use Rattle.std.proofs.lemmas.List.{append-nil}
-use Rattle.std.proofs.lemmas.List.Elements.{filter-append}
-use Rattle.dom_base.specs.declared.NodeName.{NodeName}
-use Rattle.dom_model.specs.Names.{DomString, text_eq, name_eq, is_in, first_of}
-use Rattle.dom_model.specs.Slots.{is_slot_element, has_slot_name, slot_name, slots_among}
-use Rattle.dom_model.specs.Tree.{Node, nodes, node_in, subtree, children_of, root_of, inclusive_descendants}
-use Rattle.dom_model.proofs.OwnerLaws.{name_eq-other}
-use Rattle.dom_tree.specs.Forest.{NamedTrees, name_at}
-use Rattle.dom_laws.proofs.Children.{parent-of_child, Single-names}
-use Rattle.dom_laws.proofs.Counts.{Once, once_subtree}
-use Rattle.dom_laws.proofs.Lists.{In, Single, Single-apart, In-right, filter-same, filter-none, name_eq-from}
-use Rattle.dom_laws.proofs.Shapes.{Has}
-use Rattle.dom_slots.specs.Hosts.{ShadowHost, host_named, root_named}
-use Rattle.dom_slots.specs.Insides.{is_called}
-use Rattle.dom_slots.specs.Shadows.{ShadowTrees, shadows, is_assigned_at, is_first_at, assigned_at, assigned_under, looks_for}
-use Rattle.dom_slots.specs.Waiting.{Serves, is_wanted}
+use Rattle.dom_base.proofs.Std.{◌≡◌, inl, ℕ, Bool, true, false, ◌&&◌, ◌||◌, List, [], ◌∷◌, ◌++◌, Option, Some, map, filter, refl, sym, ap, subst, ◌∙◌}
+use Rattle.dom_base.proofs.Std.{append_assoc, true≢false, find, if◌then◌else◌, option_to_list, option_map, option_map_or, option_and_then, append-nil}
+use Rattle.dom_base.proofs.Std.{filter-append}
+use Rattle.dom_model.proofs.Model.{NodeName, DomString, text_eq, name_eq, is_in, first_of, is_slot_element, has_slot_name, slot_name, slots_among, Node, nodes}
+use Rattle.dom_model.proofs.Model.{node_in, subtree, children_of, root_of, inclusive_descendants, name_eq-other}
+use Rattle.dom_tree.specs.Definitions.{NamedTrees, name_at}
+use Rattle.dom_laws.proofs.Laws.{parent-of_child, Single-names, Once, once_subtree, In, Single, Single-apart, In-right, filter-same, filter-none, name_eq-from}
+use Rattle.dom_laws.proofs.Laws.{Has}
+use Rattle.dom_slots.specs.Definitions.{ShadowHost, host_named, root_named, is_called, ShadowTrees, shadows, is_assigned_at, is_first_at, assigned_at}
+use Rattle.dom_slots.specs.Definitions.{assigned_under, looks_for, Serves, is_wanted}
 use Rattle.dom_slots.proofs.Attaching.{in_filter}
 use Rattle.dom_slots.proofs.Firsts.{assigned-first, text_same, text_true}
 use Rattle.dom_slots.proofs.NamesOfNodes.{named-filter, named-first}

@@ -1,17 +1,10 @@
 -- What is assigned to a node stays where its tree stays, and the children of hosts but one with what they look for.
-use Rattle.std.proofs.Common.{◌≡◌, inl, inr, Bool, true, false, List, [], ◌∷◌, Option, None, Some, not, filter, refl, sym, ap, subst, ◌∙◌, true≢false}
-use Rattle.std.specs.Prelude.{find, if◌then◌else◌, option_to_list}
-use Rattle.std.specs.Option.{option_map, option_map_or, option_and_then}
-use Rattle.dom_base.specs.declared.NodeName.{NodeName}
-use Rattle.dom_model.specs.Names.{DomString, name_eq, is_in}
-use Rattle.dom_model.specs.Slots.{has_slot_name, slottable_name, slot_in}
-use Rattle.dom_model.specs.Tree.{Trees, Node, nodes, names_of, node_in, subtree, parent_of, root_of, children_of}
-use Rattle.dom_laws.proofs.Children.{parent-of_child, Has-names}
-use Rattle.dom_laws.proofs.Lists.{In, is_in-not, same_or_not, filter-same, name_eq-from}
-use Rattle.dom_laws.proofs.Shapes.{Has, has_or_not, subtree-within}
-use Rattle.dom_laws.proofs.Counts.{Once}
-use Rattle.dom_slots.specs.Hosts.{ShadowHost, host_named, root_named}
-use Rattle.dom_slots.specs.Shadows.{ShadowTrees, shadow_trees, is_assigned_at, assigned_under, assigned_at}
+use Rattle.dom_base.proofs.Std.{◌≡◌, inl, inr, Bool, true, false, List, [], ◌∷◌, Option, None, Some, not, filter, refl, sym, ap, subst, ◌∙◌, true≢false, find}
+use Rattle.dom_base.proofs.Std.{if◌then◌else◌, option_to_list, option_map, option_map_or, option_and_then}
+use Rattle.dom_model.proofs.Model.{NodeName, DomString, name_eq, is_in, has_slot_name, slottable_name, slot_in, Trees, Node, nodes, names_of, node_in, subtree}
+use Rattle.dom_model.proofs.Model.{parent_of, root_of, children_of}
+use Rattle.dom_laws.proofs.Laws.{parent-of_child, Has-names, In, is_in-not, same_or_not, filter-same, name_eq-from, Has, has_or_not, subtree-within, Once}
+use Rattle.dom_slots.specs.Definitions.{ShadowHost, host_named, root_named, ShadowTrees, shadow_trees, is_assigned_at, assigned_under, assigned_at}
 use Rattle.dom_slots.proofs.Assigned.{left-passes}
 use Rattle.dom_slots.proofs.PlacedTrees.{others}
 use Rattle.dom_slots.proofs.Shortened.{but-none}

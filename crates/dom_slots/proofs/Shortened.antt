@@ -1,10 +1,8 @@
 -- Names without one.
-use Rattle.std.proofs.Common.{◌≡◌, inl, inr, not, List, [], ◌∷◌, refl, ap, ◌∙◌}
-use Rattle.std.specs.Prelude.{if◌then◌else◌}
-use Rattle.dom_base.specs.declared.NodeName.{NodeName}
-use Rattle.dom_laws.proofs.Lists.{In}
-use Rattle.dom_slots.specs.Renewals.{names_but}
-use Rattle.dom_model.proofs.OwnerLaws.{name_eq-other}
+use Rattle.dom_base.proofs.Std.{◌≡◌, inl, inr, not, List, [], ◌∷◌, refl, ap, ◌∙◌, if◌then◌else◌}
+use Rattle.dom_model.proofs.Model.{NodeName, name_eq-other}
+use Rattle.dom_laws.proofs.Laws.{In}
+use Rattle.dom_slots.specs.Definitions.{names_but}
 
 -- without a name that is not there all are
 pub but-none : (x : NodeName) (ys : List NodeName) → (In x ys → ⊥) → names_but x ys ≡ ys

@@ -1,18 +1,12 @@
 -- What is read of trees with hosts is what is read of a world that has just these.
-use Rattle.std.proofs.Common.{◌≡◌, inl, inr, Bool, true, false, ◌&&◌, not, [], ◌∷◌, ◌++◌, Option, Some, None, option_map, filter, refl, sym, ap, ◌∙◌}
-use Rattle.std.specs.Prelude.{if◌then◌else◌, is_some, option_to_list}
-use Rattle.std.specs.Option.{option_and_then, option_map_or}
-use Rattle.std.proofs.lemmas.Bool.{cases_Bool, both_ways}
-use Rattle.dom_base.specs.declared.Owner.{Owner}
-use Rattle.dom_base.specs.declared.NodeName.{NodeName}
-use Rattle.dom_model.specs.Names.{name_eq, is_in, is_empty, distinct, list_eq}
-use Rattle.dom_model.specs.Tree.{Trees, Node, node_in, parent_of, children_of, root_of, subtree}
-use Rattle.dom_model.specs.World.{World, part_of, component_at, shadow_root_of, shadow_tree, some_if, host_above, parent_at, node_at, root_at, trees_with}
-use Rattle.dom_model.specs.Slots.{slot_of, slot_in, slots_among, assigned_nodes, slottables_of, is_assigned_to, is_slot_element, signals}
-use Rattle.dom_model.proofs.OwnerLaws.{name_eq-true}
+use Rattle.dom_base.proofs.Std.{◌≡◌, inl, inr, Bool, true, false, ◌&&◌, not, [], ◌∷◌, ◌++◌, Option, Some, None, option_map, filter, refl, sym, ap, ◌∙◌}
+use Rattle.dom_base.proofs.Std.{if◌then◌else◌, is_some, option_to_list, option_and_then, option_map_or, cases_Bool, both_ways}
+use Rattle.dom_model.proofs.Model.{Owner, NodeName, name_eq, is_in, is_empty, distinct, list_eq, Trees, Node, node_in, parent_of, children_of, root_of, subtree}
+use Rattle.dom_model.proofs.Model.{World, part_of, component_at, shadow_root_of, shadow_tree, some_if, host_above, parent_at, node_at, root_at, trees_with}
+use Rattle.dom_model.proofs.Model.{slot_of, slot_in, slots_among, assigned_nodes, slottables_of, is_assigned_to, is_slot_element, signals, name_eq-true}
 use Rattle.dom_tree.proofs.Owned.{read_own, stays_own}
-use Rattle.dom_laws.proofs.Lists.{name_eq-from}
-use Rattle.dom_slots.specs.Shadows.{ShadowTrees, IsShownBy, slot_at, assigned_at, assigned_under, is_assigned_at, signals_at}
+use Rattle.dom_laws.proofs.Laws.{name_eq-from}
+use Rattle.dom_slots.specs.Definitions.{ShadowTrees, IsShownBy, slot_at, assigned_at, assigned_under, is_assigned_at, signals_at}
 
 -- a value that is there is kept, or not
 pub some_if-kept : (o : Option NodeName) (b : Bool) → b ≡ true → option_and_then (some_if b) o ≡ o

@@ -1,17 +1,12 @@
 -- A walk along the children of a node.
-use Rattle.std.proofs.Common.{◌≡◌, inl, ℕ, ◌<◌, List, [], ◌∷◌, ◌++◌, length, Option, Some, None, suc, refl, sym, ap, subst, ◌∙◌, append_assoc, arith}
-use Rattle.std.specs.Option.{option_map, option_map_or, ForSome}
-use Rattle.std.proofs.lemmas.Option.{same_Some}
-use Rattle.dom_base.specs.declared.NodeName.{NodeName}
-use Rattle.dom_model.specs.Names.{name_eq, first_of, items_after, items_before}
-use Rattle.dom_model.specs.Tree.{Trees, parent_of, children_of, siblings, next_sibling, inclusive_descendants, subtree}
-use Rattle.dom_tree.specs.Forest.{NamedTrees, name_at}
+use Rattle.dom_base.proofs.Std.{◌≡◌, inl, ℕ, ◌<◌, List, [], ◌∷◌, ◌++◌, length, Option, Some, None, suc, refl, sym, ap, subst, ◌∙◌, append_assoc, arith}
+use Rattle.dom_base.proofs.Std.{option_map, option_map_or, ForSome, same_Some}
+use Rattle.dom_model.proofs.Model.{NodeName, name_eq, first_of, items_after, items_before, Trees, parent_of, children_of, siblings, next_sibling}
+use Rattle.dom_model.proofs.Model.{inclusive_descendants, subtree}
+use Rattle.dom_tree.specs.Definitions.{NamedTrees, name_at}
 use Rattle.dom_tree.proofs.Standing.{StandOnce, StandAlone, Once-forest, Has-forest}
-use Rattle.dom_laws.proofs.Lists.{In, Single, Single-apart, no_first, first_split, split_at, after-split, after-in}
-use Rattle.dom_laws.proofs.Lists.{name_eq-from}
-use Rattle.dom_laws.proofs.Counts.{Once}
-use Rattle.dom_laws.proofs.Shapes.{Has, above-present, above-parent, below-from_above}
-use Rattle.dom_laws.proofs.Children.{In-names, parent-of_child, child-of_parent, children-single}
+use Rattle.dom_laws.proofs.Laws.{In, Single, Single-apart, no_first, first_split, split_at, after-split, after-in, name_eq-from, Once, Has, above-present}
+use Rattle.dom_laws.proofs.Laws.{above-parent, below-from_above, In-names, parent-of_child, child-of_parent, children-single}
 
 -- the items from one on; none where there is none
 abbrev pub from_item : List NodeName → Option NodeName → List NodeName

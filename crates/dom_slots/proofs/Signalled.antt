@@ -1,18 +1,10 @@
 -- Signalled slots by their keys and by their names.
-use Rattle.std.proofs.Common.{◌≡◌, ℕ, ◌<◌, Bool, true, false, ◌&&◌, ◌||◌, not, List, [], ◌∷◌, ◌++◌, All, map, fold, length, filter, refl, sym, ap}
-use Rattle.std.proofs.Common.{subst, ◌∙◌, append_assoc}
-use Rattle.std.specs.Prelude.{nat_eq, if◌then◌else◌, Option, None, Some, MatchOption, option_to_list}
-use Rattle.std.specs.Option.{option_map}
-use Rattle.std.proofs.lemmas.List.{append-nil, map-append}
-use Rattle.std.proofs.lemmas.List.Elements.{All-push, All-head, All-tail}
-use Rattle.std.proofs.lemmas.List.Folds.{list_any-append}
-use Rattle.std.proofs.lemmas.List.Sums.{fold-append}
-use Rattle.dom_base.specs.declared.NodeName.{NodeName}
-use Rattle.dom_model.specs.Names.{name_eq, is_in, append_once, distinct, list_eq}
-use Rattle.dom_model.proofs.OwnerLaws.{name_eq-turned, name_eq-true}
-use Rattle.dom_tree.specs.Forest.{name_at}
-use Rattle.dom_tree.specs.Apart.{TellApart}
-use Rattle.dom_laws.proofs.Lists.{name_eq-from, filter-yes, filter-no}
+use Rattle.dom_base.proofs.Std.{◌≡◌, ℕ, ◌<◌, Bool, true, false, ◌&&◌, ◌||◌, not, List, [], ◌∷◌, ◌++◌, All, map, fold, length, filter, refl, sym, ap, subst, ◌∙◌}
+use Rattle.dom_base.proofs.Std.{append_assoc, nat_eq, if◌then◌else◌, Option, None, Some, MatchOption, option_to_list, option_map, append-nil, map-append}
+use Rattle.dom_base.proofs.Std.{All-push, All-head, All-tail, list_any-append, fold-append}
+use Rattle.dom_model.proofs.Model.{NodeName, name_eq, is_in, append_once, distinct, list_eq, name_eq-turned, name_eq-true}
+use Rattle.dom_tree.specs.Definitions.{name_at, TellApart}
+use Rattle.dom_laws.proofs.Laws.{name_eq-from, filter-yes, filter-no}
 use Rattle.dom_slots.proofs.Hosted.{key-test}
 
 -- ---- names added one by one are those of the list, each at its first place

@@ -1,13 +1,9 @@
 -- A step on trees moves one tree: what holds of each such move holds of the step.
-use Rattle.std.proofs.Common.{◌≡◌, inl, inr, List, Option, None, Some, refl, sym, ap, subst, ◌∙◌}
-use Rattle.dom_base.specs.declared.NodeName.{NodeName}
-use Rattle.dom_model.specs.Names.{Word, DomString}
-use Rattle.dom_model.specs.Tree.{Trees, none, tree, Node, subtree, parent_of, root_of}
-use Rattle.dom_model.specs.TreeChanges.{without, put_root, put_below, placed, taken_out, with_attribute}
-use Rattle.dom_laws.proofs.Removal.{without-apart, Once-without}
-use Rattle.dom_laws.proofs.Shapes.{Has, has_or_not}
-use Rattle.dom_laws.proofs.Counts.{Once}
-use Rattle.dom_slots.specs.Hosts.{ShadowHost}
+use Rattle.dom_base.proofs.Std.{◌≡◌, inl, inr, List, Option, None, Some, refl, sym, ap, subst, ◌∙◌}
+use Rattle.dom_model.proofs.Model.{NodeName, Word, DomString, Trees, none, tree, Node, subtree, parent_of, root_of, without, put_root, put_below, placed}
+use Rattle.dom_model.proofs.Model.{taken_out, with_attribute}
+use Rattle.dom_laws.proofs.Laws.{without-apart, Once-without, Has, has_or_not, Once}
+use Rattle.dom_slots.specs.Definitions.{ShadowHost}
 use Rattle.dom_slots.proofs.PlacedTrees.{Spot, Splits, splits, grafted, root-grafts, root-unparented, below-absent, below-grafts, Has-put_below}
 use Rattle.dom_slots.proofs.Moved.{AreBoth}
 use Rattle.dom_slots.proofs.Rooted.{root-below}

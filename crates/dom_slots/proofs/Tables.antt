@@ -1,11 +1,7 @@
 -- Tables as their lists hold them.
-use Rattle.std.proofs.Common.{◌≡◌, ℕ, zero, suc, ◌+◌, Bool, true, false, List, [], ◌∷◌, Some, Result, Ok, Err, refl, sym, ap, ◌∙◌, true≢false, arith}
-use Rattle.std.specs.Prelude.{nat_eq, Vec, if◌then◌else◌, unwrap_or, OnOk, is_err}
-use Rattle.std.specs.Map.{lookup}
-use Rattle.std.proofs.lemmas.Bool.{eq-eqb, ne_eqb}
-use Rattle.dom_slots.specs.KeyMaps.{list_at}
-use Rattle.dom_slots.specs.Tables.{list_of}
-use Rattle.dom_slots.specs.Lists.{table_from, table_in}
+use Rattle.dom_base.proofs.Std.{◌≡◌, ℕ, zero, suc, ◌+◌, Bool, true, false, List, [], ◌∷◌, Some, Result, Ok, Err, refl, sym, ap, ◌∙◌, true≢false, arith, nat_eq}
+use Rattle.dom_base.proofs.Std.{Vec, if◌then◌else◌, unwrap_or, OnOk, is_err, lookup, eq-eqb, ne_eqb}
+use Rattle.dom_slots.specs.Definitions.{list_at, list_of, table_from, table_in}
 
 -- a list is found by its slot
 list-from : {A : Type 0} (i k : ℕ) (rows : List (Vec ℕ A)) → list_at rows k ≡ list_of (table_from i rows) (i + k)

@@ -1,18 +1,9 @@
 -- The slots of the tree of a node.
-use Rattle.std.proofs.Common.{◌≡◌, ℕ, ◌<◌, true, length, subst}
-use Rattle.std.proofs.lemmas.Option.{get_or_from_slice_get, slice_get_within}
-use Rattle.dom_base.specs.declared.NodeName.{NodeName}
-use Rattle.dom_base.specs.declared.Owner.TheVariants.{Page}
-use Rattle.dom_model.specs.Names.{node_of}
-use Rattle.dom_model.specs.Slots.{is_slot_element, slots_among}
-use Rattle.dom_model.specs.Tree.{has_node, node_in, subtree, root_of, inclusive_descendants}
-use Rattle.dom_tree.specs.Forest.{NamedTrees, name_at}
-use Rattle.dom_laws.proofs.Children.{Has-names}
-use Rattle.dom_laws.proofs.Counts.{Once}
-use Rattle.dom_laws.proofs.Lists.{In}
-use Rattle.dom_laws.proofs.Shapes.{Has, Has-subtree}
-use Rattle.dom_slots.specs.Insides.{tree_slots}
-use Rattle.dom_slots.specs.Kept.{StandsOnce}
+use Rattle.dom_base.proofs.Std.{◌≡◌, ℕ, ◌<◌, true, length, subst, get_or_from_slice_get, slice_get_within}
+use Rattle.dom_model.proofs.Model.{NodeName, Page, node_of, is_slot_element, slots_among, has_node, node_in, subtree, root_of, inclusive_descendants}
+use Rattle.dom_tree.specs.Definitions.{NamedTrees, name_at}
+use Rattle.dom_laws.proofs.Laws.{Has-names, Once, In, Has, Has-subtree}
+use Rattle.dom_slots.specs.Definitions.{tree_slots, StandsOnce}
 use Rattle.dom_slots.proofs.Attaching.{in_filter}
 use Rattle.dom_slots.proofs.Far.{slot-among}
 use Rattle.dom_slots.proofs.NamesOfNodes.{named-filter}

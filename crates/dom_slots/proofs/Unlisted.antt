@@ -1,25 +1,12 @@
 -- A node that stands in no list of a table has no slot in the forest of the table, where its parent is the host of a tree of
 -- its own.
-use Rattle.std.proofs.Common.{◌≡◌, inl, inr, ℕ, ◌<◌, true, false, ◌||◌, List, [], map, length, Option, None, Some, refl, sym, ap, subst}
-use Rattle.std.proofs.Common.{◌∙◌, true≢false}
-use Rattle.std.specs.Prelude.{nat_eq, option_to_list}
-use Rattle.std.specs.Option.{option_map_or, option_and_then}
-use Rattle.std.proofs.lemmas.Option.{get_or_from_slice_get, slice_get_within}
-use Rattle.dom_base.specs.declared.NodeName.{NodeName}
-use Rattle.dom_base.specs.declared.Owner.TheVariants.{Page}
-use Rattle.dom_model.specs.Names.{name_eq, is_in, node_of}
-use Rattle.dom_model.specs.Slots.{slot_in}
-use Rattle.dom_model.specs.Tree.{nodes, names_of, node_in, subtree, parent_of, root_of, children_of}
-use Rattle.dom_tree.specs.Forest.{NamedTrees, name_at}
-use Rattle.dom_tree.specs.Apart.{TellApart}
-use Rattle.dom_laws.proofs.Children.{In-names, child-of_parent}
-use Rattle.dom_laws.proofs.Lists.{In, is_in-from, name_eq-from}
-use Rattle.dom_laws.proofs.Shapes.{Has, Has-subtree, has_or_not}
-use Rattle.dom_laws.proofs.Counts.{Once}
-use Rattle.dom_slots.specs.Hosts.{ShadowHost, host_named, root_named}
-use Rattle.dom_slots.specs.Kept.{StandsOnce}
-use Rattle.dom_slots.specs.Shadows.{ShadowTrees, shadows, slot_at, is_assigned_at, assigned_under, assigned_at}
-use Rattle.dom_slots.specs.Tables.{SlotTable, list_of, IsTableOf}
+use Rattle.dom_base.proofs.Std.{◌≡◌, inl, inr, ℕ, ◌<◌, true, false, ◌||◌, List, [], map, length, Option, None, Some, refl, sym, ap, subst, ◌∙◌, true≢false}
+use Rattle.dom_base.proofs.Std.{nat_eq, option_to_list, option_map_or, option_and_then, get_or_from_slice_get, slice_get_within}
+use Rattle.dom_model.proofs.Model.{NodeName, Page, name_eq, is_in, node_of, slot_in, nodes, names_of, node_in, subtree, parent_of, root_of, children_of}
+use Rattle.dom_tree.specs.Definitions.{NamedTrees, name_at, TellApart}
+use Rattle.dom_laws.proofs.Laws.{In-names, child-of_parent, In, is_in-from, name_eq-from, Has, Has-subtree, has_or_not, Once}
+use Rattle.dom_slots.specs.Definitions.{ShadowHost, host_named, root_named, StandsOnce, ShadowTrees, shadows, slot_at, is_assigned_at, assigned_under}
+use Rattle.dom_slots.specs.Definitions.{assigned_at, SlotTable, list_of, IsTableOf}
 use Rattle.dom_slots.proofs.Attaching.{to_filter}
 use Rattle.dom_slots.proofs.Rooted.{root-alone, root-below}
 use Rattle.dom_slots.proofs.Settled.{slot-outside}

@@ -1,10 +1,7 @@
 -- Who waits under a name, once others were taken away or put there.
-use Rattle.std.proofs.Common.{◌≡◌, ℕ, Bool, true, false, ◌&&◌, List, [], ◌∷◌, ◌++◌, Option, None, Some, refl, ap, ◌∙◌}
-use Rattle.std.specs.Prelude.{Vec, cond, nat_eq, if◌then◌else◌}
-use Rattle.std.specs.Cmp.Lexicographic.{pointwise}
-use Rattle.std.specs.Global.{Global}
-use Rattle.std.specs.Option.{option_map_or}
-use Rattle.dom_model.specs.Names.{text_eq}
+use Rattle.dom_base.proofs.Std.{◌≡◌, ℕ, Bool, true, false, ◌&&◌, List, [], ◌∷◌, ◌++◌, Option, None, Some, refl, ap, ◌∙◌, Vec, cond, nat_eq, if◌then◌else◌}
+use Rattle.dom_base.proofs.Std.{pointwise, Global, option_map_or}
+use Rattle.dom_model.proofs.Model.{text_eq}
 use Rattle.dom_slots.proofs.Firsts.{text_true}
 
 -- texts that are compared one by one

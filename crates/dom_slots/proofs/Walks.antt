@@ -1,20 +1,11 @@
 -- A walk through the tree of a node, from its top on.
-use Rattle.std.proofs.Common.{◌≡◌, ℕ, ◌<◌, Bool, true, false, ◌&&◌, List, [], ◌∷◌, ◌++◌, All, map, length, Option, Some, filter, refl, sym}
-use Rattle.std.proofs.Common.{ap, subst, ◌∙◌, append_assoc}
-use Rattle.std.specs.Prelude.{if◌then◌else◌}
-use Rattle.std.proofs.lemmas.List.{map-append}
-use Rattle.std.proofs.lemmas.List.Elements.{All-push}
-use Rattle.std.specs.Option.{option_map, ForSome}
-use Rattle.dom_base.specs.declared.NodeName.{NodeName}
-use Rattle.dom_model.specs.Names.{first_of}
-use Rattle.dom_model.specs.Tree.{inclusive_descendants}
-use Rattle.dom_tree.specs.Forest.{NamedTrees, name_at}
+use Rattle.dom_base.proofs.Std.{◌≡◌, ℕ, ◌<◌, Bool, true, false, ◌&&◌, List, [], ◌∷◌, ◌++◌, All, map, length, Option, Some, filter, refl, sym, ap, subst, ◌∙◌}
+use Rattle.dom_base.proofs.Std.{append_assoc, if◌then◌else◌, map-append, All-push, option_map, ForSome}
+use Rattle.dom_model.proofs.Model.{NodeName, first_of, inclusive_descendants}
+use Rattle.dom_tree.specs.Definitions.{NamedTrees, name_at, StandsIn}
 use Rattle.dom_laws.specs.Within.{behind, from_node}
-use Rattle.dom_tree.specs.Within.{StandsIn}
-use Rattle.dom_laws.proofs.Lists.{filter-yes, filter-no}
+use Rattle.dom_laws.proofs.Laws.{filter-yes, filter-no, above-within, ordered, top_places}
 use Rattle.dom_tree.proofs.Standing.{StandOnce, StandAlone}
-use Rattle.dom_laws.proofs.Order.{above-within}
-use Rattle.dom_laws.proofs.Steps.{ordered, top_places}
 use Rattle.dom_tree.proofs.Searching.{IsWithin-itself, following_step, length-behind}
 
 module _ (f : NamedTrees) (once : StandOnce f) (only : StandAlone f) (top : ℕ) (node : top < length f.names) where

@@ -1,13 +1,8 @@
 -- What holds of each node holds of the slots in a tree.
-use Rattle.std.proofs.Common.{◌≡◌, inl, inr, Bool, true, false, ◌||◌, List, [], ◌∷◌, ◌++◌, filter, refl, sym, ap, subst, ◌∙◌}
-use Rattle.std.specs.Prelude.{if◌then◌else◌}
-use Rattle.std.proofs.lemmas.List.{map-append}
-use Rattle.std.proofs.lemmas.List.Folds.{list_any-append}
-use Rattle.dom_base.specs.declared.NodeName.{NodeName}
-use Rattle.dom_model.specs.Names.{name_eq, is_in}
-use Rattle.dom_model.specs.Slots.{slots_among, is_slot_element}
-use Rattle.dom_model.specs.Tree.{Trees, none, tree, Node, nodes, names_of, or_else, subtree, has_node}
-use Rattle.dom_laws.proofs.Lists.{In, name_eq-from}
+use Rattle.dom_base.proofs.Std.{◌≡◌, inl, inr, Bool, true, false, ◌||◌, List, [], ◌∷◌, ◌++◌, filter, refl, sym, ap, subst, ◌∙◌, if◌then◌else◌, map-append}
+use Rattle.dom_base.proofs.Std.{list_any-append}
+use Rattle.dom_model.proofs.Model.{NodeName, name_eq, is_in, slots_among, is_slot_element, Trees, none, tree, Node, nodes, names_of, or_else, subtree, has_node}
+use Rattle.dom_laws.proofs.Laws.{In, name_eq-from}
 
 -- a property of each node of a list
 abbrev Each : (Node → Type 0) → List Node → Type 0

@@ -11,3 +11,4 @@ pub mod Fields
 pub mod Renewals
 pub mod Insides
 pub mod Waiting
+pub mod Definitions

@@ -1,8 +1,7 @@
 -- Laws of what a view keeps of a text.
-use Rattle.std.proofs.Common.{◌≡◌, ℕ, ◌+◌, Bool, true, false, cond, List, [], ◌∷◌, ◌++◌, length, take, drop, filter, sym, ap, ◌∙◌, append-nil, arith}
-use Rattle.std.proofs.lemmas.List.{length-take}
-use Rattle.std.proofs.Math.Seq.{take-append-add}
-use Rattle.dom_text.specs.Lines.{line_feed, IsOneLine, cut_of, text_of_lines, begins_with}
+use Rattle.dom_base.proofs.Std.{◌≡◌, ℕ, ◌+◌, Bool, true, false, cond, List, [], ◌∷◌, ◌++◌, length, take, drop, filter, sym, ap, ◌∙◌, append-nil, arith}
+use Rattle.dom_base.proofs.Std.{length-take, take-append-add}
+use Rattle.dom_text.specs.Definitions.{line_feed, IsOneLine, cut_of, text_of_lines, begins_with}
 use Rattle.dom_reader.proofs.StreamLaws.{cut_of-front, cut_of-one_line}
 use Rattle.dom_streams.specs.Piece.{EndsAt}
 

@@ -1,22 +1,13 @@
 -- What is read behind a keyword: the forms of commands with words of their own, from `new` to `unlisten`.
-use Rattle.std.proofs.lemmas.Bool.{eqb-false}
+use Rattle.dom_base.proofs.Std.{eqb-false, eqb, ◌≡◌, ℕ, Bool, List, [], ◌∷◌, ◌++◌, Some, refl, subst, ◌≢◌, true, false, get_or, Option, None, sym, ap, ◌∙◌}
+use Rattle.dom_base.proofs.Std.{codes, bytes_eq}
 use Rattle.dom_base.specs.declared.Kind.TheVariants as kinds
 use Rattle.dom_text.specs.Commands as keyword
-use Rattle.std.proofs.Common.{eqb, ◌≡◌, ℕ, Bool, List, [], ◌∷◌, ◌++◌, Some, refl, subst, ◌≢◌, true, false, get_or, Option, None, sym, ap, ◌∙◌}
-use Rattle.std.specs.Prelude.{codes, bytes_eq}
-use Rattle.dom_base.specs.declared.Owner.{Owner}
-use Rattle.dom_base.specs.declared.Owner.TheVariants.{Page, Component}
-use Rattle.dom_base.specs.declared.Kind.{Kind}
-use Rattle.dom_base.specs.declared.Move.{Move}
-use Rattle.dom_model.specs.Names.{Word, DomString}
-use Rattle.dom_model.specs.Command.{NodeWord, Filter, Command, new_element, new_text, new_comment, new_fragment, assigned, listen, unlisten, dispatch, observe}
-use Rattle.dom_text.specs.Commands.{Keyword, keyword_word, parts}
-use Rattle.dom_text.specs.Words.{kind_word, new_kinds}
-use Rattle.dom_text.specs.Tokens.{IsWord, IsShow, IsNameFilter, IsAttributeFilter}
-use Rattle.dom_text.specs.Grammar.{MayUse, Spells}
-use Rattle.dom_text.specs.LineParts.{LinePart, key, node, flag, perhaps, related_parts}
-use Rattle.dom_text.specs.Readers.{next_as, named, show_of, name_filter_of, attribute_filter_of, flag_at, last_as}
-use Rattle.dom_text.specs.Forms.{new_of, new_at, assigned_at, related_at}
+use Rattle.dom_model.proofs.Model.{Owner, Page, Component, Kind, Move, Word, DomString, NodeWord, Filter, Command, new_element, new_text, new_comment}
+use Rattle.dom_model.proofs.Model.{new_fragment, assigned, listen, unlisten, dispatch, observe}
+use Rattle.dom_text.specs.Definitions.{Keyword, keyword_word, parts, kind_word, new_kinds, IsWord, IsShow, IsNameFilter, IsAttributeFilter, MayUse, Spells}
+use Rattle.dom_text.specs.Definitions.{LinePart, key, node, flag, perhaps, related_parts, next_as, named, show_of, name_filter_of, attribute_filter_of, flag_at}
+use Rattle.dom_text.specs.Definitions.{last_as, new_of, new_at, assigned_at, related_at}
 use Rattle.dom_text.proofs.WordLaws.{bind_then, at_end_some}
 use Rattle.dom_text.proofs.PartLaws.{ReadsPart, next_word_reads, next_as_reads, LineReader, part_then, one_part, next_string_reads}
 use Rattle.dom_text.proofs.NameLaws.{word_by_test, named_sound, show_says, name_filter_says, attribute_filter_says}

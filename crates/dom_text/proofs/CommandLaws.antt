@@ -1,22 +1,16 @@
 -- Commands: what is read behind an owner's word is a command of the grammar, and each is read.
-use Rattle.std.proofs.Common.{◌≡◌, ℕ, List, [], ◌∷◌, drop, Option, Some, refl, ap, subst, ◌∙◌}
-use Rattle.dom_base.specs.declared.Owner.{Owner}
-use Rattle.dom_base.specs.declared.Owner.TheVariants.{Page, Component}
-use Rattle.dom_base.specs.declared.Kind.{Kind}
+use Rattle.dom_base.proofs.Std.{◌≡◌, ℕ, List, [], ◌∷◌, drop, Option, Some, refl, ap, subst, ◌∙◌}
+use Rattle.dom_model.proofs.Model.{Owner, Page, Component, Kind, Command, NodeWord, new_element, new_text, new_comment, new_fragment, new_document, append}
+use Rattle.dom_model.proofs.Model.{insert, replace, adopt, unset_attribute, set_data, split, set_text, attribute, contains, assigned, range_new, range_start}
+use Rattle.dom_model.proofs.Model.{range_end, range_collapse, range_drop, range_get, range_text, extract, delete, insert_node, iterator_new, walker_new}
+use Rattle.dom_model.proofs.Model.{iterator_next, iterator_previous, iterator_at, walk, walker_at, walker_set, query, matches, listen, unlisten, dispatch}
+use Rattle.dom_model.proofs.Model.{observer, observe, disconnect, take, micro, end_turn}
 use Rattle.dom_base.specs.declared.Kind.TheVariants as kinds
-use Rattle.dom_model.specs.Command.{Command, NodeWord, new_element, new_text, new_comment, new_fragment, new_document, append, insert, replace, adopt}
-use Rattle.dom_model.specs.Command.{set_attribute, unset_attribute, set_data, replace_data, split, set_text, attribute, contains, assigned, range_new}
-use Rattle.dom_model.specs.Command.{range_start, range_end, range_collapse, range_drop, range_get, range_text, extract, delete, insert_node, iterator_new}
-use Rattle.dom_model.specs.Command.{walker_new, iterator_next, iterator_previous, iterator_at, walk, walker_at, walker_set, query, matches, listen, unlisten}
-use Rattle.dom_model.specs.Command.{dispatch, observer, observe, disconnect, take, micro, end_turn}
-use Rattle.dom_text.specs.Commands.{Keyword, keyword_word, parts, command_behind}
+use Rattle.dom_model.specs.Command.{set_attribute, replace_data}
+use Rattle.dom_text.specs.Definitions.{Keyword, keyword_word, parts, command_behind, kind_word, new_kinds, MayUse, Spells, LinePart, key, word, string, node}
+use Rattle.dom_text.specs.Definitions.{◌>>=◌, next_as, named, command_at, new_of, new_at, node_at, one}
 use Rattle.dom_text.specs.Commands as keyword
-use Rattle.dom_text.specs.Words.{kind_word, new_kinds}
-use Rattle.dom_text.specs.Grammar.{MayUse, Spells}
-use Rattle.dom_text.specs.LineParts.{LinePart, key, word, string, node}
-use Rattle.dom_text.specs.Readers.{◌>>=◌, next_as, named}
-use Rattle.dom_text.specs.Decode.{keyword_of, command_at}
-use Rattle.dom_text.specs.Forms.{new_of, new_at, node_at, one}
+use Rattle.dom_text.specs.Decode.{keyword_of}
 use Rattle.dom_text.proofs.PartLaws.{LineReader, next_word_reads, next_as_reads, Spells-ends, ended, one_part, next_string_reads}
 use Rattle.dom_text.proofs.CommandParts.{keyword_says}
 use Rattle.dom_text.proofs.CommandForms.{cursor, a_listener, no_listener, an_event, observed_node, IsBehind, read_behind, new_kind, kind_reads, new_behind}

@@ -1,28 +1,19 @@
 -- The readers of the parts of commands: what they read is the part, and each part is read. Words may be left out.
-use Rattle.std.proofs.Common.{◌||◌, ◌≡◌, Bool, true, false, [], ◌∷◌, Some, refl, arith, ◌≢◌, ℕ, cond, List, Option, None, sym, ap, subst, ◌∙◌}
-use Rattle.std.specs.Prelude.{codes, bytes_eq}
-use Rattle.dom_base.specs.declared.Owner.{Owner}
-use Rattle.dom_base.specs.declared.Move.{Move}
+use Rattle.dom_base.proofs.Std.{◌||◌, ◌≡◌, Bool, true, false, [], ◌∷◌, Some, refl, arith, ◌≢◌, ℕ, cond, List, Option, None, sym, ap, subst, ◌∙◌, codes}
+use Rattle.dom_base.proofs.Std.{bytes_eq, or_parts, false_from_ne_true, other_text}
+use Rattle.dom_model.proofs.Model.{Owner, Move, Action, Word}
 use Rattle.dom_base.specs.declared.Move.TheVariants as moves
-use Rattle.dom_base.specs.declared.Action.{Action}
 use Rattle.dom_base.specs.declared.Action.TheVariants as actions
-use Rattle.dom_text.specs.Commands.{Keyword, keyword_word, keywords}
+use Rattle.dom_text.specs.Definitions.{Keyword, keyword_word, keywords, action_word, actions_listed, move_word, moves_listed, end_word, IsWord, Spells, key}
+use Rattle.dom_text.specs.Definitions.{label, number, node, range, iterator, walker, observed, LinePart, flag, perhaps, ◌>>=◌, named, next_word, next_as}
+use Rattle.dom_text.specs.Definitions.{flag_found, flag_at, last_as, node_at, range_number_at, iterator_number_at, walker_number_at, observer_number_at}
+use Rattle.dom_text.specs.Definitions.{number_at, label_at, to_start_at, action_at, move_at}
 use Rattle.dom_text.specs.Commands as keyword
-use Rattle.dom_text.specs.Words.{action_word, actions_listed, move_word, moves_listed, end_word}
-use Rattle.dom_text.specs.Tokens.{IsWord}
-use Rattle.dom_text.specs.Grammar.{Spells}
-use Rattle.dom_text.specs.LineParts.{key, label, number, node, range, iterator, walker, observed, LinePart, flag, perhaps}
-use Rattle.dom_text.specs.Readers.{◌>>=◌, named, next_word, next_as, flag_found, flag_at, last_as}
-use Rattle.dom_text.specs.Forms.{node_at, range_number_at, iterator_number_at, walker_number_at, observer_number_at, number_at, label_at, to_start_at}
-use Rattle.dom_text.specs.Forms.{action_at, move_at}
 use Rattle.dom_text.specs.Decode.{keyword_of}
 use Rattle.dom_text.proofs.PartLaws.{LineReader, ended, SaysPart, ReadsPart, next_as_reads, next_word_reads, Spells-ends, one_part}
 use Rattle.dom_text.proofs.NumberLaws.{number_says, numbered_says, bytes_eq-true, eq-bytes_eq}
 use Rattle.dom_text.proofs.NodeLaws.{node_says}
 use Rattle.dom_text.proofs.NameLaws.{word_by_test, named_says, label_says}
-use Rattle.std.proofs.lemmas.Bool.{or_parts, false_from_ne_true}
-use Rattle.std.specs.Cmp.Lexicographic.{other_text}
-use Rattle.dom_model.specs.Names.{Word}
 use Rattle.dom_text.proofs.WordLaws.{bind_then, some_is}
 
 -- ---- what is found

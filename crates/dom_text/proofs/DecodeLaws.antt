@@ -1,19 +1,11 @@
 -- What is computed of a line is what the grammar says of it, and the grammar says one thing of each line.
-use Rattle.std.proofs.Common.{◌≡◌, ℕ, ◌+◌, ◌-◌, ◌<◌, ◌≤◌, Bool, true, false, ltb, eqb, List, [], ◌∷◌, ◌++◌, length, take, drop, Option, Some, None, refl, sym}
-use Rattle.std.proofs.Common.{ap, subst, ◌∙◌, append_assoc, arith, inl, inr}
-use Rattle.std.proofs.lemmas.Bool.{ltb-true, ltb-false, eqb-true, cases_lt}
-use Rattle.std.proofs.lemmas.Option.{some_pair_parts}
-use Rattle.std.proofs.lemmas.List.{length-append, length-take, take_all, take-append-drop}
-use Rattle.std.proofs.Math.Seq.{take-append-add}
-use Rattle.dom_base.specs.declared.Owner.{Owner}
-use Rattle.dom_base.specs.declared.Owner.TheVariants.{Page, Component}
-use Rattle.dom_model.specs.Command.{Command, Line, no_owner, no_command, command}
-use Rattle.dom_text.specs.Lines.{max_line, kept_line}
-use Rattle.dom_text.specs.Tokens.{IsOwner}
-use Rattle.dom_text.specs.Grammar.{Spells, IsLine, BelongsTo, Says}
-use Rattle.dom_text.specs.Commands.{parts, command_behind}
-use Rattle.dom_text.specs.Readers.{◌>>=◌, word_at, next_as, owner_of}
-use Rattle.dom_text.specs.Decode.{keyword_of, command_at, before_space, owner_at, owned_line, said_by, line_of, decode}
+use Rattle.dom_base.proofs.Std.{◌≡◌, ℕ, ◌+◌, ◌-◌, ◌<◌, ◌≤◌, Bool, true, false, ltb, eqb, List, [], ◌∷◌, ◌++◌, length, take, drop, Option, Some, None, refl, sym}
+use Rattle.dom_base.proofs.Std.{ap, subst, ◌∙◌, append_assoc, arith, inl, inr, ltb-true, ltb-false, eqb-true, cases_lt, some_pair_parts, length-append}
+use Rattle.dom_base.proofs.Std.{length-take, take_all, take-append-drop, take-append-add}
+use Rattle.dom_model.proofs.Model.{Owner, Page, Component, Command, Line, no_owner, no_command, command}
+use Rattle.dom_text.specs.Definitions.{max_line, IsOwner, Spells, IsLine, BelongsTo, Says, parts, command_behind, ◌>>=◌, word_at, next_as, owner_of, keyword_of}
+use Rattle.dom_text.specs.Definitions.{command_at, before_space, owner_at, owned_line, said_by, line_of, decode}
+use Rattle.dom_text.specs.Lines.{kept_line}
 use Rattle.dom_text.proofs.WordLaws.{bind_then, some_is, only_if_some, word_at_sound, word_at_complete}
 use Rattle.dom_text.proofs.PartLaws.{next_as_reads}
 use Rattle.dom_text.proofs.NodeLaws.{component_short, owner_sound, owner_complete, owner_is_word}

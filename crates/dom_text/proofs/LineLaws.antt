@@ -1,7 +1,6 @@
 -- Laws of the cut into lines.
-use Rattle.std.proofs.Common.{◌≡◌, ℕ, Bool, true, false, List, [], ◌∷◌, ◌++◌, refl, ap, ◌∙◌, eqb, append_assoc}
-use Rattle.std.specs.List.{AllByRecursion}
-use Rattle.dom_text.specs.Lines.{line_feed, with_byte, lines_of, IsOneLine, Cut, byte_before, cut_of, last_line, text_of_lines}
+use Rattle.dom_base.proofs.Std.{◌≡◌, ℕ, Bool, true, false, List, [], ◌∷◌, ◌++◌, refl, ap, ◌∙◌, eqb, append_assoc, AllByRecursion}
+use Rattle.dom_text.specs.Definitions.{line_feed, with_byte, lines_of, IsOneLine, Cut, byte_before, cut_of, last_line, text_of_lines}
 
 -- a finished line, and then the lines of the bytes behind it
 pub lines_of-line : (line rest : List ℕ) → IsOneLine line → lines_of (line ++ line_feed ∷ rest) ≡ line ∷ lines_of rest

@@ -1,28 +1,16 @@
 -- The words of components, nodes and owners: they are just the texts of the grammar, and a component's say the numbers of a path.
-use Rattle.std.proofs.Common.{◌≡◌, ℕ, cond, eqb, List, [], ◌∷◌, ◌++◌, Option, Some, None, refl, sym, ap, ◌∙◌, append_assoc, arith, inl, inr, ◌≢◌, suc, ◌+◌}
-use Rattle.std.proofs.Common.{◌*◌, ◌<◌, ◌≤◌, true, false, Bool, not, ltb, length, take, fold}
-use Rattle.std.specs.Prelude.{codes, option_map}
-use Rattle.std.specs.List.{AllByRecursion, join_with_byte}
-use Rattle.std.specs.Int.{IsInRange}
-use Rattle.std.proofs.lemmas.Bool.{eqb-true, lt-ltb, ltb-true, false_from_ne_true}
-use Rattle.dom_base.specs.declared.Owner.{Owner}
-use Rattle.dom_base.specs.declared.Owner.TheVariants.{Page, Component}
-use Rattle.dom_model.specs.Names.{ComponentName}
-use Rattle.dom_model.specs.Command.{NodeWord, own, foreign}
-use Rattle.dom_text.specs.Tokens.{IsWordByte, IsWord, IsNumber, IsNumbered, IsComponent, IsFullName, IsNode, IsOwner, IsPositive, ArePositive, path_from}
-use Rattle.dom_text.specs.LineParts.{node}
-use Rattle.dom_text.specs.Readers.{◌>>=◌, at_end, number_of, behind, component_of, owner_of, page_node, inner_node, is_no_colon, full_name_of, node_word_of}
-use Rattle.dom_text.specs.Readers.{only_if, positive_of, between_dots, path_onto}
+use Rattle.dom_base.proofs.Std.{◌≡◌, ℕ, cond, eqb, List, [], ◌∷◌, ◌++◌, Option, Some, None, refl, sym, ap, ◌∙◌, append_assoc, arith, inl, inr, ◌≢◌, suc, ◌+◌}
+use Rattle.dom_base.proofs.Std.{◌*◌, ◌<◌, ◌≤◌, true, false, Bool, not, ltb, length, take, fold, codes, option_map, AllByRecursion, join_with_byte, IsInRange}
+use Rattle.dom_base.proofs.Std.{eqb-true, lt-ltb, ltb-true, false_from_ne_true, take-suc-set, append-nil, length-append, length-set, All-from_recursion}
+use Rattle.dom_base.proofs.Std.{slice_split_none, slice_split_at, length-slice_split, join_with_byte-slice_split}
+use Rattle.dom_model.proofs.Model.{Owner, Page, Component, ComponentName, NodeWord, own, foreign, MAX_DEPTH, no_path, longer_path}
+use Rattle.dom_text.specs.Definitions.{IsWordByte, IsWord, IsNumber, IsNumbered, IsComponent, IsFullName, IsNode, IsOwner, IsPositive, ArePositive, path_from}
+use Rattle.dom_text.specs.Definitions.{node, ◌>>=◌, at_end, number_of, behind, component_of, owner_of, page_node, inner_node, is_no_colon, full_name_of}
+use Rattle.dom_text.specs.Definitions.{node_word_of, only_if, positive_of, between_dots, path_onto}
 use Rattle.dom_text.proofs.WordLaws.{bind_then, some_is, at_end_some, run, behind_run, run_sound, run_complete, chosen, only_if_some, each_from, Passes}
 use Rattle.dom_text.proofs.PartLaws.{SaysPart}
 use Rattle.dom_text.proofs.NumberLaws.{number_sound, number_complete, IsNumber-word_bytes, word_from, longer_word, behind_sound, positive_of_sound}
 use Rattle.dom_text.proofs.NumberLaws.{positive_of_complete, IsPositive-bytes, each-append}
-use Rattle.std.proofs.Math.Seq.{take-suc-set}
-use Rattle.std.proofs.lemmas.List.{append-nil, length-append, length-set}
-use Rattle.std.proofs.lemmas.List.Elements.{All-from_recursion}
-use Rattle.std.proofs.lemmas.List.Splits.{slice_split_none, slice_split_at, length-slice_split, join_with_byte-slice_split}
-use Rattle.dom_base.specs.declared.TheConstants.{MAX_DEPTH}
-use Rattle.dom_base.specs.Owners.{no_path, longer_path}
 
 -- ---- paths by their numbers
 

@@ -1,9 +1,7 @@
 -- The text of lines that come one after another.
-use Rattle.std.proofs.Common.{◌≡◌, ℕ, List, [], ◌∷◌, ◌++◌, map, refl, sym, ap, ◌∙◌, append_assoc}
-use Rattle.std.proofs.lemmas.List.{map-append}
-use Rattle.dom_model.specs.Output.{Output}
-use Rattle.dom_text.specs.Lines.{line_feed, text_of_lines}
-use Rattle.dom_text.specs.Text.{output_line, output_text}
+use Rattle.dom_base.proofs.Std.{◌≡◌, ℕ, List, [], ◌∷◌, ◌++◌, map, refl, sym, ap, ◌∙◌, append_assoc, map-append}
+use Rattle.dom_model.proofs.Model.{Output}
+use Rattle.dom_text.specs.Definitions.{line_feed, text_of_lines, output_line, output_text}
 
 -- text of lines, one after another
 pub text_of_lines-append : (xs ys : List (List ℕ)) → text_of_lines (xs ++ ys) ≡ text_of_lines xs ++ text_of_lines ys

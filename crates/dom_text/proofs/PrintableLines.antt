@@ -1,20 +1,11 @@
 -- Each byte of a line that says a command is one of text: 0x20 to 0x7E.
-use Rattle.std.proofs.Common.{◌≡◌, ℕ, Bool, true, false, List, [], ◌∷◌, Option, Some, None, arith, refl}
-use Rattle.std.specs.Prelude.{codes}
-use Rattle.std.specs.List.{AllByRecursion, list_all}
-use Rattle.std.specs.Int.{IsInRange, is_in_range}
-use Rattle.std.specs.Char.{is_ascii_hexdigit}
-use Rattle.std.proofs.lemmas.Bool.Decides.{nat_tests}
-use Rattle.dom_base.specs.declared.Owner.{Owner}
-use Rattle.dom_base.specs.declared.Move.{Move}
-use Rattle.dom_model.specs.Names.{Word}
-use Rattle.dom_model.specs.Command.{NodeWord, Filter, ListenerWords, EventWords, ObserveWords, Command, new_element, iterator_new, walker_new, listen}
-use Rattle.dom_model.specs.Command.{unlisten, dispatch, observe}
-use Rattle.dom_text.specs.Words.{end_word, move_word, action_word}
-use Rattle.dom_text.specs.Tokens.{IsWord, IsNumbered, IsItem, itself, quote, backslash, by_digits, AreItems}
-use Rattle.dom_text.specs.LineParts.{LinePart, key, word, string, flag, perhaps, filter_parts, listener_parts, related_parts, event_parts, observe_parts}
-use Rattle.dom_text.specs.Grammar.{Spells, IsLine}
-use Rattle.dom_text.specs.Commands.{parts}
+use Rattle.dom_base.proofs.Std.{◌≡◌, ℕ, Bool, true, false, List, [], ◌∷◌, Option, Some, None, arith, refl, codes, AllByRecursion, list_all, IsInRange}
+use Rattle.dom_base.proofs.Std.{is_in_range, is_ascii_hexdigit, nat_tests}
+use Rattle.dom_model.proofs.Model.{Owner, Move, Word, NodeWord, Filter, ListenerWords, EventWords, ObserveWords, Command, new_element, iterator_new, walker_new}
+use Rattle.dom_model.proofs.Model.{listen, unlisten, dispatch, observe}
+use Rattle.dom_text.specs.Definitions.{end_word, move_word, action_word, IsWord, IsNumbered, IsItem, itself, quote, backslash, by_digits, AreItems, LinePart}
+use Rattle.dom_text.specs.Definitions.{key, word, string, flag, perhaps, filter_parts, listener_parts, related_parts, event_parts, observe_parts, Spells}
+use Rattle.dom_text.specs.Definitions.{IsLine, parts}
 use Rattle.dom_text.proofs.WordLaws.{in_range_is, each_from, list_all_each}
 use Rattle.dom_text.proofs.NumberLaws.{each-append, number_says, numbered_says}
 use Rattle.dom_text.proofs.NodeLaws.{node_says, owner_is_word}

@@ -1,10 +1,8 @@
 -- Lines that are refused and many lines, and what is computed of them.
-use Rattle.std.proofs.Common.{◌≡◌, ℕ, Bool, true, false, List, [], ◌∷◌, ◌++◌, map, replicate, refl}
-use Rattle.std.specs.Prelude.{codes}
-use Rattle.std.specs.List.{list_all}
-use Rattle.dom_base.specs.declared.Owner.TheVariants.{Page}
-use Rattle.dom_model.specs.Command.{micro, Line, no_owner, no_command, command}
-use Rattle.dom_text.specs.Decode.{decode, keyword_of}
+use Rattle.dom_base.proofs.Std.{◌≡◌, ℕ, Bool, true, false, List, [], ◌∷◌, ◌++◌, map, replicate, refl, codes, list_all}
+use Rattle.dom_model.proofs.Model.{Page, micro, Line, no_owner, no_command, command}
+use Rattle.dom_text.specs.Definitions.{decode}
+use Rattle.dom_text.specs.Decode.{keyword_of}
 
 -- ---- refusals
 

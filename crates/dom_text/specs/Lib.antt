@@ -10,3 +10,4 @@ pub mod Grammar
 pub mod Decode
 pub mod Text
 pub mod Laws
+pub mod Definitions

@@ -1,24 +1,13 @@
 -- Steps down and up by keys in a search among siblings.
-use Rattle.std.proofs.Common.{◌≡◌, inl, inr, ℕ, ◌<◌, true, false, ◌++◌, length, Option, Some, None, refl, sym, ap, subst, ◌∙◌, arith}
-use Rattle.std.specs.Prelude.{is_some}
-use Rattle.std.specs.Option.{option_map, ForSome}
-use Rattle.std.proofs.lemmas.Option.{none-some, same_Some}
-use Rattle.dom_base.specs.declared.NodeName.{NodeName}
-use Rattle.dom_model.specs.Command.{Filter}
-use Rattle.dom_model.specs.Names.{first_of}
-use Rattle.dom_model.specs.Traversal.{accepts}
-use Rattle.dom_model.specs.Tree.{inclusive_ancestors, ancestors, parent_of, children_of}
-use Rattle.dom_tree.specs.Forest.{NamedTrees, name_at}
-use Rattle.dom_traversal.specs.Walkers.{is_stop, stop_above}
+use Rattle.dom_base.proofs.Std.{◌≡◌, inl, inr, ℕ, ◌<◌, true, false, ◌++◌, length, Option, Some, None, refl, sym, ap, subst, ◌∙◌, arith, is_some, option_map}
+use Rattle.dom_base.proofs.Std.{ForSome, none-some, same_Some}
+use Rattle.dom_model.proofs.Model.{NodeName, Filter, first_of, accepts, inclusive_ancestors, ancestors, parent_of, children_of}
+use Rattle.dom_tree.specs.Definitions.{NamedTrees, name_at, StandsBelow}
+use Rattle.dom_traversal.specs.Definitions.{is_stop, stop_above}
 use Rattle.dom_laws.specs.Within.{behind, beyond}
-use Rattle.dom_tree.specs.Within.{StandsBelow}
-use Rattle.dom_laws.proofs.Lists.{In, In-from, is_in-from, first_split}
-use Rattle.dom_laws.proofs.Order.{here, behind_is}
-use Rattle.dom_laws.proofs.Steps.{first_child, no_child}
+use Rattle.dom_laws.proofs.Laws.{In, In-from, is_in-from, first_split, here, behind_is, first_child, no_child, no_key, was_some, above-proper}
 use Rattle.dom_tree.proofs.Standing.{StandOnce, StandAlone, Once-forest, Has-forest}
 use Rattle.dom_traversal.proofs.Climbing.{IsInner}
-use Rattle.dom_laws.proofs.Options.{no_key, was_some}
-use Rattle.dom_laws.proofs.Shapes.{above-proper}
 use Rattle.dom_traversal.proofs.Stops.{IsBelow, within-below, root-below, below-stop, below-child, below-up, path_up, stop-above}
 
 -- a key that stands below another one, by a forest's word

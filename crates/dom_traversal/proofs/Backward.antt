@@ -1,32 +1,17 @@
 -- A search backward, from each node to the nodes before it, passing over what is below rejected nodes.
-use Rattle.std.proofs.Common.{◌≡◌, ◌⊎◌, inl, inr, ℕ, ◌<◌, ◌≤◌, true, false, not, ◌&&◌, List, [], ◌∷◌, ◌++◌, length, Option, Some, None, refl, sym, ap}
-use Rattle.std.proofs.Common.{subst, ◌∙◌, arith, length-append}
-use Rattle.std.specs.Prelude.{filter}
-use Rattle.std.specs.Option.{option_map, ForSome}
-use Rattle.std.specs.List.{list_all}
-use Rattle.std.proofs.lemmas.Bool.{cases_Bool, not-false, and_left, and_from, both_ways}
-use Rattle.std.proofs.lemmas.List.{append-nil}
-use Rattle.std.proofs.lemmas.List.Elements.{filter-append}
-use Rattle.std.proofs.lemmas.Option.{none-some, same_Some}
-use Rattle.dom_base.specs.declared.NodeName.{NodeName}
-use Rattle.dom_base.specs.declared.Verdict.{Verdict}
-use Rattle.dom_base.specs.declared.Verdict.TheVariants.{Skip, Reject}
-use Rattle.dom_model.specs.Command.{Filter}
-use Rattle.dom_model.specs.Names.{name_eq, is_in, last_of}
-use Rattle.dom_model.specs.Traversal.{Walker, answer_at, accepts, rejects, is_reject, walker_nodes}
-use Rattle.dom_model.specs.Tree.{Trees, subtree, inclusive_ancestors, ancestors, parent_of, children_of, previous_sibling, is_inclusive_ancestor}
-use Rattle.dom_model.specs.Tree.{inclusive_descendants}
-use Rattle.dom_tree.specs.Forest.{NamedTrees, name_at}
-use Rattle.dom_traversal.specs.Walkers.{KeyedWalker, walker_view, is_passable, entered_by, is_entered, ComesBack}
+use Rattle.dom_base.proofs.Std.{◌≡◌, ◌⊎◌, inl, inr, ℕ, ◌<◌, ◌≤◌, true, false, not, ◌&&◌, List, [], ◌∷◌, ◌++◌, length, Option, Some, None, refl, sym, ap, subst}
+use Rattle.dom_base.proofs.Std.{◌∙◌, arith, length-append, filter, option_map, ForSome, list_all, cases_Bool, not-false, and_left, and_from, both_ways}
+use Rattle.dom_base.proofs.Std.{append-nil, filter-append, none-some, same_Some}
+use Rattle.dom_model.proofs.Model.{NodeName, Verdict, Skip, Reject, Filter, name_eq, is_in, last_of, Walker, answer_at, accepts, rejects, is_reject}
+use Rattle.dom_model.proofs.Model.{walker_nodes, Trees, subtree, inclusive_ancestors, ancestors, parent_of, children_of, previous_sibling}
+use Rattle.dom_model.proofs.Model.{is_inclusive_ancestor, inclusive_descendants}
+use Rattle.dom_tree.specs.Definitions.{NamedTrees, name_at, StandsIn}
+use Rattle.dom_traversal.specs.Definitions.{KeyedWalker, walker_view, is_passable, entered_by, is_entered, ComesBack}
 use Rattle.dom_laws.specs.Within.{ahead_of, up_to_node, up_to_tree}
-use Rattle.dom_tree.specs.Within.{StandsIn}
-use Rattle.dom_laws.proofs.Lists.{In, In-left, In-right, In-parts, In-from, In-not, is_in-from, is_in-not, last_split, not_before, no_first}
-use Rattle.dom_laws.proofs.Lists.{filter-none, last-hit, last-miss}
-use Rattle.dom_laws.proofs.Shapes.{Has, below-from_above, above-proper, proper-parent}
-use Rattle.dom_laws.proofs.Children.{parent-of_child, In-names}
-use Rattle.dom_laws.proofs.Order.{IsWithin, stands_in, here, below, joined, above-within}
-use Rattle.dom_laws.proofs.Steps.{last_child, no_last_child, child_places, previous_places, no_previous, within-parent, within-root, top_places}
-use Rattle.dom_laws.proofs.Steps.{within-top}
+use Rattle.dom_laws.proofs.Laws.{In, In-left, In-right, In-parts, In-from, In-not, is_in-from, is_in-not, last_split, not_before, no_first, filter-none}
+use Rattle.dom_laws.proofs.Laws.{last-hit, last-miss, Has, below-from_above, above-proper, proper-parent, parent-of_child, In-names, IsWithin, stands_in, here}
+use Rattle.dom_laws.proofs.Laws.{below, joined, above-within, last_child, no_last_child, child_places, previous_places, no_previous, within-parent, within-root}
+use Rattle.dom_laws.proofs.Laws.{top_places, within-top}
 use Rattle.dom_tree.proofs.Standing.{StandOnce, StandAlone, Has-forest}
 use Rattle.dom_tree.proofs.Searching.{IsWithin-key}
 use Rattle.dom_traversal.proofs.Climbing.{IsInner, inner-within}

@@ -1,26 +1,16 @@
 -- Where a walker's searches among children and siblings begin, and what they look for.
-use Rattle.std.proofs.Common.{◌≡◌, inl, inr, ℕ, ◌<◌, true, false, ◌∷◌, ◌++◌, length, Option, Some, None, refl, sym, ap, subst, ◌∙◌, arith}
-use Rattle.std.specs.Prelude.{filter}
-use Rattle.std.specs.Option.{option_map, ForSome}
-use Rattle.std.proofs.lemmas.Bool.{or_right}
-use Rattle.std.proofs.lemmas.List.{append-nil}
-use Rattle.std.proofs.lemmas.Option.{same_Some}
-use Rattle.dom_base.specs.declared.NodeName.{NodeName}
-use Rattle.dom_base.specs.declared.Move.{Move}
+use Rattle.dom_base.proofs.Std.{◌≡◌, inl, inr, ℕ, ◌<◌, true, false, ◌∷◌, ◌++◌, length, Option, Some, None, refl, sym, ap, subst, ◌∙◌, arith, filter, option_map}
+use Rattle.dom_base.proofs.Std.{ForSome, or_right, append-nil, same_Some}
+use Rattle.dom_model.proofs.Model.{NodeName, Move, name_eq, first_of, Walker, accepts, walker_siblings, walker_step, walker_move, sibling_top, Trees}
+use Rattle.dom_model.proofs.Model.{inclusive_ancestors, ancestors, children_of, is_inclusive_ancestor, inclusive_descendants, name_eq-other}
 use Rattle.dom_base.specs.declared.Move.TheVariants as moves
-use Rattle.dom_model.specs.Names.{name_eq, first_of}
-use Rattle.dom_model.specs.Traversal.{Walker, accepts, walker_siblings, walker_step, walker_move, sibling_top}
-use Rattle.dom_model.specs.Tree.{Trees, inclusive_ancestors, ancestors, children_of, is_inclusive_ancestor, inclusive_descendants}
-use Rattle.dom_model.proofs.OwnerLaws.{name_eq-other}
-use Rattle.dom_tree.specs.Forest.{NamedTrees, name_at}
+use Rattle.dom_tree.specs.Definitions.{NamedTrees, name_at}
 use Rattle.dom_traversal.specs.declared.iter.Direction.TheVariants.{Next}
-use Rattle.dom_traversal.specs.Walkers.{KeyedWalker, walker_view, is_opened, is_reached, stop_above, stop_of, BeginsForward}
+use Rattle.dom_traversal.specs.Definitions.{KeyedWalker, walker_view, is_opened, is_reached, stop_above, stop_of, BeginsForward}
 use Rattle.dom_laws.specs.Within.{ahead_of, behind, beyond, from_node}
-use Rattle.dom_laws.proofs.Lists.{In, Single, Single-right, Single-apart, is_in-from, is_in-not, name_eq-from, no_first, first_split}
-use Rattle.dom_laws.proofs.Children.{parent-of_child}
-use Rattle.dom_laws.proofs.Order.{IsWithin, stands_in, all_single, here, below, splits, behind_is, above-within}
-use Rattle.dom_laws.proofs.Steps.{within-itself, top_places, first_child, no_child}
-use Rattle.dom_laws.proofs.Shapes.{above-proper, proper-parent}
+use Rattle.dom_laws.proofs.Laws.{In, Single, Single-right, Single-apart, is_in-from, is_in-not, name_eq-from, no_first, first_split, parent-of_child, IsWithin}
+use Rattle.dom_laws.proofs.Laws.{stands_in, all_single, here, below, splits, behind_is, above-within, within-itself, top_places, first_child, no_child}
+use Rattle.dom_laws.proofs.Laws.{above-proper, proper-parent}
 use Rattle.dom_traversal.proofs.Opening.{beyond-above, all-from}
 use Rattle.dom_traversal.proofs.Forward.{zone_is, beyond-zone, not_behind}
 use Rattle.dom_traversal.proofs.Stops.{IsBelow, within-below, other-below, below-stop, stop-here}

@@ -1,25 +1,17 @@
 -- Where a walker's searches for the last child and the previous sibling begin, and what they look for.
-use Rattle.std.proofs.Common.{◌≡◌, inl, inr, ℕ, ◌<◌, Bool, true, false, not, ◌&&◌, [], ◌∷◌, ◌++◌, length, Option, Some, None, refl, sym, ap, subst, ◌∙◌}
-use Rattle.std.specs.Prelude.{filter}
-use Rattle.std.specs.Option.{option_map, ForSome}
-use Rattle.std.proofs.lemmas.Bool.{and_right}
-use Rattle.dom_base.specs.declared.NodeName.{NodeName}
+use Rattle.dom_base.proofs.Std.{◌≡◌, inl, inr, ℕ, ◌<◌, Bool, true, false, not, ◌&&◌, [], ◌∷◌, ◌++◌, length, Option, Some, None, refl, sym, ap, subst, ◌∙◌}
+use Rattle.dom_base.proofs.Std.{filter, option_map, ForSome, and_right}
+use Rattle.dom_model.proofs.Model.{NodeName, name_eq, last_of, Walker, walker_children, walker_siblings, walker_step, walker_move, sibling_top, Trees}
+use Rattle.dom_model.proofs.Model.{inclusive_ancestors, ancestors, children_of, inclusive_descendants, name_eq-other}
 use Rattle.dom_base.specs.declared.Move.TheVariants as moves
-use Rattle.dom_model.specs.Names.{name_eq, last_of}
-use Rattle.dom_model.specs.Traversal.{Walker, walker_children, walker_siblings, walker_step, walker_move, sibling_top}
-use Rattle.dom_model.specs.Tree.{Trees, inclusive_ancestors, ancestors, children_of, inclusive_descendants}
-use Rattle.dom_model.proofs.OwnerLaws.{name_eq-other}
-use Rattle.dom_tree.specs.Forest.{NamedTrees, name_at}
-use Rattle.dom_traversal.specs.Walkers.{KeyedWalker, walker_view, is_opened, is_reached, is_candidate, stop_above, stop_of, StepsBehind, BeginsBackward}
-use Rattle.dom_traversal.specs.Walkers.{Begins, StepsBeside, reached_from}
-use Rattle.dom_traversal.specs.Directions.{outer_child, child_move, sibling_move}
+use Rattle.dom_tree.specs.Definitions.{NamedTrees, name_at}
+use Rattle.dom_traversal.specs.Definitions.{KeyedWalker, walker_view, is_opened, is_reached, is_candidate, stop_above, stop_of, StepsBehind, BeginsBackward}
+use Rattle.dom_traversal.specs.Definitions.{Begins, StepsBeside, reached_from, outer_child, child_move, sibling_move}
 use Rattle.dom_traversal.specs.declared.iter.Direction.{Direction}
 use Rattle.dom_traversal.specs.declared.iter.Direction.TheVariants.{Next, Previous}
 use Rattle.dom_laws.specs.Within.{ahead_of, up_to_tree}
-use Rattle.dom_laws.proofs.Lists.{In, In-left, In-right, is_in-from, In-from, name_eq-from, not_before, last_split, filter-no, filter-same}
-use Rattle.dom_laws.proofs.Order.{IsWithin, here, below, above-within}
-use Rattle.dom_laws.proofs.Steps.{within-itself, top_places, last_child, no_last_child}
-use Rattle.dom_laws.proofs.Shapes.{above-proper}
+use Rattle.dom_laws.proofs.Laws.{In, In-left, In-right, is_in-from, In-from, name_eq-from, not_before, last_split, filter-no, filter-same, IsWithin, here}
+use Rattle.dom_laws.proofs.Laws.{below, above-within, within-itself, top_places, last_child, no_last_child, above-proper}
 use Rattle.dom_traversal.proofs.Opening.{all-from}
 use Rattle.dom_traversal.proofs.Stops.{IsBelow, within-below, other-below}
 use Rattle.dom_traversal.proofs.Beside.{FollowsBeside}

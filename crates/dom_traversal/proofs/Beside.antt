@@ -1,25 +1,14 @@
 -- Steps beside by keys in a search among siblings, in a direction.
-use Rattle.std.proofs.Common.{◌≡◌, ℕ, ◌<◌, true, false, not, List, [], ◌∷◌, ◌++◌, length, Option, Some, None, refl, sym, ap, subst, ◌∙◌, append_assoc}
-use Rattle.std.specs.Prelude.{filter, is_some, find, unwrap_or}
-use Rattle.std.specs.Option.{option_map, ForSome}
-use Rattle.std.proofs.lemmas.Bool.{and_left, and_right, or_parts}
-use Rattle.std.proofs.lemmas.List.{append-nil}
-use Rattle.dom_base.specs.declared.NodeName.{NodeName}
-use Rattle.dom_model.specs.Command.{Filter}
-use Rattle.dom_model.specs.Names.{first_of}
-use Rattle.dom_model.specs.Traversal.{accepts}
-use Rattle.dom_model.specs.Tree.{Trees, ancestors, parent_of}
-use Rattle.dom_tree.specs.Forest.{NamedTrees, name_at}
+use Rattle.dom_base.proofs.Std.{◌≡◌, ℕ, ◌<◌, true, false, not, List, [], ◌∷◌, ◌++◌, length, Option, Some, None, refl, sym, ap, subst, ◌∙◌, append_assoc, filter}
+use Rattle.dom_base.proofs.Std.{is_some, find, unwrap_or, option_map, ForSome, and_left, and_right, or_parts, append-nil}
+use Rattle.dom_model.proofs.Model.{NodeName, Filter, first_of, accepts, Trees, ancestors, parent_of}
+use Rattle.dom_tree.specs.Definitions.{NamedTrees, name_at, StandsBelow}
 use Rattle.dom_traversal.specs.declared.iter.Direction.{Direction}
 use Rattle.dom_traversal.specs.declared.iter.Direction.TheVariants.{Next, Previous}
-use Rattle.dom_traversal.specs.Directions.{sibling_in}
-use Rattle.dom_traversal.specs.Walkers.{is_stop, is_accepted_but, stop_above, StepsBeside}
+use Rattle.dom_traversal.specs.Definitions.{sibling_in, is_stop, is_accepted_but, stop_above, StepsBeside}
 use Rattle.dom_laws.specs.Within.{ahead_of, beyond, up_to_tree}
-use Rattle.dom_tree.specs.Within.{StandsBelow}
-use Rattle.dom_laws.proofs.Lists.{name_eq-from, filter-no}
-use Rattle.dom_laws.proofs.Steps.{top_places, within-top}
+use Rattle.dom_laws.proofs.Laws.{name_eq-from, filter-no, top_places, within-top, no_key, was_some}
 use Rattle.dom_tree.proofs.Standing.{StandOnce, StandAlone}
-use Rattle.dom_laws.proofs.Options.{no_key, was_some}
 use Rattle.dom_traversal.proofs.Stops.{IsBelow, within-below, stop-here, stop-above, path_up, below-stop, ahead_of-previous, ahead_of-parent}
 use Rattle.dom_traversal.proofs.Stops.{aside_next, aside_ends, aside_up}
 use Rattle.dom_traversal.proofs.Aside.{IsBelow-key, StandsBelow-key, SameStop, rises}

@@ -1,20 +1,10 @@
 -- The children and the siblings among which a walker chooses are the nodes that are reached through opened nodes alone.
-use Rattle.std.proofs.Common.{◌≡◌, inl, inr, Bool, true, false, ◌&&◌, ◌||◌, List, [], ◌∷◌, ◌++◌, refl, sym, ap, subst, ◌∙◌}
-use Rattle.std.specs.Prelude.{filter, drop}
-use Rattle.std.specs.List.{list_all}
-use Rattle.dom_base.specs.declared.NodeName.{NodeName}
-use Rattle.dom_model.specs.Names.{name_eq, items_before}
-use Rattle.dom_model.specs.Traversal.{Walker, accepts, skips, between, walker_children}
-use Rattle.dom_model.specs.Tree.{Trees, none, tree, inclusive_ancestors, ancestors, is_inclusive_ancestor}
-use Rattle.dom_model.proofs.OwnerLaws.{name_eq-other}
-use Rattle.dom_traversal.specs.Walkers.{is_opened, is_reached}
-use Rattle.dom_laws.proofs.Lists.{In, Single, Single-apart, is_in-not, filter-same}
-use Rattle.dom_laws.proofs.Shapes.{once_apart, Has, Has-above, above-here, above-below, above-beside, above-from_below, above-proper}
-use Rattle.dom_laws.proofs.Counts.{Once}
-use Rattle.dom_laws.proofs.Children.{Single-append}
-use Rattle.dom_laws.proofs.Order.{IsWithin, stands_in, all_single, here, below}
-use Rattle.dom_laws.proofs.Steps.{within-member}
-use Rattle.dom_laws.proofs.Chains.{above-split}
+use Rattle.dom_base.proofs.Std.{◌≡◌, inl, inr, Bool, true, false, ◌&&◌, ◌||◌, List, [], ◌∷◌, ◌++◌, refl, sym, ap, subst, ◌∙◌, filter, drop, list_all}
+use Rattle.dom_model.proofs.Model.{NodeName, name_eq, items_before, Walker, accepts, skips, between, walker_children, Trees, none, tree, inclusive_ancestors}
+use Rattle.dom_model.proofs.Model.{ancestors, is_inclusive_ancestor, name_eq-other}
+use Rattle.dom_traversal.specs.Definitions.{is_opened, is_reached}
+use Rattle.dom_laws.proofs.Laws.{In, Single, Single-apart, is_in-not, filter-same, once_apart, Has, Has-above, above-here, above-below, above-beside}
+use Rattle.dom_laws.proofs.Laws.{above-from_below, above-proper, Once, Single-append, IsWithin, stands_in, all_single, here, below, within-member, above-split}
 use Rattle.dom_traversal.proofs.Opening.{all-from}
 use Rattle.dom_traversal.proofs.Stops.{IsBelow, other-below}
 use Rattle.dom_traversal.proofs.Reaching.{opened-above}

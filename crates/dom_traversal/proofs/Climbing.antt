@@ -1,19 +1,10 @@
 -- Steps aside and up by keys, within the tree of a node.
-use Rattle.std.proofs.Common.{◌≡◌, ℕ, ◌<◌, true, false, not, eqb, ◌++◌, length, Option, Some, None, sym, ap, ◌∙◌, arith}
-use Rattle.std.specs.Prelude.{is_some}
-use Rattle.std.specs.Option.{option_map, ForSome}
-use Rattle.dom_base.specs.declared.NodeName.{NodeName}
-use Rattle.dom_model.specs.Names.{first_of}
-use Rattle.dom_model.specs.Tree.{Trees, parent_of, next_sibling, inclusive_ancestors, is_inclusive_ancestor}
-use Rattle.dom_tree.specs.Forest.{NamedTrees, name_at}
+use Rattle.dom_base.proofs.Std.{◌≡◌, ℕ, ◌<◌, true, false, not, eqb, ◌++◌, length, Option, Some, None, sym, ap, ◌∙◌, arith, is_some, option_map, ForSome}
+use Rattle.dom_model.proofs.Model.{NodeName, first_of, Trees, parent_of, next_sibling, inclusive_ancestors, is_inclusive_ancestor}
+use Rattle.dom_tree.specs.Definitions.{NamedTrees, name_at, StandsIn, TellApart}
 use Rattle.dom_laws.specs.Within.{beyond}
-use Rattle.dom_tree.specs.Within.{StandsIn}
-use Rattle.dom_tree.specs.Apart.{TellApart}
-use Rattle.dom_traversal.specs.Walkers.{KeyedWalker, IsWalkerOf}
-use Rattle.dom_laws.proofs.Shapes.{above-parent}
-use Rattle.dom_laws.proofs.Options.{was_some}
-use Rattle.dom_laws.proofs.Order.{IsWithin, stands_in, here, above-within}
-use Rattle.dom_laws.proofs.Steps.{within-parent, within-root, next_places, no_next}
+use Rattle.dom_traversal.specs.Definitions.{KeyedWalker, IsWalkerOf}
+use Rattle.dom_laws.proofs.Laws.{above-parent, was_some, IsWithin, stands_in, here, above-within, within-parent, within-root, next_places, no_next}
 use Rattle.dom_tree.proofs.Standing.{StandOnce, StandAlone, other_name}
 use Rattle.dom_tree.proofs.Searching.{IsWithin-key, StandsIn-found}
 

@@ -1,22 +1,12 @@
 -- A node that a search forward finds has fewer nodes behind it.
-use Rattle.std.proofs.Common.{◌≡◌, ◌⊎◌, inl, inr, ℕ, ◌<◌, Bool, true, false, cond, List, [], ◌∷◌, length, Some, sym, ap, subst, ◌∙◌, arith, ◌≤◌}
-use Rattle.std.proofs.Common.{length-append}
-use Rattle.std.specs.Prelude.{filter}
-use Rattle.std.proofs.lemmas.Bool.{cases_Bool}
-use Rattle.std.proofs.lemmas.Option.{none-some, same_Some}
-use Rattle.dom_base.specs.declared.NodeName.{NodeName}
-use Rattle.dom_base.specs.declared.Move.TheVariants.{Next}
-use Rattle.dom_model.specs.Names.{name_eq, first_of, items_before, items_after}
-use Rattle.dom_model.specs.Tree.{inclusive_descendants, is_inclusive_ancestor}
-use Rattle.dom_model.specs.Traversal.{accepts, nodes_ahead, iterator_next_node, walker_move}
-use Rattle.dom_model.proofs.OwnerLaws.{name_eq-other}
-use Rattle.dom_tree.specs.Forest.{NamedTrees, name_at}
+use Rattle.dom_base.proofs.Std.{◌≡◌, ◌⊎◌, inl, inr, ℕ, ◌<◌, Bool, true, false, cond, List, [], ◌∷◌, length, Some, sym, ap, subst, ◌∙◌, arith, ◌≤◌}
+use Rattle.dom_base.proofs.Std.{length-append, filter, cases_Bool, none-some, same_Some}
+use Rattle.dom_model.proofs.Model.{NodeName, Next, name_eq, first_of, items_before, items_after, inclusive_descendants, is_inclusive_ancestor, accepts}
+use Rattle.dom_model.proofs.Model.{nodes_ahead, iterator_next_node, walker_move, name_eq-other}
+use Rattle.dom_tree.specs.Definitions.{NamedTrees, name_at, StandsIn}
 use Rattle.dom_laws.specs.Within.{behind}
-use Rattle.dom_tree.specs.Within.{StandsIn}
-use Rattle.dom_traversal.specs.Iterators.{KeyedIterator, IsIteratorOf, iterator_left, iterator_view}
-use Rattle.dom_traversal.specs.Walkers.{KeyedWalker, IsWalkerOf, walker_left, walker_view}
-use Rattle.dom_laws.proofs.Lists.{In, Single, split_at, after-in, same_or_not, name_eq-from, filter-yes, filter-no}
-use Rattle.dom_laws.proofs.Order.{all_single}
+use Rattle.dom_traversal.specs.Definitions.{KeyedIterator, IsIteratorOf, iterator_left, iterator_view, KeyedWalker, IsWalkerOf, walker_left, walker_view}
+use Rattle.dom_laws.proofs.Laws.{In, Single, split_at, after-in, same_or_not, name_eq-from, filter-yes, filter-no, all_single}
 use Rattle.dom_tree.proofs.Standing.{StandOnce, StandAlone}
 use Rattle.dom_tree.proofs.Searching.{IsWithin-key}
 

@@ -1,18 +1,12 @@
 -- A search forward among the nodes that are accepted and reached through open nodes alone.
-use Rattle.std.proofs.Common.{◌≡◌, inl, inr, Bool, true, false, ◌∷◌, ◌++◌, length, Option, Some, None, refl, sym, ap, subst, ◌∙◌, arith, ◌<◌, length-append}
-use Rattle.std.specs.Prelude.{filter}
-use Rattle.std.specs.List.{list_all}
-use Rattle.std.proofs.lemmas.Bool.{and_left}
-use Rattle.std.proofs.lemmas.Option.{same_Some}
-use Rattle.dom_base.specs.declared.NodeName.{NodeName}
-use Rattle.dom_model.specs.Names.{first_of}
-use Rattle.dom_model.specs.Tree.{Trees, subtree, inclusive_ancestors, ancestors, children_of, is_inclusive_ancestor, inclusive_descendants}
+use Rattle.dom_base.proofs.Std.{◌≡◌, inl, inr, Bool, true, false, ◌∷◌, ◌++◌, length, Option, Some, None, refl, sym, ap, subst, ◌∙◌, arith, ◌<◌, length-append}
+use Rattle.dom_base.proofs.Std.{filter, list_all, and_left, same_Some}
+use Rattle.dom_model.proofs.Model.{NodeName, first_of, Trees, subtree, inclusive_ancestors, ancestors, children_of, is_inclusive_ancestor}
+use Rattle.dom_model.proofs.Model.{inclusive_descendants}
 use Rattle.dom_laws.specs.Within.{ahead_of, behind, beyond, from_node}
-use Rattle.dom_laws.proofs.Lists.{In, In-left, In-right, In-from, Single, Single-right, no_first, first_split, first-miss}
-use Rattle.dom_laws.proofs.Shapes.{below-from_above, proper-parent}
-use Rattle.dom_laws.proofs.Children.{parent-of_child, In-names}
-use Rattle.dom_laws.proofs.Order.{IsWithin, stands_in, all_single, here, below, behind_is}
-use Rattle.dom_laws.proofs.Steps.{first_child, no_child, following_place, ordered, behind-next}
+use Rattle.dom_laws.proofs.Laws.{In, In-left, In-right, In-from, Single, Single-right, no_first, first_split, first-miss, below-from_above, proper-parent}
+use Rattle.dom_laws.proofs.Laws.{parent-of_child, In-names, IsWithin, stands_in, all_single, here, below, behind_is, first_child, no_child, following_place}
+use Rattle.dom_laws.proofs.Laws.{ordered, behind-next}
 use Rattle.dom_traversal.proofs.Opening.{reached, reached-shut, all-from, all-at, beyond-above, beyond_place}
 
 -- what is next behind a node has no other nodes above it than that node and those above it

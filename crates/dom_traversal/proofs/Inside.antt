@@ -1,13 +1,9 @@
 -- A walk through the tree of a node, and which of its nodes are still to come.
-use Rattle.std.proofs.Common.{◌≡◌, ◌⊎◌, inl, inr, ℕ, ◌<◌, length, Option, Some, sym, subst}
-use Rattle.std.specs.Option.{option_map, ForSome}
-use Rattle.dom_base.specs.declared.NodeName.{NodeName}
-use Rattle.dom_model.specs.Tree.{inclusive_descendants}
-use Rattle.dom_tree.specs.Forest.{NamedTrees, name_at}
+use Rattle.dom_base.proofs.Std.{◌≡◌, ◌⊎◌, inl, inr, ℕ, ◌<◌, length, Option, Some, sym, subst, option_map, ForSome}
+use Rattle.dom_model.proofs.Model.{NodeName, inclusive_descendants}
+use Rattle.dom_tree.specs.Definitions.{NamedTrees, name_at, StandsIn}
 use Rattle.dom_laws.specs.Within.{behind, beyond, from_node}
-use Rattle.dom_tree.specs.Within.{StandsIn}
-use Rattle.dom_laws.proofs.Lists.{In, In-left}
-use Rattle.dom_laws.proofs.Order.{here, below, behind_is, above-within}
+use Rattle.dom_laws.proofs.Laws.{In, In-left, here, below, behind_is, above-within}
 use Rattle.dom_tree.proofs.Standing.{StandOnce, StandAlone}
 use Rattle.dom_tree.proofs.Searching.{IsWithin-itself}
 

@@ -1,8 +1,7 @@
 -- Items of lists by their places.
-use Rattle.std.proofs.Common.{◌≡◌, ℕ, zero, suc, true, List, [], ◌∷◌, ◌++◌, Some, get_or, refl, sym, ap, subst, ◌∙◌}
-use Rattle.std.specs.Prelude.{slice_get, slice_set, is_some}
-use Rattle.std.proofs.lemmas.Option.{none-some, same_Some}
-use Rattle.dom_traversal.specs.OwnTables.{EachItem}
+use Rattle.dom_base.proofs.Std.{◌≡◌, ℕ, zero, suc, true, List, [], ◌∷◌, ◌++◌, Some, get_or, refl, sym, ap, subst, ◌∙◌, slice_get, slice_set, is_some, none-some}
+use Rattle.dom_base.proofs.Std.{same_Some}
+use Rattle.dom_traversal.specs.Definitions.{EachItem}
 
 -- ---- items that are written and added
 

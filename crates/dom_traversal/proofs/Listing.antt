@@ -1,13 +1,8 @@
 -- The list of the references of iterators that are added and moved.
-use Rattle.std.proofs.Common.{◌≡◌, ◌⊎◌, inl, inr, ℕ, zero, suc, ◌<◌, List, [], ◌∷◌, ◌++◌, length, true, get_or, Some, refl, sym, ap, subst, ◌∙◌, arith}
-use Rattle.std.specs.Prelude.{is_some, slice_get, slice_set}
-use Rattle.std.specs.List.{Contains}
-use Rattle.std.proofs.lemmas.Bool.{cases_eq}
-use Rattle.std.proofs.lemmas.List.{length-append, length-set}
-use Rattle.std.proofs.lemmas.Option.{none-some, same_Some, slice_get_cases}
-use Rattle.dom_traversal.specs.Iterators.{KeyedIterator}
+use Rattle.dom_base.proofs.Std.{◌≡◌, ◌⊎◌, inl, inr, ℕ, zero, suc, ◌<◌, List, [], ◌∷◌, ◌++◌, length, true, get_or, Some, refl, sym, ap, subst, ◌∙◌, arith}
+use Rattle.dom_base.proofs.Std.{is_some, slice_get, slice_set, Contains, cases_eq, length-append, length-set, none-some, same_Some, slice_get_cases}
+use Rattle.dom_traversal.specs.Definitions.{KeyedIterator, AreListed, reference_at}
 use Rattle.dom_traversal.specs.declared.references.Reference.{Reference}
-use Rattle.dom_traversal.specs.References.{AreListed, reference_at}
 use Rattle.dom_traversal.proofs.Items.{get_set, get_set_other, got}
 
 -- an item that is there has a place in the list

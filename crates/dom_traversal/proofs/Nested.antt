@@ -1,24 +1,15 @@
 -- The siblings among which a walker chooses, within the tree of their stop.
-use Rattle.std.proofs.Common.{◌≡◌, ◌⊎◌, inl, inr, Bool, true, false, not, ◌&&◌, ◌||◌, List, [], ◌∷◌, ◌++◌, Some, refl, sym, ap, subst, ◌∙◌, append_assoc}
-use Rattle.std.specs.Prelude.{drop, filter, find, unwrap_or}
-use Rattle.std.specs.List.{list_all}
-use Rattle.std.proofs.lemmas.Bool.{cases_Bool, and_left, and_right, or_right, or_parts, both_ways}
-use Rattle.std.proofs.lemmas.List.{append-nil}
-use Rattle.std.proofs.lemmas.List.Elements.{filter-append}
-use Rattle.dom_base.specs.declared.NodeName.{NodeName}
-use Rattle.dom_model.specs.Names.{name_eq, is_in, items_before, items_after}
-use Rattle.dom_model.specs.Traversal.{Walker, accepts, between, walker_siblings, sibling_top}
-use Rattle.dom_model.specs.Tree.{Trees, subtree, inclusive_ancestors, ancestors, is_inclusive_ancestor, inclusive_descendants}
-use Rattle.dom_model.proofs.OwnerLaws.{name_eq-other}
-use Rattle.dom_traversal.specs.Walkers.{is_opened, is_reached, is_stop, is_candidate}
+use Rattle.dom_base.proofs.Std.{◌≡◌, ◌⊎◌, inl, inr, Bool, true, false, not, ◌&&◌, ◌||◌, List, [], ◌∷◌, ◌++◌, Some, refl, sym, ap, subst, ◌∙◌, append_assoc}
+use Rattle.dom_base.proofs.Std.{drop, filter, find, unwrap_or, list_all, cases_Bool, and_left, and_right, or_right, or_parts, both_ways, append-nil}
+use Rattle.dom_base.proofs.Std.{filter-append}
+use Rattle.dom_model.proofs.Model.{NodeName, name_eq, is_in, items_before, items_after, Walker, accepts, between, walker_siblings, sibling_top, Trees, subtree}
+use Rattle.dom_model.proofs.Model.{inclusive_ancestors, ancestors, is_inclusive_ancestor, inclusive_descendants, name_eq-other}
+use Rattle.dom_traversal.specs.Definitions.{is_opened, is_reached, is_stop, is_candidate}
 use Rattle.dom_laws.specs.Within.{ahead_of, behind, beyond}
-use Rattle.dom_laws.proofs.Lists.{In, In-left, In-right, In-parts, In-from, before-in, after-in, not_before, Single, Single-right, Single-apart}
-use Rattle.dom_laws.proofs.Lists.{same_or_not, is_in-from, is_in-not, name_eq-from, filter-none, filter-same}
-use Rattle.dom_laws.proofs.Shapes.{Has, has_or_not, Has-above, above-absent, below-from_above, above-proper}
-use Rattle.dom_laws.proofs.Children.{In-names}
-use Rattle.dom_laws.proofs.Order.{IsWithin, stands_in, all_single, here, below, splits, split_is, behind_is, inside-test, outside-test}
-use Rattle.dom_laws.proofs.Steps.{within-member, within-top, ordered}
-use Rattle.dom_laws.proofs.Chains.{above-along, ahead-apart}
+use Rattle.dom_laws.proofs.Laws.{In, In-left, In-right, In-parts, In-from, before-in, after-in, not_before, Single, Single-right, Single-apart, same_or_not}
+use Rattle.dom_laws.proofs.Laws.{is_in-from, is_in-not, name_eq-from, filter-none, filter-same, Has, has_or_not, Has-above, above-absent, below-from_above}
+use Rattle.dom_laws.proofs.Laws.{above-proper, In-names, IsWithin, stands_in, all_single, here, below, splits, split_is, behind_is, inside-test, outside-test}
+use Rattle.dom_laws.proofs.Laws.{within-member, within-top, ordered, above-along, ahead-apart}
 use Rattle.dom_traversal.proofs.Opening.{not_around, not_above_itself}
 use Rattle.dom_traversal.proofs.Stops.{IsBelow, within-below, below-stop}
 use Rattle.dom_traversal.proofs.Candidates.{proper-split, opened-between, below-member}

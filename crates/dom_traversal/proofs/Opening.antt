@@ -1,22 +1,14 @@
 -- The nodes that are accepted and reached through open nodes alone, and what a node that is not open hides.
-use Rattle.std.proofs.Common.{◌≡◌, inl, inr, ℕ, ◌≤◌, zero, suc, Bool, true, false, not, ◌&&◌, List, [], ◌∷◌, ◌++◌, length, Option, Some, None, refl}
-use Rattle.std.proofs.Common.{sym, ap, subst, ◌∙◌, arith, length-append, append_assoc}
-use Rattle.std.specs.Prelude.{drop, filter}
-use Rattle.std.specs.List.{list_any, list_all}
-use Rattle.std.proofs.lemmas.Bool.{cases_Bool, and_left, and_right, and_from, and_parts, both_ways, false_from_ne_true}
-use Rattle.std.proofs.lemmas.Option.{none-some, same_Some}
-use Rattle.std.proofs.lemmas.List.Elements.{filter-append}
-use Rattle.dom_base.specs.declared.NodeName.{NodeName}
-use Rattle.dom_model.specs.Names.{name_eq, first_of, items_before, items_after}
-use Rattle.dom_model.specs.Tree.{Trees, subtree, inclusive_ancestors, ancestors, parent_of, children_of, next_sibling, inclusive_descendants}
+use Rattle.dom_base.proofs.Std.{◌≡◌, inl, inr, ℕ, ◌≤◌, zero, suc, Bool, true, false, not, ◌&&◌, List, [], ◌∷◌, ◌++◌, length, Option, Some, None, refl, sym, ap}
+use Rattle.dom_base.proofs.Std.{subst, ◌∙◌, arith, length-append, append_assoc, drop, filter, list_any, list_all, cases_Bool, and_left, and_right, and_from}
+use Rattle.dom_base.proofs.Std.{and_parts, both_ways, false_from_ne_true, none-some, same_Some, filter-append}
+use Rattle.dom_model.proofs.Model.{NodeName, name_eq, first_of, items_before, items_after, Trees, subtree, inclusive_ancestors, ancestors, parent_of}
+use Rattle.dom_model.proofs.Model.{children_of, next_sibling, inclusive_descendants}
 use Rattle.dom_laws.specs.Within.{ahead_of, behind, beyond}
-use Rattle.dom_laws.proofs.Lists.{In, In-right, Single, Single-apart, no_first, first_split, same_or_not, after-split, filter-none, filter-no}
-use Rattle.dom_laws.proofs.Shapes.{above-proper, proper-parent, Has, Has-subtree, above-parent, above-from_below, below-from_above}
-use Rattle.dom_laws.proofs.Counts.{Once}
-use Rattle.dom_laws.proofs.Children.{parent-of_child, Has-names}
-use Rattle.dom_laws.proofs.Order.{IsWithin, stands_in, here, below, all_single, splits, behind_is}
-use Rattle.dom_laws.proofs.Steps.{within-root, within-top, within-parent, within-member, top_places, next_places, no_next}
-use Rattle.dom_laws.proofs.Chains.{above-split, above-along}
+use Rattle.dom_laws.proofs.Laws.{In, In-right, Single, Single-apart, no_first, first_split, same_or_not, after-split, filter-none, filter-no, above-proper}
+use Rattle.dom_laws.proofs.Laws.{proper-parent, Has, Has-subtree, above-parent, above-from_below, below-from_above, Once, parent-of_child, Has-names, IsWithin}
+use Rattle.dom_laws.proofs.Laws.{stands_in, here, below, all_single, splits, behind_is, within-root, within-top, within-parent, within-member, top_places}
+use Rattle.dom_laws.proofs.Laws.{next_places, no_next, above-split, above-along}
 
 -- tests of all members
 pub all-from : (p : NodeName → Bool) (xs : List NodeName) → ((a : NodeName) → In a xs → p a ≡ true) → list_all p xs ≡ true

@@ -1,20 +1,10 @@
 -- An owner's cursors in the map of all owners'.
-use Rattle.std.proofs.Common.{◌≡◌, ◌≢◌, ℕ, Bool, true, false, cond, Option, Some, None, refl, sym, ap, ◌∙◌}
-use Rattle.std.specs.Prelude.{unwrap_or, is_some, Result, Ok, Err}
-use Rattle.std.specs.Result.{IsErrAnd}
-use Rattle.dom_base.specs.declared.Fault.{Fault}
-use Rattle.dom_base.specs.declared.Fault.TheVariants.{Refused, Memory}
-use Rattle.dom_base.specs.declared.Refusal.TheVariants.{Limit}
-use Rattle.std.specs.Map.{lookup}
-use Rattle.std.specs.HashMap.{get}
-use Rattle.dom_base.specs.declared.Owner.{Owner}
+use Rattle.dom_base.proofs.Std.{◌≡◌, ◌≢◌, ℕ, Bool, true, false, cond, Option, Some, None, refl, sym, ap, ◌∙◌, unwrap_or, is_some, Result, Ok, Err, IsErrAnd}
+use Rattle.dom_base.proofs.Std.{lookup, get}
+use Rattle.dom_model.proofs.Model.{Fault, Refused, Memory, Limit, Owner, owner_eq, owner_eq-true, owner_eq-same, ne-owner_eq, same_owner}
 use Rattle.dom_base.specs.contracts.OwnerPartialEq.TheImpl as OwnerImpl
-use Rattle.dom_model.specs.Names.{owner_eq}
-use Rattle.dom_model.proofs.OwnerLaws.{owner_eq-true, owner_eq-same, ne-owner_eq}
-use Rattle.dom_model.proofs.OwnerTests.{same_owner}
 use Rattle.dom_traversal.specs.declared.cursors.Cursors.TheInside.{Inside}
-use Rattle.dom_traversal.specs.OwnTables.{KeyedTables, no_keyed_tables}
-use Rattle.dom_traversal.specs.Cursors.{AllCursors, cursors_of, with_cursors}
+use Rattle.dom_traversal.specs.Definitions.{KeyedTables, no_keyed_tables, AllCursors, cursors_of, with_cursors}
 
 -- what a look-up finds, by the test that maps make
 looked : (all : AllCursors) (o : Owner) → lookup (owner_eq o) all ≡ lookup (OwnerImpl.ghosts.eq o) all

@@ -1,16 +1,8 @@
 -- The search for the nearest accepted node above.
-use Rattle.std.proofs.Common.{◌≡◌, ◌⊎◌, inl, inr, Bool, true, false, ◌&&◌, List, [], ◌∷◌, Option, Some, None, refl, sym, ap, ◌∙◌}
-use Rattle.std.specs.Prelude.{find, if◌then◌else◌}
-use Rattle.std.proofs.lemmas.Bool.{and_left, and_right, and_from}
-use Rattle.dom_base.specs.declared.NodeName.{NodeName}
-use Rattle.dom_model.specs.Names.{name_eq}
-use Rattle.dom_model.specs.Traversal.{Walker, accepts}
-use Rattle.dom_model.specs.Tree.{Trees, inclusive_ancestors, ancestors, parent_of, is_inclusive_ancestor}
-use Rattle.dom_model.proofs.OwnerLaws.{name_eq-other}
-use Rattle.dom_laws.proofs.Lists.{In, same_or_not, name_eq-from, is_in-not}
-use Rattle.dom_laws.proofs.Order.{IsWithin, stands_in, above-within}
-use Rattle.dom_laws.proofs.Steps.{within-parent, within-top}
-use Rattle.dom_laws.proofs.Shapes.{proper-parent}
+use Rattle.dom_base.proofs.Std.{◌≡◌, ◌⊎◌, inl, inr, Bool, true, false, ◌&&◌, List, [], ◌∷◌, Option, Some, None, refl, sym, ap, ◌∙◌, find, if◌then◌else◌}
+use Rattle.dom_base.proofs.Std.{and_left, and_right, and_from}
+use Rattle.dom_model.proofs.Model.{NodeName, name_eq, Walker, accepts, Trees, inclusive_ancestors, ancestors, parent_of, is_inclusive_ancestor, name_eq-other}
+use Rattle.dom_laws.proofs.Laws.{In, same_or_not, name_eq-from, is_in-not, IsWithin, stands_in, above-within, within-parent, within-top, proper-parent}
 use Rattle.dom_traversal.proofs.Opening.{not_around}
 
 -- a node that is accepted and stands in the tree of the root

@@ -1,20 +1,11 @@
 -- The nodes among which nextNode and previousNode choose are those reached through nodes that are not passed over.
-use Rattle.std.proofs.Common.{◌≡◌, Bool, true, false, not, ◌&&◌, List, Option, Some, refl, sym, ap, subst, ◌∙◌}
-use Rattle.std.specs.Prelude.{filter, is_none}
-use Rattle.std.proofs.lemmas.Bool.{false_from_ne_true}
-use Rattle.dom_base.specs.declared.NodeName.{NodeName}
-use Rattle.dom_base.specs.declared.Verdict.{Verdict}
-use Rattle.dom_base.specs.declared.Verdict.TheVariants.{Skip, Reject}
-use Rattle.dom_model.specs.Names.{first_of}
-use Rattle.dom_model.specs.Traversal.{Walker, answer_at, accepts, rejects, is_reject, walker_nodes}
-use Rattle.dom_model.specs.Tree.{Trees, inclusive_ancestors, ancestors, is_inclusive_ancestor}
-use Rattle.dom_traversal.specs.Walkers.{is_passable}
+use Rattle.dom_base.proofs.Std.{◌≡◌, Bool, true, false, not, ◌&&◌, List, Option, Some, refl, sym, ap, subst, ◌∙◌, filter, is_none, false_from_ne_true}
+use Rattle.dom_model.proofs.Model.{NodeName, Verdict, Skip, Reject, first_of, Walker, answer_at, accepts, rejects, is_reject, walker_nodes, Trees}
+use Rattle.dom_model.proofs.Model.{inclusive_ancestors, ancestors, is_inclusive_ancestor}
+use Rattle.dom_traversal.specs.Definitions.{is_passable}
 use Rattle.dom_laws.specs.Within.{behind, beyond}
-use Rattle.dom_laws.proofs.Lists.{In, is_in-from, filter-same}
-use Rattle.dom_laws.proofs.Order.{IsWithin, stands_in}
-use Rattle.dom_laws.proofs.Steps.{following_place, behind-next}
+use Rattle.dom_laws.proofs.Laws.{In, is_in-from, filter-same, IsWithin, stands_in, following_place, behind-next, above-proper}
 use Rattle.dom_traversal.proofs.Opening.{reached, all-from, none-all}
-use Rattle.dom_laws.proofs.Shapes.{above-proper}
 use Rattle.dom_traversal.proofs.Forward.{Comes, Comes-skip, Comes-reject, Comes-apart, following-above, not_behind}
 
 -- a node that is accepted and not hidden

@@ -1,21 +1,12 @@
 -- A search forward among the nodes in the place of siblings or of children.
-use Rattle.std.proofs.Common.{◌≡◌, ℕ, ◌<◌, true, false, ◌||◌, length, Option, Some, None, refl, sym, ap, subst, ◌∙◌}
-use Rattle.std.specs.Prelude.{filter}
-use Rattle.std.specs.Option.{option_map, ForSome}
-use Rattle.std.specs.List.{list_all}
-use Rattle.std.proofs.lemmas.Bool.{or_left, or_right, false_from_ne_true}
-use Rattle.std.proofs.lemmas.Option.{same_Some}
-use Rattle.dom_base.specs.declared.NodeName.{NodeName}
-use Rattle.dom_base.specs.declared.Verdict.TheVariants.{Skip, Reject}
-use Rattle.dom_model.specs.Names.{first_of}
-use Rattle.dom_model.specs.Traversal.{Walker, answer_at, accepts, skips, is_skip}
-use Rattle.dom_model.specs.Tree.{Trees, inclusive_ancestors, ancestors, is_inclusive_ancestor}
-use Rattle.dom_tree.specs.Forest.{NamedTrees, name_at}
-use Rattle.dom_traversal.specs.Walkers.{KeyedWalker, walker_view, is_opened, is_reached, stop_above, stop_of, BeginsForward}
+use Rattle.dom_base.proofs.Std.{◌≡◌, ℕ, ◌<◌, true, false, ◌||◌, length, Option, Some, None, refl, sym, ap, subst, ◌∙◌, filter, option_map, ForSome, list_all}
+use Rattle.dom_base.proofs.Std.{or_left, or_right, false_from_ne_true, same_Some}
+use Rattle.dom_model.proofs.Model.{NodeName, Skip, Reject, first_of, Walker, answer_at, accepts, skips, is_skip, Trees, inclusive_ancestors, ancestors}
+use Rattle.dom_model.proofs.Model.{is_inclusive_ancestor}
+use Rattle.dom_tree.specs.Definitions.{NamedTrees, name_at, StandsBelow}
+use Rattle.dom_traversal.specs.Definitions.{KeyedWalker, walker_view, is_opened, is_reached, stop_above, stop_of, BeginsForward}
 use Rattle.dom_laws.specs.Within.{behind, beyond, from_node}
-use Rattle.dom_tree.specs.Within.{StandsBelow}
-use Rattle.dom_laws.proofs.Lists.{In, is_in-from, In-not}
-use Rattle.dom_laws.proofs.Order.{IsWithin}
+use Rattle.dom_laws.proofs.Laws.{In, is_in-from, In-not, IsWithin}
 use Rattle.dom_tree.proofs.Standing.{StandOnce, StandAlone, Has-forest, IsWithin-forest}
 use Rattle.dom_traversal.proofs.Forward.{Comes, shorter-skip, shorter-reject, Comes-skip, Comes-reject, Comes-apart}
 use Rattle.dom_traversal.proofs.Passing.{accepts-some}

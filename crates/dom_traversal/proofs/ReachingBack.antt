@@ -1,30 +1,15 @@
 -- A search backward among the nodes in the place of siblings or of children.
-use Rattle.std.proofs.Common.{◌≡◌, ◌⊎◌, inl, inr, ℕ, ◌<◌, Bool, true, false, not, List, [], ◌∷◌, ◌++◌, length, Option, Some, None, refl, sym, ap}
-use Rattle.std.proofs.Common.{subst, ◌∙◌, arith, length-append}
-use Rattle.std.specs.Prelude.{filter, find, unwrap_or, is_none}
-use Rattle.std.specs.Option.{option_map, ForSome}
-use Rattle.std.specs.List.{list_all}
-use Rattle.std.proofs.lemmas.Bool.{cases_Bool, and_left, and_from, and_parts, or_from, or_left, false_from_ne_true, both_ways}
-use Rattle.std.proofs.lemmas.List.{append-nil}
-use Rattle.std.proofs.lemmas.List.Elements.{filter-append}
-use Rattle.std.proofs.lemmas.Option.{none-some, same_Some}
-use Rattle.dom_base.specs.declared.NodeName.{NodeName}
-use Rattle.dom_base.specs.declared.Verdict.{Verdict}
-use Rattle.dom_base.specs.declared.Verdict.TheVariants.{Skip, Reject}
-use Rattle.dom_model.specs.Command.{Filter}
-use Rattle.dom_model.specs.Names.{name_eq, last_of}
-use Rattle.dom_model.specs.Traversal.{Walker, answer_at, accepts, skips, is_skip}
-use Rattle.dom_model.specs.Tree.{Trees, subtree, inclusive_ancestors, ancestors, is_inclusive_ancestor, inclusive_descendants}
-use Rattle.dom_model.proofs.OwnerLaws.{name_eq-other}
-use Rattle.dom_tree.specs.Forest.{NamedTrees, name_at}
-use Rattle.dom_traversal.specs.Walkers.{KeyedWalker, walker_view, is_opened, is_reached, is_candidate, is_accepted_but, is_entered, entered_by}
-use Rattle.dom_traversal.specs.Walkers.{is_stop, stop_above, StepsBehind, BeginsBackward}
+use Rattle.dom_base.proofs.Std.{◌≡◌, ◌⊎◌, inl, inr, ℕ, ◌<◌, Bool, true, false, not, List, [], ◌∷◌, ◌++◌, length, Option, Some, None, refl, sym, ap, subst, ◌∙◌}
+use Rattle.dom_base.proofs.Std.{arith, length-append, filter, find, unwrap_or, is_none, option_map, ForSome, list_all, cases_Bool, and_left, and_from}
+use Rattle.dom_base.proofs.Std.{and_parts, or_from, or_left, false_from_ne_true, both_ways, append-nil, filter-append, none-some, same_Some}
+use Rattle.dom_model.proofs.Model.{NodeName, Verdict, Skip, Reject, Filter, name_eq, last_of, Walker, answer_at, accepts, skips, is_skip, Trees, subtree}
+use Rattle.dom_model.proofs.Model.{inclusive_ancestors, ancestors, is_inclusive_ancestor, inclusive_descendants, name_eq-other}
+use Rattle.dom_tree.specs.Definitions.{NamedTrees, name_at, StandsBelow}
+use Rattle.dom_traversal.specs.Definitions.{KeyedWalker, walker_view, is_opened, is_reached, is_candidate, is_accepted_but, is_entered, entered_by, is_stop}
+use Rattle.dom_traversal.specs.Definitions.{stop_above, StepsBehind, BeginsBackward}
 use Rattle.dom_laws.specs.Within.{ahead_of, up_to_tree}
-use Rattle.dom_tree.specs.Within.{StandsBelow}
-use Rattle.dom_laws.proofs.Lists.{In, In-left, In-right, In-parts, Single, Single-apart, is_in-from, is_in-not, last_of-end, filter-none, filter-no}
-use Rattle.dom_laws.proofs.Shapes.{Has, below-from_above}
-use Rattle.dom_laws.proofs.Children.{In-names}
-use Rattle.dom_laws.proofs.Order.{IsWithin, here, below, above-within}
+use Rattle.dom_laws.proofs.Laws.{In, In-left, In-right, In-parts, Single, Single-apart, is_in-from, is_in-not, last_of-end, filter-none, filter-no, Has}
+use Rattle.dom_laws.proofs.Laws.{below-from_above, In-names, IsWithin, here, below, above-within}
 use Rattle.dom_traversal.proofs.Opening.{hidden, all-from, all-at, not_around}
 use Rattle.dom_traversal.proofs.Stops.{IsBelow, within-below, other-below, below-stop}
 use Rattle.dom_tree.proofs.Standing.{StandOnce, StandAlone, Has-forest}

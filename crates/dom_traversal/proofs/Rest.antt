@@ -1,25 +1,13 @@
 -- What a search forward leaves: the accepted nodes behind the one that it found.
-use Rattle.std.proofs.Common.{◌≡◌, ◌⊎◌, inl, inr, ℕ, Bool, true, false, not, cond, ◌&&◌, List, [], ◌∷◌, Option, Some, None, refl, sym, ap, subst, ◌∙◌}
-use Rattle.std.specs.Prelude.{filter}
-use Rattle.std.specs.List.{list_any}
-use Rattle.std.proofs.lemmas.Bool.{cases_Bool}
-use Rattle.std.proofs.lemmas.Option.{none-some, same_Some}
-use Rattle.dom_base.specs.declared.NodeName.{NodeName}
-use Rattle.dom_base.specs.declared.Move.TheVariants.{Next}
-use Rattle.dom_base.specs.declared.Verdict.TheVariants.{Skip}
-use Rattle.dom_model.specs.Names.{name_eq, first_of, items_after}
-use Rattle.dom_model.specs.Tree.{ancestors, inclusive_descendants, is_inclusive_ancestor, node_in}
-use Rattle.dom_model.specs.Command.{Filter}
-use Rattle.dom_model.specs.Traversal.{Walker, accepts, rejects, verdict_at, is_reject, is_shown, iterator_next_node, walker_nodes, walker_move}
-use Rattle.dom_model.proofs.OwnerLaws.{name_eq-other}
-use Rattle.dom_tree.specs.Forest.{NamedTrees, name_at}
+use Rattle.dom_base.proofs.Std.{◌≡◌, ◌⊎◌, inl, inr, ℕ, Bool, true, false, not, cond, ◌&&◌, List, [], ◌∷◌, Option, Some, None, refl, sym, ap, subst, ◌∙◌, filter}
+use Rattle.dom_base.proofs.Std.{list_any, cases_Bool, none-some, same_Some}
+use Rattle.dom_model.proofs.Model.{NodeName, Next, Skip, name_eq, first_of, items_after, ancestors, inclusive_descendants, is_inclusive_ancestor, node_in}
+use Rattle.dom_model.proofs.Model.{Filter, Walker, accepts, rejects, verdict_at, is_reject, is_shown, iterator_next_node, walker_nodes, walker_move}
+use Rattle.dom_model.proofs.Model.{name_eq-other}
+use Rattle.dom_tree.specs.Definitions.{NamedTrees, name_at, StandsIn}
 use Rattle.dom_laws.specs.Within.{behind}
-use Rattle.dom_tree.specs.Within.{StandsIn}
-use Rattle.dom_traversal.specs.Iterators.{KeyedIterator, IsIteratorOf, iterator_rest, iterator_view}
-use Rattle.dom_traversal.specs.Walkers.{KeyedWalker, IsWalkerOf, walker_rest, walker_view}
-use Rattle.dom_laws.proofs.Lists.{In, Single, after-in, name_eq-from, filter-yes, filter-no, filter-same, no_first}
-use Rattle.dom_laws.proofs.Order.{all_single, above-within}
-use Rattle.dom_laws.proofs.Steps.{within-member}
+use Rattle.dom_traversal.specs.Definitions.{KeyedIterator, IsIteratorOf, iterator_rest, iterator_view, KeyedWalker, IsWalkerOf, walker_rest, walker_view}
+use Rattle.dom_laws.proofs.Laws.{In, Single, after-in, name_eq-from, filter-yes, filter-no, filter-same, no_first, all_single, above-within, within-member}
 use Rattle.dom_tree.proofs.Standing.{StandOnce, StandAlone}
 use Rattle.dom_tree.proofs.Searching.{IsWithin-key}
 use Rattle.dom_traversal.proofs.Fewer.{first-in}

@@ -1,16 +1,10 @@
 -- The order of references in their list, and what taking one out leaves.
-use Rattle.std.proofs.Common.{◌≡◌, inl, inr, ℕ, zero, suc, ◌+◌, ◌<◌, ◌≤◌, Bool, true, false, List, [], ◌∷◌, length, get_or, eqb, ltb}
-use Rattle.std.proofs.Common.{refl, sym, subst, ◌∙◌, arith}
-use Rattle.std.specs.Prelude.{◌&&◌, ◌||◌}
-use Rattle.std.specs.List.{Contains, remove}
-use Rattle.std.specs.List.Sorted.{IsPartitionedBy}
-use Rattle.std.proofs.lemmas.Bool.{cases_Bool, cases_lt, eqb-true, eqb-false, ltb-true, ltb-false}
-use Rattle.std.proofs.lemmas.List.{get_or_default}
-use Rattle.std.proofs.lemmas.List.Edits.{length-remove, get_or-remove_below, get_or-remove_above}
-use Rattle.std.proofs.lemmas.List.Elements.{Contains-append_cases, Contains-append_right}
-use Rattle.std.proofs.lemmas.List.Sorted.{Contains-permutation, IsPermutation-remove, IsPermutation-sym}
+use Rattle.dom_base.proofs.Std.{◌≡◌, inl, inr, ℕ, zero, suc, ◌+◌, ◌<◌, ◌≤◌, Bool, true, false, List, [], ◌∷◌, length, get_or, eqb, ltb, refl, sym, subst, ◌∙◌}
+use Rattle.dom_base.proofs.Std.{arith, ◌&&◌, ◌||◌, Contains, remove, IsPartitionedBy, cases_Bool, cases_lt, eqb-true, eqb-false, ltb-true, ltb-false}
+use Rattle.dom_base.proofs.Std.{get_or_default, length-remove, get_or-remove_below, get_or-remove_above, Contains-append_cases, Contains-append_right}
+use Rattle.dom_base.proofs.Std.{Contains-permutation, IsPermutation-remove, IsPermutation-sym}
 use Rattle.dom_traversal.specs.declared.references.Reference.{Reference}
-use Rattle.dom_traversal.specs.References.{AreSorted, IsBefore, IsUpTo, reference_at}
+use Rattle.dom_traversal.specs.Definitions.{AreSorted, IsBefore, IsUpTo, reference_at}
 
 -- whether a reference comes before another one
 abbrev pub is_before : Reference → Reference → Bool

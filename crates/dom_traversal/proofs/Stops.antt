@@ -1,21 +1,12 @@
 -- The nearest node above a node that the filter accepts or that is the top, and the nodes of its tree around that node.
-use Rattle.std.proofs.Common.{◌≡◌, inl, inr, Bool, true, false, List, [], ◌∷◌, ◌++◌, Option, Some, None, refl, sym, ap, subst, ◌∙◌, true≢false}
-use Rattle.std.specs.Prelude.{find, unwrap_or}
-use Rattle.std.proofs.lemmas.Bool.{cases_Bool, or_right, or_from, or_parts}
-use Rattle.dom_base.specs.declared.NodeName.{NodeName}
-use Rattle.dom_model.specs.Command.{Filter}
-use Rattle.dom_model.specs.Names.{name_eq, first_of}
-use Rattle.dom_model.specs.Traversal.{accepts}
-use Rattle.dom_model.specs.Tree.{Trees, inclusive_ancestors, ancestors, parent_of, children_of, next_sibling, previous_sibling, inclusive_descendants}
-use Rattle.dom_model.proofs.OwnerLaws.{name_eq-other}
+use Rattle.dom_base.proofs.Std.{◌≡◌, inl, inr, Bool, true, false, List, [], ◌∷◌, ◌++◌, Option, Some, None, refl, sym, ap, subst, ◌∙◌, true≢false, find}
+use Rattle.dom_base.proofs.Std.{unwrap_or, cases_Bool, or_right, or_from, or_parts}
+use Rattle.dom_model.proofs.Model.{NodeName, Filter, name_eq, first_of, accepts, Trees, inclusive_ancestors, ancestors, parent_of, children_of, next_sibling}
+use Rattle.dom_model.proofs.Model.{previous_sibling, inclusive_descendants, name_eq-other}
 use Rattle.dom_laws.specs.Within.{ahead_of, beyond}
-use Rattle.dom_traversal.specs.Walkers.{is_stop, stop_above}
-use Rattle.dom_laws.proofs.Lists.{In, name_eq-from, no_first}
-use Rattle.dom_laws.proofs.Shapes.{Has, Has-above, below-from_above, above-proper, proper-parent}
-use Rattle.dom_laws.proofs.Counts.{Once}
-use Rattle.dom_laws.proofs.Children.{parent-of_child}
-use Rattle.dom_laws.proofs.Order.{IsWithin, stands_in, here}
-use Rattle.dom_laws.proofs.Steps.{within-top, next_places, no_next, previous_places, no_previous, top_places}
+use Rattle.dom_traversal.specs.Definitions.{is_stop, stop_above}
+use Rattle.dom_laws.proofs.Laws.{In, name_eq-from, no_first, Has, Has-above, below-from_above, above-proper, proper-parent, Once, parent-of_child, IsWithin}
+use Rattle.dom_laws.proofs.Laws.{stands_in, here, within-top, next_places, no_next, previous_places, no_previous, top_places}
 use Rattle.dom_traversal.proofs.Opening.{not_above_itself}
 
 -- x stands below top

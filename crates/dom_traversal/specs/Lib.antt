@@ -6,3 +6,4 @@ pub mod Walkers
 pub mod OwnTables
 pub mod Cursors
 pub mod References
+pub mod Definitions

@@ -1,23 +1,11 @@
 -- What a new node does to a `Forest`.
-use Rattle.std.proofs.Common.{◌≡◌, ◌⊎◌, inl, inr, ℕ, zero, suc, ◌+◌, ◌^◌, ◌<◌, ◌≤◌, true, false, cond, List, [], ◌∷◌, ◌++◌, length, Some, None, refl}
-use Rattle.std.proofs.Common.{sym, ap, subst, ◌∙◌, arith, zero-add}
-use Rattle.std.specs.Prelude.{slice_get}
-use Rattle.std.specs.Option.{option_map}
-use Rattle.std.proofs.lemmas.Bool.{cases_Bool}
-use Rattle.std.proofs.lemmas.List.{length-map, length_push, map-append, get_or_append_left}
-use Rattle.std.proofs.lemmas.List.Sums.{sum_by-append}
-use Rattle.std.proofs.lemmas.Option.{same_Some, none-some}
-use Rattle.dom_base.specs.declared.Owner.{Owner}
-use Rattle.dom_base.specs.declared.NodeName.{NodeName}
-use Rattle.dom_model.specs.Names.{owner_eq}
-use Rattle.dom_model.specs.Tree.{Node}
-use Rattle.dom_model.specs.TreeChanges.{with_node}
+use Rattle.dom_base.proofs.Std.{◌≡◌, ◌⊎◌, inl, inr, ℕ, zero, suc, ◌+◌, ◌^◌, ◌<◌, ◌≤◌, true, false, cond, List, [], ◌∷◌, ◌++◌, length, Some, None, refl, sym, ap}
+use Rattle.dom_base.proofs.Std.{subst, ◌∙◌, arith, zero-add, slice_get, option_map, cases_Bool, length-map, length_push, map-append, get_or_append_left}
+use Rattle.dom_base.proofs.Std.{sum_by-append, same_Some, none-some}
+use Rattle.dom_model.proofs.Model.{Owner, NodeName, owner_eq, Node, with_node, owner_eq-true, owner_eq-same}
 use Rattle.node_arena.specs.Nodes.{Nodes, IsSound}
 use Rattle.node_arena.proofs.Forests.{cases_Option}
-use Rattle.dom_tree.specs.Contents.{Contents, Stored}
-use Rattle.dom_tree.specs.Rows.{trees_of}
-use Rattle.dom_tree.specs.Forest.{IsKept, stored_names, nodes_with, nodes_of, name_at, node_with, count_of, next_name}
-use Rattle.dom_model.proofs.OwnerLaws.{owner_eq-true, owner_eq-same}
+use Rattle.dom_tree.specs.Definitions.{Contents, Stored, trees_of, IsKept, stored_names, nodes_with, nodes_of, name_at, node_with, count_of, next_name}
 use Rattle.dom_tree.proofs.Names.{same_parts}
 use Rattle.dom_tree.proofs.Rows.{IsNamed}
 use Rattle.dom_tree.proofs.Changes.{IsWhole, slice_get-pushed, slice_get-push, trees_of-push}

@@ -1,21 +1,14 @@
 -- Tree order among the keys for which trees stand, backward.
-use Rattle.std.proofs.Common.{◌≡◌, ◌⊎◌, inl, inr, ℕ, ◌-◌, ◌<◌, true, false, cond, eqb, List, [], ◌∷◌, ◌++◌, length, Option, Some, None, refl, sym, ap}
-use Rattle.std.proofs.Common.{◌∙◌, arith, true≢false}
-use Rattle.std.specs.Option.{option_map, option_map_or, option_and_then}
-use Rattle.std.proofs.lemmas.Bool.{eq-eqb, ne_eqb, eqb-true, both_ways, or_cases, or_left, or_right, cases_Bool, false_from_ne_true}
-use Rattle.std.proofs.lemmas.Bool.Decides.{eqb_tells}
-use Rattle.std.proofs.lemmas.Option.{none-some, same_Some}
-use Rattle.dom_base.specs.declared.Owner.{Owner}
-use Rattle.dom_model.specs.Names.{name_eq, last_of, items_before}
-use Rattle.dom_model.specs.Tree.{Trees, none, tree, Node, inclusive_descendants}
+use Rattle.dom_base.proofs.Std.{◌≡◌, ◌⊎◌, inl, inr, ℕ, ◌-◌, ◌<◌, true, false, cond, eqb, List, [], ◌∷◌, ◌++◌, length, Option, Some, None, refl, sym, ap, ◌∙◌}
+use Rattle.dom_base.proofs.Std.{arith, true≢false, option_map, option_map_or, option_and_then, eq-eqb, ne_eqb, eqb-true, both_ways, or_cases, or_left, or_right}
+use Rattle.dom_base.proofs.Std.{cases_Bool, false_from_ne_true, eqb_tells, none-some, same_Some}
+use Rattle.dom_model.proofs.Model.{Owner, name_eq, last_of, items_before, Trees, none, tree, Node, inclusive_descendants}
 use Rattle.node_arena.specs.Nodes.{children_of, contains, parent_of, ancestors_of, IsForest, IsOnce, last_from, last_of as last_key, prev_from}
 use Rattle.node_arena.specs.Nodes.{prev_in, prev_of}
 use Rattle.node_arena.proofs.Lists.{contains-append, contains-prev_in, contains-last_of, IsOnce-apart}
 use Rattle.node_arena.proofs.Lists.{last_from-append, prev_from-append}
 use Rattle.node_arena.proofs.Forests.{contains-parent, ancestors_of-child, length-ancestors_of}
-use Rattle.dom_tree.specs.Contents.{Stored}
-use Rattle.dom_tree.specs.Rows.{trees_of}
-use Rattle.dom_tree.specs.Forest.{NamedTrees, IsKept, nodes_of, name_at}
+use Rattle.dom_tree.specs.Definitions.{Stored, trees_of, NamedTrees, IsKept, nodes_of, name_at}
 use Rattle.dom_tree.proofs.Rows.{Stands, name_of_key}
 use Rattle.dom_tree.proofs.Changes.{IsWhole, subtree_here}
 use Rattle.dom_tree.proofs.Reading.{last_or-items_before}

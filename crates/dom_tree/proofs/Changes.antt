@@ -1,23 +1,17 @@
 -- What the changes of an arena do to the trees that it stands for.
-use Rattle.std.proofs.Common.{◌≡◌, ◌≢◌, inl, inr, ℕ, zero, suc, ◌<◌, ◌≤◌, Bool, true, false, not, ◌&&◌, ◌||◌, eqb, List, [], ◌∷◌, ◌++◌, map, length}
-use Rattle.std.proofs.Common.{set, Option, Some, None, is_none, refl, sym, ap, subst, ◌∙◌, arith, true≢false}
-use Rattle.std.specs.Prelude.{slice_get, filter}
-use Rattle.std.specs.List.{range_with_len}
-use Rattle.std.specs.Option.{option_map}
-use Rattle.std.proofs.lemmas.Bool.{eq-eqb, ne_eqb, eqb-true, both_ways, or_cases, or_left, or_right, cases_Bool, false_from_ne_true, and_right}
-use Rattle.std.proofs.lemmas.Bool.Decides.{eqb_tells}
-use Rattle.std.proofs.lemmas.List.{get_or-set_same, get_or-set_other, length-set, length-map, length_push, get_or_append_left}
-use Rattle.std.proofs.lemmas.Option.{slice_get-get_or, slice_get_within, get_or_from_slice_get, none-some}
-use Rattle.dom_base.specs.declared.NodeName.{NodeName}
-use Rattle.dom_model.specs.Tree.{Trees, none, tree, Node, subtree}
-use Rattle.dom_model.specs.TreeChanges.{without, put_root, map_nodes, placed, taken_out, with_node}
+use Rattle.dom_base.proofs.Std.{◌≡◌, ◌≢◌, inl, inr, ℕ, zero, suc, ◌<◌, ◌≤◌, Bool, true, false, not, ◌&&◌, ◌||◌, eqb, List, [], ◌∷◌, ◌++◌, map, length, set}
+use Rattle.dom_base.proofs.Std.{Option, Some, None, is_none, refl, sym, ap, subst, ◌∙◌, arith, true≢false, slice_get, filter, range_with_len, option_map}
+use Rattle.dom_base.proofs.Std.{eq-eqb, ne_eqb, eqb-true, both_ways, or_cases, or_left, or_right, cases_Bool, false_from_ne_true, and_right, eqb_tells}
+use Rattle.dom_base.proofs.Std.{get_or-set_same, get_or-set_other, length-set, length-map, length_push, get_or_append_left, slice_get-get_or, slice_get_within}
+use Rattle.dom_base.proofs.Std.{get_or_from_slice_get, none-some}
+use Rattle.dom_model.proofs.Model.{NodeName, Trees, none, tree, Node, subtree, without, put_root, map_nodes, placed, taken_out, with_node}
 use Rattle.node_arena.specs.Nodes.{children_of, contains, parent_of, ancestors_of, IsForest, without as without_key, put_before as put_key_before}
 use Rattle.node_arena.specs.Nodes.{insert_before}
 use Rattle.node_arena.proofs.Forests.{cases_Option, contains-no_parent, parent_of_same, parent_of_none, parent_of_is, ancestors_of-child}
 use Rattle.node_arena.proofs.Forests.{ancestors_of-root, children_of-push, children_of-pushed, parent_of-pushed, children_of-without}
 use Rattle.node_arena.proofs.Forests.{IsForest-without, IsForest-push}
 use Rattle.node_arena.proofs.Lists.{contains-append, contains-head, without-absent, contains-without_same, contains-without_other}
-use Rattle.dom_tree.specs.Rows.{node_at, put_key, is_root, root_keys, trees_of}
+use Rattle.dom_tree.specs.Definitions.{node_at, put_key, is_root, root_keys, trees_of}
 use Rattle.dom_tree.proofs.Rows.{Stands, Stands-one, Stands-trees_on, Stands-kept, Stands-map_nodes, Stands-without, Stands-put_below}
 use Rattle.dom_tree.proofs.Rows.{Stands-put_root, IsNamed, name_of_key}
 use Rattle.dom_tree.proofs.Reach.{reaches, reaches-all, Stands-subtree}

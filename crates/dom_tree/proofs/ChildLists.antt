@@ -1,27 +1,15 @@
 -- The children of each node after a step, from the lists of an arena.
-use Rattle.std.proofs.Common.{◌≡◌, ◌≢◌, inl, inr, ℕ, zero, suc, ◌<◌, false, eqb, List, [], ◌∷◌, ◌++◌, map, length, Option, Some, None, refl, sym}
-use Rattle.std.proofs.Common.{ap, subst, ◌∙◌, arith}
-use Rattle.std.specs.Prelude.{slice_get}
-use Rattle.std.specs.Option.{option_map}
-use Rattle.std.proofs.lemmas.Bool.{cases_Bool, eqb-true, false_from_ne_true}
-use Rattle.std.proofs.lemmas.Option.{same_Some, none-some}
-use Rattle.std.proofs.lemmas.List.{length-map, length_push, get_or-set_same, get_or-set_other}
-use Rattle.dom_base.specs.declared.Owner.{Owner}
-use Rattle.dom_base.specs.declared.NodeName.{NodeName}
-use Rattle.dom_model.specs.Tree.{Trees, names_of, roots, trees_below, children_of as children_in, parent_of as parent_in, is_inclusive_ancestor}
-use Rattle.dom_model.specs.Names.{first_of}
-use Rattle.dom_model.proofs.OwnerLaws.{name_eq-same, name_eq-turned}
-use Rattle.dom_laws.proofs.Lists.{name_eq-from, In, Single}
-use Rattle.dom_laws.proofs.Counts.{Once}
-use Rattle.dom_laws.proofs.Children.{children-single}
-use Rattle.dom_laws.proofs.Shapes.{has_or_not, subtree-absent}
+use Rattle.dom_base.proofs.Std.{◌≡◌, ◌≢◌, inl, inr, ℕ, zero, suc, ◌<◌, false, eqb, List, [], ◌∷◌, ◌++◌, map, length, Option, Some, None, refl, sym, ap, subst}
+use Rattle.dom_base.proofs.Std.{◌∙◌, arith, slice_get, option_map, cases_Bool, eqb-true, false_from_ne_true, same_Some, none-some, length-map, length_push}
+use Rattle.dom_base.proofs.Std.{get_or-set_same, get_or-set_other}
+use Rattle.dom_model.proofs.Model.{Owner, NodeName, Trees, names_of, roots, trees_below, children_of as children_in, parent_of as parent_in}
+use Rattle.dom_model.proofs.Model.{is_inclusive_ancestor, first_of, name_eq-same, name_eq-turned}
+use Rattle.dom_laws.proofs.Laws.{name_eq-from, In, Single, Once, children-single, has_or_not, subtree-absent}
 use Rattle.dom_laws.specs.Siblings.{put_name, without_name}
 use Rattle.node_arena.specs.Nodes.{Nodes, IsSound, children_of, parent_of, ancestors_of, contains, without, put_before, insert_before}
 use Rattle.node_arena.proofs.Forests.{cases_Option, contains-parent, parent_within, ancestors_of-child, children_of-without, children_of-push, parent_of_is}
 use Rattle.node_arena.proofs.Lists.{without-absent}
-use Rattle.dom_tree.specs.Contents.{Stored}
-use Rattle.dom_tree.specs.Rows.{trees_of}
-use Rattle.dom_tree.specs.Forest.{NamedTrees, IsKept, stored_names, nodes_of, name_at}
+use Rattle.dom_tree.specs.Definitions.{Stored, trees_of, NamedTrees, IsKept, stored_names, nodes_of, name_at}
 use Rattle.dom_tree.proofs.Changes.{linked}
 use Rattle.dom_tree.proofs.Kept.{seen, shows_parent, within, within_names, kept_with}
 use Rattle.dom_tree.proofs.Placing.{names_tell}

@@ -1,21 +1,13 @@
 -- Walks over the children of a node.
-use Rattle.std.proofs.Common.{◌≡◌, ◌≢◌, ◌⊎◌, inl, inr, ℕ, suc, ◌+◌, ◌<◌, Bool, true, false, not, cond, ◌&&◌, ◌||◌, eqb, List, [], ◌∷◌, map, length}
-use Rattle.std.proofs.Common.{Option, Some, None, refl, sym, ap, subst, ◌∙◌, arith, true≢false}
-use Rattle.std.specs.List.{list_any}
+use Rattle.dom_base.proofs.Std.{◌≡◌, ◌≢◌, ◌⊎◌, inl, inr, ℕ, suc, ◌+◌, ◌<◌, Bool, true, false, not, cond, ◌&&◌, ◌||◌, eqb, List, [], ◌∷◌, map, length, Option}
+use Rattle.dom_base.proofs.Std.{Some, None, refl, sym, ap, subst, ◌∙◌, arith, true≢false, list_any, eqb_tells, option_eq, option_map, option_map_or, ForSome}
+use Rattle.dom_base.proofs.Std.{eq-eqb, ne_eqb, eqb-true, cases_Bool, both_ways, or_parts, false_from_ne_true, sum_by-append}
 use Rattle.node_arena.specs.contracts.key.KeyPartialEq.TheImpl as KeyImpl
-use Rattle.std.proofs.lemmas.Bool.Decides.{eqb_tells}
-use Rattle.std.specs.Option.{option_eq, option_map, option_map_or, ForSome}
-use Rattle.std.proofs.lemmas.Bool.{eq-eqb, ne_eqb, eqb-true, cases_Bool, both_ways, or_parts, false_from_ne_true}
-use Rattle.std.proofs.lemmas.List.Sums.{sum_by-append}
-use Rattle.dom_base.specs.declared.Owner.{Owner}
-use Rattle.dom_model.specs.Tree.{Node, is_element, is_text, kind_of, node_in, child_nodes, trees_below, subtree}
-use Rattle.dom_model.specs.TreeChanges.{is_given}
-use Rattle.dom_model.specs.Validity.{without_given, element_count, has_text}
+use Rattle.dom_model.proofs.Model.{Owner, Node, is_element, is_text, kind_of, node_in, child_nodes, trees_below, subtree, is_given, without_given}
+use Rattle.dom_model.proofs.Model.{element_count, has_text}
 use Rattle.node_arena.specs.Nodes.{contains, children_of, IsForest, IsOnce, head_of, next_in, next_of}
 use Rattle.node_arena.proofs.Lists.{contains-next_in}
-use Rattle.dom_tree.specs.Contents.{Stored}
-use Rattle.dom_tree.specs.Rows.{node_at, trees_of}
-use Rattle.dom_tree.specs.Forest.{NamedTrees, IsKept, stored_names, nodes_of, name_at}
+use Rattle.dom_tree.specs.Definitions.{Stored, node_at, trees_of, NamedTrees, IsKept, stored_names, nodes_of, name_at}
 use Rattle.dom_tree.proofs.Rows.{name_of_key}
 use Rattle.dom_tree.proofs.Reach.{roots-Stands, trees_below-Stands}
 use Rattle.dom_tree.proofs.Changes.{IsWhole, subtree_here}

@@ -1,11 +1,7 @@
 -- A change made of one node after another is that change of all of them.
-use Rattle.std.proofs.Common.{◌≡◌, Bool, true, false, cond, ◌||◌, List, [], ◌∷◌, ◌++◌, refl, sym, ap, ◌∙◌}
-use Rattle.std.proofs.lemmas.List.Folds.{list_any-append}
-use Rattle.dom_base.specs.declared.NodeName.{NodeName}
-use Rattle.dom_model.specs.Names.{name_eq, is_in}
-use Rattle.dom_model.specs.Tree.{Trees, none, tree, Node}
-use Rattle.dom_model.specs.TreeChanges.{change_node}
-use Rattle.dom_tree.specs.EachNode.{change_each}
+use Rattle.dom_base.proofs.Std.{◌≡◌, Bool, true, false, cond, ◌||◌, List, [], ◌∷◌, ◌++◌, refl, sym, ap, ◌∙◌, list_any-append}
+use Rattle.dom_model.proofs.Model.{NodeName, name_eq, is_in, Trees, none, tree, Node, change_node}
+use Rattle.dom_tree.specs.Definitions.{change_each}
 
 -- one name more is one change of a node more
 pub each_node : (f : Node → Node) → ((n : Node) → (f n).name ≡ n.name) → ((n : Node) → f (f n) ≡ f n) → (xs : List NodeName) (x : NodeName) (ts : Trees)

@@ -1,17 +1,10 @@
 -- What each node holds after a step, from what is stored.
-use Rattle.std.proofs.Common.{◌≡◌, ◌≢◌, inl, inr, ℕ, ◌+◌, ◌<◌, List, [], ◌∷◌, ◌++◌, length, set, Some, refl, sym, ap, subst, ◌∙◌, arith}
-use Rattle.std.specs.Prelude.{slice_get}
-use Rattle.std.proofs.lemmas.List.{length-map, length_push, get_or_append_left, get_or_push}
-use Rattle.std.proofs.lemmas.Option.{slice_get_cases}
-use Rattle.dom_base.specs.declared.Owner.{Owner}
-use Rattle.dom_base.specs.declared.NodeName.{NodeName}
-use Rattle.dom_model.specs.Tree.{Node, node_in, inclusive_ancestors, children_of}
-use Rattle.dom_model.specs.TreeChanges.{change_node}
-use Rattle.dom_laws.proofs.Relatives.{path_changed, children_changed}
+use Rattle.dom_base.proofs.Std.{◌≡◌, ◌≢◌, inl, inr, ℕ, ◌+◌, ◌<◌, List, [], ◌∷◌, ◌++◌, length, set, Some, refl, sym, ap, subst, ◌∙◌, arith, slice_get}
+use Rattle.dom_base.proofs.Std.{length-map, length_push, get_or_append_left, get_or_push, slice_get_cases}
+use Rattle.dom_model.proofs.Model.{Owner, NodeName, Node, node_in, inclusive_ancestors, children_of, change_node}
+use Rattle.dom_laws.proofs.Laws.{path_changed, children_changed}
 use Rattle.node_arena.specs.Nodes.{Nodes, IsSound}
-use Rattle.dom_tree.specs.Contents.{Stored}
-use Rattle.dom_tree.specs.Rows.{node_at, trees_of}
-use Rattle.dom_tree.specs.Forest.{NamedTrees, IsKept, stored_names, nodes_of, name_at, node_with, next_name}
+use Rattle.dom_tree.specs.Definitions.{Stored, node_at, trees_of, NamedTrees, IsKept, stored_names, nodes_of, name_at, node_with, next_name}
 use Rattle.dom_tree.proofs.Adding.{Adds, nodes_of-push}
 use Rattle.dom_tree.proofs.Kept.{seen, within, shows_node, kept_with, IsWhole-kept, name_at-same}
 use Rattle.dom_tree.proofs.Reading.{node_in-at}

@@ -1,23 +1,14 @@
 -- The invariant of a `Forest`.
-use Rattle.std.proofs.Common.{◌≡◌, ◌≢◌, ◌⊎◌, inl, inr, true≢false, ℕ, zero, suc, ◌<◌, ◌≤◌, true, false, ◌||◌, eqb, List, [], ◌∷◌, map, length, Option}
-use Rattle.std.proofs.Common.{Some, None, refl, sym, ap, subst, ◌∙◌, arith}
-use Rattle.std.specs.Prelude.{slice_get}
-use Rattle.std.specs.Option.{option_map, ForSome}
-use Rattle.std.proofs.lemmas.List.{length-map}
-use Rattle.std.proofs.lemmas.Bool.{eq-eqb, ne_eqb, eqb-true, or_cases, or_right}
-use Rattle.std.proofs.lemmas.Bool.Decides.{eqb_tells}
-use Rattle.std.proofs.lemmas.Option.{same_Some, none-some}
-use Rattle.dom_base.specs.declared.Owner.{Owner}
-use Rattle.dom_base.specs.declared.NodeName.{NodeName}
-use Rattle.dom_model.specs.Names.{name_eq, is_in}
-use Rattle.dom_model.specs.Tree.{Trees, none, Node, node_in, parent_of as parent_in, is_inclusive_ancestor}
-use Rattle.dom_model.specs.TreeChanges.{placed, taken_out}
+use Rattle.dom_base.proofs.Std.{◌≡◌, ◌≢◌, ◌⊎◌, inl, inr, true≢false, ℕ, zero, suc, ◌<◌, ◌≤◌, true, false, ◌||◌, eqb, List, [], ◌∷◌, map, length, Option, Some}
+use Rattle.dom_base.proofs.Std.{None, refl, sym, ap, subst, ◌∙◌, arith, slice_get, option_map, ForSome, length-map, eq-eqb, ne_eqb, eqb-true, or_cases}
+use Rattle.dom_base.proofs.Std.{or_right, eqb_tells, same_Some, none-some}
+use Rattle.dom_model.proofs.Model.{Owner, NodeName, name_eq, is_in, Trees, none, Node, node_in, parent_of as parent_in, is_inclusive_ancestor, placed}
+use Rattle.dom_model.proofs.Model.{taken_out}
 use Rattle.node_arena.specs.Nodes.{Nodes, IsSound, IsForest, children_of, contains, parent_of, ancestors_of, without}
 use Rattle.node_arena.proofs.Lists.{contains-head}
 use Rattle.node_arena.proofs.Forests.{cases_Option, contains-parent, parent_within, ancestors_of-child, ancestors_of-root}
-use Rattle.dom_tree.specs.Contents.{Stored}
-use Rattle.dom_tree.specs.Rows.{node_at, trees_on, trees_of}
-use Rattle.dom_tree.specs.Forest.{NamedTrees, IsKept, stored_names, nodes_with, nodes_of, name_at, node_with}
+use Rattle.dom_tree.specs.Definitions.{Stored, node_at, trees_of, NamedTrees, IsKept, stored_names, nodes_with, nodes_of, name_at, node_with}
+use Rattle.dom_tree.specs.Rows.{trees_on}
 use Rattle.dom_tree.proofs.Rows.{name_of_key}
 use Rattle.dom_tree.proofs.Changes.{IsWhole, node_here, linked, LinkAsked, trees_of-linked, trees_of-unlinked}
 use Rattle.dom_tree.proofs.Reading.{node_in-at, parent_in-at, inclusive_ancestors-at, name_of_key-eq}

@@ -1,13 +1,8 @@
 -- The tests on names, and the order of names.
-use Rattle.std.proofs.Common.{◌≡◌, ◌⊎◌, inl, inr, ℕ, ◌<◌, List, [], ◌∷◌, true, false, cond, ltb, refl, sym, ap, ◌∙◌, subst, arith, true≢false}
-use Rattle.std.proofs.lemmas.Bool.{and_parts, and_from, or_cases, or_left, or_right, lt-ltb, ltb-true, cases_order, cases_Bool, false_from_ne_true}
-use Rattle.dom_base.specs.declared.Owner.{Owner}
-use Rattle.dom_base.specs.declared.Owner.TheVariants.{Page, Component}
-use Rattle.dom_base.specs.declared.OwnerPath.{OwnerPath}
-use Rattle.dom_base.specs.declared.NodeName.{NodeName}
-use Rattle.dom_model.specs.Names.{owner_eq, owner_place, list_before, name_before}
-use Rattle.dom_model.proofs.OwnerLaws.{owner_eq-same, owner_eq-true, owner_eq-false}
-use Rattle.dom_model.proofs.ListOrder.{before-itself, before-then, before-total, before-turned}
+use Rattle.dom_base.proofs.Std.{◌≡◌, ◌⊎◌, inl, inr, ℕ, ◌<◌, List, [], ◌∷◌, true, false, cond, ltb, refl, sym, ap, ◌∙◌, subst, arith, true≢false, and_parts}
+use Rattle.dom_base.proofs.Std.{and_from, or_cases, or_left, or_right, lt-ltb, ltb-true, cases_order, cases_Bool, false_from_ne_true}
+use Rattle.dom_model.proofs.Model.{Owner, Page, Component, OwnerPath, NodeName, owner_eq, owner_place, list_before, name_before, owner_eq-same, owner_eq-true}
+use Rattle.dom_model.proofs.Model.{owner_eq-false, before-itself, before-then, before-total, before-turned}
 
 -- owners at one place are one
 owner_place-same : (o p : Owner) → owner_place o ≡ owner_place p → o ≡ p

@@ -1,23 +1,13 @@
 -- Each node stands once in the trees, and no others stand there.
-use Rattle.std.proofs.Common.{◌≡◌, inl, inr, ℕ, zero, suc, ◌+◌, ◌<◌, ◌≤◌, Bool, true, false, ◌||◌, eqb, List, [], ◌∷◌, ◌++◌, length, Option}
-use Rattle.std.proofs.Common.{Some, None, refl, sym, ap, subst, ◌∙◌, arith, true≢false}
-use Rattle.std.specs.Prelude.{slice_get, filter, is_none, is_some}
-use Rattle.std.specs.List.{range_with_len, count_by}
-use Rattle.std.proofs.lemmas.Bool.{eqb-true, or_cases, or_parts, cases_Bool, false_from_ne_true}
-use Rattle.std.proofs.lemmas.Bool.Decides.{eqb_tells}
-use Rattle.std.specs.Option.{ForSome}
-use Rattle.std.proofs.lemmas.Option.{none-some, slice_get_within, get_or_from_slice_get}
-use Rattle.dom_base.specs.declared.Owner.{Owner}
-use Rattle.dom_base.specs.declared.NodeName.{NodeName}
-use Rattle.dom_model.specs.Names.{name_eq, name_before, is_in}
-use Rattle.dom_model.specs.Tree.{Trees, none, tree, Node, nodes as nodes_in, names_of, has_node, times_in}
+use Rattle.dom_base.proofs.Std.{◌≡◌, inl, inr, ℕ, zero, suc, ◌+◌, ◌<◌, ◌≤◌, Bool, true, false, ◌||◌, eqb, List, [], ◌∷◌, ◌++◌, length, Option, Some, None, refl}
+use Rattle.dom_base.proofs.Std.{sym, ap, subst, ◌∙◌, arith, true≢false, slice_get, filter, is_none, is_some, range_with_len, count_by, eqb-true, or_cases}
+use Rattle.dom_base.proofs.Std.{or_parts, cases_Bool, false_from_ne_true, eqb_tells, ForSome, none-some, slice_get_within, get_or_from_slice_get}
+use Rattle.dom_model.proofs.Model.{Owner, NodeName, name_eq, name_before, is_in, Trees, none, tree, Node, nodes as nodes_in, names_of, has_node, times_in}
+use Rattle.dom_model.proofs.Model.{name_eq-same, name_eq-true}
 use Rattle.node_arena.specs.Nodes.{children_of, contains, parent_of, ancestors_of, IsForest, IsOnce}
 use Rattle.node_arena.proofs.Forests.{cases_Option, contains-no_parent, contains-parent, parent_within, ancestors_of-child}
-use Rattle.dom_tree.specs.Contents.{Stored}
-use Rattle.dom_tree.specs.Rows.{put_key, in_order, is_root, root_keys, trees_of}
-use Rattle.dom_tree.specs.Forest.{NamedTrees, IsKept, stored_names, nodes_of, name_at}
-use Rattle.dom_model.proofs.OwnerLaws.{name_eq-same, name_eq-true}
-use Rattle.dom_laws.proofs.Counts.{one, one-true, one-false, count-cons, count-append, times_in-none, times_in-tree, times_count}
+use Rattle.dom_tree.specs.Definitions.{Stored, put_key, in_order, is_root, root_keys, trees_of, NamedTrees, IsKept, stored_names, nodes_of, name_at}
+use Rattle.dom_laws.proofs.Laws.{one, one-true, one-false, count-cons, count-append, times_in-none, times_in-tree, times_count}
 use Rattle.dom_tree.proofs.Rows.{Stands, IsNamed, same_name, name_of_key}
 use Rattle.dom_tree.proofs.Reach.{has_node-reaches, IsChild}
 use Rattle.dom_tree.proofs.Roots.{IsOnce-range, contains-filter, contains-in_order, contains-passing, passing-within}

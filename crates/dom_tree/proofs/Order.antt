@@ -1,16 +1,13 @@
 -- Tree order among the keys for which trees stand.
-use Rattle.std.proofs.Common.{◌≡◌, inl, inr, ℕ, zero, suc, ◌≤◌, true, false, cond, eqb, List, [], ◌∷◌, ◌++◌, map}
-use Rattle.std.proofs.Common.{Option, Some, None, refl, sym, ap, ◌∙◌, arith, true≢false}
-use Rattle.std.specs.Prelude.{slice_get}
-use Rattle.std.proofs.lemmas.Bool.{eq-eqb, ne_eqb, eqb-true, both_ways, or_cases, or_left, or_right, cases_Bool, false_from_ne_true}
-use Rattle.std.proofs.lemmas.List.{map-append}
-use Rattle.std.proofs.lemmas.Option.{none-some, same_Some}
-use Rattle.dom_model.specs.Tree.{Trees, none, tree, Node, nodes as nodes_in, names_of, times_in}
+use Rattle.dom_base.proofs.Std.{◌≡◌, inl, inr, ℕ, zero, suc, ◌≤◌, true, false, cond, eqb, List, [], ◌∷◌, ◌++◌, map, Option, Some, None, refl, sym, ap, ◌∙◌}
+use Rattle.dom_base.proofs.Std.{arith, true≢false, slice_get, eq-eqb, ne_eqb, eqb-true, both_ways, or_cases, or_left, or_right, cases_Bool, false_from_ne_true}
+use Rattle.dom_base.proofs.Std.{map-append, none-some, same_Some}
+use Rattle.dom_model.proofs.Model.{Trees, none, tree, Node, nodes as nodes_in, names_of, times_in}
 use Rattle.node_arena.specs.Nodes.{children_of, contains, IsOnce}
 use Rattle.node_arena.proofs.Lists.{contains-append, contains-head, IsOnce-append_left, IsOnce-append_right, IsOnce-apart, head_or, head_or-append}
 use Rattle.node_arena.proofs.Lists.{next_from, next_from-append}
 use Rattle.dom_tree.proofs.Rows.{Stands, same_name, name_of_key, IsNamed}
-use Rattle.dom_laws.proofs.Counts.{one, one-true, times_in-none, times_in-tree}
+use Rattle.dom_laws.proofs.Laws.{one, one-true, times_in-none, times_in-tree}
 use Rattle.dom_tree.proofs.Once.{times, times-nil, times-cons, times-append, times-present}
 
 -- the keys for which trees stand, in tree order

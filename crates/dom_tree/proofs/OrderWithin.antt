@@ -1,22 +1,13 @@
 -- Tree order within the tree of a node.
-use Rattle.std.proofs.Common.{◌≡◌, ◌≢◌, ◌⊎◌, inl, inr, ℕ, zero, suc, ◌<◌, ◌≤◌, true, false, not, eqb, List, [], ◌∷◌, map, length}
-use Rattle.std.proofs.Common.{Option, Some, None, refl, sym, ap, subst, ◌∙◌, arith, true≢false}
-use Rattle.std.specs.Prelude.{is_some}
-use Rattle.std.specs.Option.{option_map, option_and_then}
-use Rattle.std.proofs.lemmas.Bool.{eq-eqb, ne_eqb, eqb-true, or_cases, or_left, cases_Bool}
-use Rattle.std.proofs.lemmas.Bool.Decides.{eqb_tells}
-use Rattle.std.proofs.lemmas.Option.{none-some, slice_get_within}
-use Rattle.dom_base.specs.declared.Owner.{Owner}
-use Rattle.dom_base.specs.declared.NodeName.{NodeName}
-use Rattle.dom_model.specs.Names.{name_eq, first_of, items_after}
-use Rattle.dom_model.specs.Tree.{Trees, none, tree, Node, subtree, inclusive_descendants, times_in}
+use Rattle.dom_base.proofs.Std.{◌≡◌, ◌≢◌, ◌⊎◌, inl, inr, ℕ, zero, suc, ◌<◌, ◌≤◌, true, false, not, eqb, List, [], ◌∷◌, map, length, Option, Some, None, refl}
+use Rattle.dom_base.proofs.Std.{sym, ap, subst, ◌∙◌, arith, true≢false, is_some, option_map, option_and_then, eq-eqb, ne_eqb, eqb-true, or_cases, or_left}
+use Rattle.dom_base.proofs.Std.{cases_Bool, eqb_tells, none-some, slice_get_within}
+use Rattle.dom_model.proofs.Model.{Owner, NodeName, name_eq, first_of, items_after, Trees, none, tree, Node, subtree, inclusive_descendants, times_in}
 use Rattle.node_arena.specs.Nodes.{children_of, contains, parent_of, ancestors_of, IsForest, IsOnce, head_of, next_in, next_of}
 use Rattle.node_arena.proofs.Lists.{head_or}
 use Rattle.node_arena.proofs.Lists.{next_from, next_in_is}
 use Rattle.node_arena.proofs.Forests.{cases_Option, contains-parent, ancestors_of-child, ancestors_of-root}
-use Rattle.dom_tree.specs.Contents.{Stored}
-use Rattle.dom_tree.specs.Rows.{trees_of}
-use Rattle.dom_tree.specs.Forest.{NamedTrees, IsKept, stored_names, nodes_of, name_at}
+use Rattle.dom_tree.specs.Definitions.{Stored, trees_of, NamedTrees, IsKept, stored_names, nodes_of, name_at}
 use Rattle.dom_tree.proofs.Rows.{Stands, name_of_key}
 use Rattle.dom_tree.proofs.Changes.{IsWhole, subtree_here}
 use Rattle.dom_tree.proofs.Reading.{name_of_key-eq, first_of-items_after, Tells}
@@ -24,7 +15,7 @@ use Rattle.dom_tree.proofs.Kept.{seen, IsWhole-kept, name_at-same, names_option,
 use Rattle.dom_tree.proofs.Once.{times, once-within}
 use Rattle.dom_tree.proofs.Order.{in_trees, name_here, names-in_trees, root-in_trees, child-in_trees, key-in_trees, times-in_trees, IsOnce-times}
 use Rattle.dom_tree.proofs.Order.{behind, behind-child, next-in_trees, StandsOnce}
-use Rattle.dom_laws.proofs.Counts.{times_subtree}
+use Rattle.dom_laws.proofs.Laws.{times_subtree}
 
 -- ---- within the tree of a node
 

@@ -1,16 +1,10 @@
 -- The roots of a forest stand in the order of their names.
-use Rattle.std.proofs.Common.{◌≡◌, ◌⊎◌, inl, inr, ℕ, ◌<◌, true, false, eqb, true≢false, List, [], ◌∷◌, length, refl, sym, subst, ◌∙◌}
-use Rattle.std.specs.Prelude.{filter}
-use Rattle.std.specs.List.{range_with_len}
-use Rattle.std.proofs.lemmas.Bool.{or_left, or_right, or_cases}
-use Rattle.dom_base.specs.declared.Owner.{Owner}
-use Rattle.dom_model.specs.Tree.{Trees, Node}
-use Rattle.dom_model.specs.TreeChanges.{put_root}
+use Rattle.dom_base.proofs.Std.{◌≡◌, ◌⊎◌, inl, inr, ℕ, ◌<◌, true, false, eqb, true≢false, List, [], ◌∷◌, length, refl, sym, subst, ◌∙◌, filter, range_with_len}
+use Rattle.dom_base.proofs.Std.{or_left, or_right, or_cases}
+use Rattle.dom_model.proofs.Model.{Owner, Trees, Node, put_root}
 use Rattle.node_arena.specs.Nodes.{contains}
-use Rattle.dom_tree.specs.Contents.{Stored}
-use Rattle.dom_tree.specs.Rows.{in_order, trees_on, is_root}
-use Rattle.dom_tree.specs.Forest.{NamedTrees, IsKept, nodes_of}
-use Rattle.dom_tree.specs.Owners.{AreInOrder}
+use Rattle.dom_tree.specs.Definitions.{Stored, in_order, is_root, NamedTrees, IsKept, nodes_of, AreInOrder}
+use Rattle.dom_tree.specs.Rows.{trees_on}
 use Rattle.dom_tree.proofs.Rows.{Each, Stands, Stands-one, Stands-trees_on, Stands-put_root, name_of_key}
 use Rattle.dom_tree.proofs.Roots.{contains-in_order, passing_range}
 use Rattle.dom_tree.proofs.Changes.{IsWhole}

@@ -1,13 +1,8 @@
 -- A change of one owner's nodes is that change of its own trees, and leaves each other owner's trees as they are.
-use Rattle.std.proofs.Common.{◌≡◌, ◌⊎◌, inl, inr, true, false, cond, refl, sym, ap, subst, ◌∙◌, true≢false}
-use Rattle.std.proofs.lemmas.Bool.{cases_Bool, false_from_ne_true}
-use Rattle.dom_base.specs.declared.Owner.{Owner}
-use Rattle.dom_base.specs.declared.NodeName.{NodeName}
-use Rattle.dom_model.specs.Names.{owner_eq, name_eq, name_before}
-use Rattle.dom_model.specs.Tree.{Trees, none, tree, Node, subtree, or_else}
-use Rattle.dom_model.specs.TreeChanges.{followed_by, without, put_root}
-use Rattle.dom_model.proofs.OwnerLaws.{owner_eq-same, name_eq-same, name_eq-true}
-use Rattle.dom_tree.specs.Owners.{trees_of_owner, AreOf, HaveOwners, NoneBefore, AreInOrder, AreOwned}
+use Rattle.dom_base.proofs.Std.{◌≡◌, ◌⊎◌, inl, inr, true, false, cond, refl, sym, ap, subst, ◌∙◌, true≢false, cases_Bool, false_from_ne_true}
+use Rattle.dom_model.proofs.Model.{Owner, NodeName, owner_eq, name_eq, name_before, Trees, none, tree, Node, subtree, or_else, followed_by, without, put_root}
+use Rattle.dom_model.proofs.Model.{owner_eq-same, name_eq-same, name_eq-true}
+use Rattle.dom_tree.specs.Definitions.{trees_of_owner, AreOf, HaveOwners, NoneBefore, AreInOrder, AreOwned}
 use Rattle.dom_tree.proofs.Names.{name_before-trans, name_before-not_both, name_before-total}
 use Rattle.dom_tree.proofs.Owned.{AreOf-own, name_apart}
 

@@ -1,14 +1,9 @@
 -- A tree put below a node, and nodes with other contents, are those changes of their owner's trees.
-use Rattle.std.proofs.Common.{◌≡◌, inl, inr, true, false, cond, Bool, Option, refl, sym, ap, subst, ◌∙◌, true≢false}
-use Rattle.std.proofs.lemmas.Bool.{cases_Bool, cond_both}
-use Rattle.dom_base.specs.declared.Owner.{Owner}
-use Rattle.dom_base.specs.declared.NodeName.{NodeName}
-use Rattle.dom_model.specs.Names.{owner_eq, name_eq, name_before, is_in}
-use Rattle.dom_model.specs.Tree.{Trees, none, tree, Node, subtree}
-use Rattle.dom_model.specs.TreeChanges.{without, is_given, put_before, put_below, put_root, taken_out, placed, with_node, map_nodes}
-use Rattle.dom_model.specs.TreeChanges.{change_node, change_subtree}
-use Rattle.dom_model.proofs.OwnerLaws.{owner_eq-true, owner_eq-same, ne-owner_eq, name_eq-true}
-use Rattle.dom_tree.specs.Owners.{trees_of_owner, AreOf, HaveOwners, NoneBefore, AreInOrder, AreOwned, IsOwnChange}
+use Rattle.dom_base.proofs.Std.{◌≡◌, inl, inr, true, false, cond, Bool, Option, refl, sym, ap, subst, ◌∙◌, true≢false, cases_Bool, cond_both}
+use Rattle.dom_model.proofs.Model.{Owner, NodeName, owner_eq, name_eq, name_before, is_in, Trees, none, tree, Node, subtree, without, is_given, put_before}
+use Rattle.dom_model.proofs.Model.{put_below, put_root, taken_out, placed, with_node, map_nodes, change_node, change_subtree, owner_eq-true, owner_eq-same}
+use Rattle.dom_model.proofs.Model.{ne-owner_eq, name_eq-true}
+use Rattle.dom_tree.specs.Definitions.{trees_of_owner, AreOf, HaveOwners, NoneBefore, AreInOrder, AreOwned, IsOwnChange}
 use Rattle.dom_tree.proofs.Owned.{HaveOwners-one, AreOf-own, AreOf-alone, name_apart, read_own, stays_own}
 use Rattle.dom_tree.proofs.OwnChanges.{AreOf-followed_by, IsAlone-subtree, AreInOrder-put_root, HaveOwners-put_root, own-put_root, others-put_root}
 use Rattle.dom_tree.proofs.OwnChanges.{owned-without, own-without, others-without}

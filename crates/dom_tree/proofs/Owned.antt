@@ -1,22 +1,12 @@
 -- An owner's own trees: what they hold, and that reads of an owner's nodes are reads of its own trees.
-use Rattle.std.proofs.Common.{◌≡◌, inl, inr, Bool, true, false, not, cond, ◌||◌, List, [], ◌∷◌, ◌++◌, drop, Option, Some, None, unwrap_or, refl, sym}
-use Rattle.std.proofs.Common.{ap, subst, ◌∙◌, true≢false}
-use Rattle.std.specs.Prelude.{find, length}
-use Rattle.std.specs.List.{AllByRecursion, last_or}
-use Rattle.std.specs.Option.{ForSome, option_map_or, option_or}
-use Rattle.std.proofs.lemmas.Bool.{and_left, or_from, or_cases, cases_Bool}
-use Rattle.std.proofs.lemmas.List.{map-append}
-use Rattle.std.proofs.lemmas.Option.{same_Some, none-some}
-use Rattle.std.proofs.lemmas.List.Folds.{find-append}
-use Rattle.dom_base.specs.declared.Owner.{Owner}
-use Rattle.dom_base.specs.declared.NodeName.{NodeName}
-use Rattle.dom_model.specs.Names.{owner_eq, name_eq, is_in, first_of, last_of, items_before, items_after}
-use Rattle.dom_model.specs.Tree.{Trees, none, tree, Node, nodes, roots, names_of, node_in, no_node, kind_of, attribute_value, subtree, or_else}
-use Rattle.dom_model.specs.Tree.{trees_below, on_top, inclusive_ancestors, is_inclusive_ancestor, inclusive_descendants, child_nodes, children_of}
-use Rattle.dom_model.specs.Tree.{parent_of, siblings, has_data}
-use Rattle.dom_model.specs.Validity.{first_refusal, placing_tests, has_parent, without_given, breaks_document, pre_insert_refusal, replace_refusal}
-use Rattle.dom_model.proofs.OwnerLaws.{owner_eq-true, name_eq-true}
-use Rattle.dom_tree.specs.Owners.{trees_of_owner, AreOf, HaveOwners, NoneBefore, AreInOrder, AreOwned, IsReadOwn, StaysOwn}
+use Rattle.dom_base.proofs.Std.{◌≡◌, inl, inr, Bool, true, false, not, cond, ◌||◌, List, [], ◌∷◌, ◌++◌, drop, Option, Some, None, unwrap_or, refl, sym, ap}
+use Rattle.dom_base.proofs.Std.{subst, ◌∙◌, true≢false, find, length, AllByRecursion, last_or, ForSome, option_map_or, option_or, and_left, or_from, or_cases}
+use Rattle.dom_base.proofs.Std.{cases_Bool, map-append, same_Some, none-some, find-append}
+use Rattle.dom_model.proofs.Model.{Owner, NodeName, owner_eq, name_eq, is_in, first_of, last_of, items_before, items_after, Trees, none, tree, Node, nodes}
+use Rattle.dom_model.proofs.Model.{roots, names_of, node_in, no_node, kind_of, attribute_value, subtree, or_else, trees_below, on_top, inclusive_ancestors}
+use Rattle.dom_model.proofs.Model.{is_inclusive_ancestor, inclusive_descendants, child_nodes, children_of, parent_of, siblings, has_data, first_refusal}
+use Rattle.dom_model.proofs.Model.{placing_tests, has_parent, without_given, breaks_document, pre_insert_refusal, replace_refusal, owner_eq-true, name_eq-true}
+use Rattle.dom_tree.specs.Definitions.{trees_of_owner, AreOf, HaveOwners, NoneBefore, AreInOrder, AreOwned, IsReadOwn, StaysOwn}
 use Rattle.dom_tree.proofs.Reach.{reaches, has_node-reaches, subtree-none, inclusive_ancestors-none, find-none}
 
 -- ---- the trees

@@ -1,13 +1,8 @@
 -- The list that a component has in a map of lists, after a list was written for one component.
-use Rattle.std.proofs.Common.{◌≡◌, Bool, true, false, cond, List, [], Option, Some, None, refl, sym, ap, ◌∙◌, true≢false}
-use Rattle.std.specs.Prelude.{is_some, Result, Ok, Err}
-use Rattle.std.specs.Option.{option_map_or}
-use Rattle.std.specs.Result.{IsOk, is_ok}
-use Rattle.dom_base.specs.declared.Owner.{Owner}
+use Rattle.dom_base.proofs.Std.{◌≡◌, Bool, true, false, cond, List, [], Option, Some, None, refl, sym, ap, ◌∙◌, true≢false, is_some, Result, Ok, Err}
+use Rattle.dom_base.proofs.Std.{option_map_or, IsOk, is_ok}
+use Rattle.dom_model.proofs.Model.{Owner, owner_eq, owner_eq-true, same_owner}
 use Rattle.dom_base.specs.contracts.OwnerPartialEq.TheImpl as OwnerImpl
-use Rattle.dom_model.specs.Names.{owner_eq}
-use Rattle.dom_model.proofs.OwnerLaws.{owner_eq-true}
-use Rattle.dom_model.proofs.OwnerTests.{same_owner}
 
 -- what an owner has, by what a look-up finds
 abbrev pub had : {V X : Type 0} → (V → List X) → (Owner → Option V) → Owner → List X

@@ -1,18 +1,10 @@
 -- The tests for an insertion and a replacement.
-use Rattle.std.proofs.Common.{◌≡◌, ◌≢◌, ◌⊎◌, inl, inr, ℕ, ◌<◌, ◌≤◌, Bool, true, false, not, ◌&&◌, ◌||◌, eqb, List, [], ◌∷◌, length, Option, Some}
-use Rattle.std.proofs.Common.{None, refl, sym, ap, subst, ◌∙◌, arith}
-use Rattle.std.specs.Prelude.{nat_lt, nat_eq}
-use Rattle.std.specs.Option.{option_map, option_map_or, option_eq}
-use Rattle.std.proofs.lemmas.Bool.{lt-ltb, le-ltb, eq-eqb, ne_eqb}
-use Rattle.std.proofs.lemmas.Bool.Decides.{eqb_tells}
+use Rattle.dom_base.proofs.Std.{◌≡◌, ◌≢◌, ◌⊎◌, inl, inr, ℕ, ◌<◌, ◌≤◌, Bool, true, false, not, ◌&&◌, ◌||◌, eqb, List, [], ◌∷◌, length, Option, Some, None, refl}
+use Rattle.dom_base.proofs.Std.{sym, ap, subst, ◌∙◌, arith, nat_lt, nat_eq, option_map, option_map_or, option_eq, lt-ltb, le-ltb, eq-eqb, ne_eqb, eqb_tells}
 use Rattle.node_arena.specs.contracts.key.KeyPartialEq.TheImpl as KeyImpl
-use Rattle.dom_base.specs.declared.Owner.{Owner}
-use Rattle.dom_model.specs.Names.{name_eq}
-use Rattle.dom_model.specs.Tree.{Node, kind_of, is_fragment, child_nodes}
-use Rattle.dom_model.specs.Validity.{without_given, element_count, has_text, has_parent, breaks_document}
+use Rattle.dom_model.proofs.Model.{Owner, name_eq, Node, kind_of, is_fragment, child_nodes, without_given, element_count, has_text, has_parent, breaks_document}
 use Rattle.node_arena.specs.Nodes.{parent_of}
-use Rattle.dom_tree.specs.Contents.{Stored}
-use Rattle.dom_tree.specs.Forest.{NamedTrees, IsKept, stored_names, nodes_of, name_at}
+use Rattle.dom_tree.specs.Definitions.{Stored, NamedTrees, IsKept, stored_names, nodes_of, name_at}
 use Rattle.dom_tree.proofs.Rows.{name_of_key}
 use Rattle.dom_tree.proofs.Reading.{name_of_key-eq}
 use Rattle.dom_tree.proofs.Kept.{seen, IsWhole-kept, name_at-same, within, shows_parent}

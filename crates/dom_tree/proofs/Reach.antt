@@ -1,21 +1,13 @@
 -- Each node of a forest is found in the trees, with what is above and below it.
-use Rattle.std.proofs.Common.{◌≡◌, inl, inr, ℕ, zero, suc, ◌<◌, ◌≤◌, Bool, true, false, ◌||◌, eqb, List, [], ◌∷◌, ◌++◌, map, length, Some, None, refl}
-use Rattle.std.proofs.Common.{sym, ap, subst, ◌∙◌, arith, true≢false, append_assoc}
-use Rattle.std.specs.Prelude.{slice_get, find}
-use Rattle.std.proofs.lemmas.Bool.{both_ways, or_cases, or_parts, or_left, or_right, cases_Bool}
-use Rattle.std.proofs.lemmas.Bool.Decides.{eqb_tells}
-use Rattle.std.specs.List.{list_any}
-use Rattle.std.proofs.lemmas.List.{map-append}
-use Rattle.std.proofs.lemmas.List.Folds.{list_any-append}
-use Rattle.std.proofs.lemmas.Option.{slice_get-get_or, get_or_from_slice_get, none-some}
-use Rattle.dom_base.specs.declared.NodeName.{NodeName}
-use Rattle.dom_model.specs.Names.{name_eq}
-use Rattle.dom_model.specs.Tree.{Trees, none, tree, Node, nodes as nodes_in, names_of, has_node, subtree, or_else, inclusive_ancestors, roots, trees_below}
-use Rattle.dom_model.proofs.OwnerLaws.{name_eq-turned}
+use Rattle.dom_base.proofs.Std.{◌≡◌, inl, inr, ℕ, zero, suc, ◌<◌, ◌≤◌, Bool, true, false, ◌||◌, eqb, List, [], ◌∷◌, ◌++◌, map, length, Some, None, refl, sym}
+use Rattle.dom_base.proofs.Std.{ap, subst, ◌∙◌, arith, true≢false, append_assoc, slice_get, find, both_ways, or_cases, or_parts, or_left, or_right, cases_Bool}
+use Rattle.dom_base.proofs.Std.{eqb_tells, list_any, map-append, list_any-append, slice_get-get_or, get_or_from_slice_get, none-some}
+use Rattle.dom_model.proofs.Model.{NodeName, name_eq, Trees, none, tree, Node, nodes as nodes_in, names_of, has_node, subtree, or_else, inclusive_ancestors}
+use Rattle.dom_model.proofs.Model.{roots, trees_below, name_eq-turned}
 use Rattle.node_arena.specs.Nodes.{children_of, contains, parent_of, ancestors_of, IsForest}
 use Rattle.node_arena.proofs.Forests.{cases_Option, parent_within, parent_of_is, contains-parent, ancestors_of-child}
 use Rattle.node_arena.proofs.Lists.{contains-head}
-use Rattle.dom_tree.specs.Rows.{node_at}
+use Rattle.dom_tree.specs.Definitions.{node_at}
 use Rattle.dom_tree.proofs.Rows.{Stands, IsNamed, same_name, name_of_key}
 
 -- a node of this name stands in the trees

@@ -1,21 +1,15 @@
 -- What is read of the trees is what the arena's lists say.
-use Rattle.std.proofs.Common.{◌≡◌, ◌≢◌, ◌⊎◌, inl, inr, ℕ, ◌<◌, true, false, eqb, List, [], ◌∷◌, map, length, Option, Some, None, refl, sym, ap, ◌∙◌, true≢false}
-use Rattle.std.specs.Prelude.{unwrap_or, drop, is_none}
-use Rattle.std.specs.List.{last_or}
-use Rattle.std.specs.Option.{option_map, option_map_or, option_and_then}
-use Rattle.std.proofs.lemmas.Bool.{eq-eqb, ne_eqb, or_right, cases_Bool}
-use Rattle.std.proofs.lemmas.Bool.Decides.{eqb_tells}
-use Rattle.std.proofs.lemmas.List.{append-nil}
-use Rattle.dom_base.specs.declared.NodeName.{NodeName}
-use Rattle.dom_model.specs.Names.{name_eq, first_of, last_of, items_before, items_after}
-use Rattle.dom_model.specs.Tree.{Node, names_of, trees_below, subtree, node_in, no_node, children_of as children_in, inclusive_ancestors}
-use Rattle.dom_model.specs.Tree.{parent_of as parent_in, siblings, next_sibling, previous_sibling}
+use Rattle.dom_base.proofs.Std.{◌≡◌, ◌≢◌, ◌⊎◌, inl, inr, ℕ, ◌<◌, true, false, eqb, List, [], ◌∷◌, map, length, Option, Some, None, refl, sym, ap, ◌∙◌}
+use Rattle.dom_base.proofs.Std.{true≢false, unwrap_or, drop, is_none, last_or, option_map, option_map_or, option_and_then, eq-eqb, ne_eqb, or_right, cases_Bool}
+use Rattle.dom_base.proofs.Std.{eqb_tells, append-nil}
+use Rattle.dom_model.proofs.Model.{NodeName, name_eq, first_of, last_of, items_before, items_after, Node, names_of, trees_below, subtree, node_in, no_node}
+use Rattle.dom_model.proofs.Model.{children_of as children_in, inclusive_ancestors, parent_of as parent_in, siblings, next_sibling, previous_sibling}
+use Rattle.dom_model.proofs.Model.{name_eq-same}
 use Rattle.node_arena.specs.Nodes.{children_of, contains, parent_of, ancestors_of, head_of, last_from, last_of as last_key, next_in, next_of}
 use Rattle.node_arena.specs.Nodes.{prev_from, prev_in, prev_of}
 use Rattle.node_arena.proofs.Forests.{cases_Option, contains-parent, parent_within, ancestors_of-child, ancestors_of-root}
 use Rattle.node_arena.proofs.Lists.{contains-head}
-use Rattle.dom_tree.specs.Rows.{node_at, root_keys, is_root, trees_of}
-use Rattle.dom_model.proofs.OwnerLaws.{name_eq-same}
+use Rattle.dom_tree.specs.Definitions.{node_at, root_keys, is_root, trees_of}
 use Rattle.dom_tree.proofs.Rows.{same_name, name_of_key, Each}
 use Rattle.dom_tree.proofs.Reach.{find-reached, roots-Stands, trees_below-Stands, inclusive_ancestors-from}
 use Rattle.dom_tree.proofs.Roots.{passing-within}

@@ -1,17 +1,11 @@
 -- The roots, in the order of their names, and how they change.
-use Rattle.std.proofs.Common.{◌≡◌, ◌≢◌, inl, inr, ℕ, zero, suc, ◌+◌, ◌<◌, ◌≤◌, Bool, true, false, cond, ◌&&◌, ◌||◌, eqb, List, [], ◌∷◌, ◌++◌, length}
-use Rattle.std.proofs.Common.{refl, sym, ap, subst, ◌∙◌, arith, true≢false, append-nil}
-use Rattle.std.specs.Prelude.{filter}
-use Rattle.std.specs.List.{range_with_len}
-use Rattle.std.proofs.lemmas.Bool.{eq-eqb, eqb-true, both_ways, or_cases, or_parts, or_left, or_right, cases_Bool, false_from_ne_true, and_parts}
-use Rattle.std.proofs.lemmas.Bool.Decides.{eqb_tells}
-use Rattle.std.proofs.lemmas.List.Elements.{filter-append}
-use Rattle.std.proofs.lemmas.Option.{slice_get-get_or}
-use Rattle.dom_model.specs.Names.{name_before}
-use Rattle.dom_model.specs.Tree.{Node}
+use Rattle.dom_base.proofs.Std.{◌≡◌, ◌≢◌, inl, inr, ℕ, zero, suc, ◌+◌, ◌<◌, ◌≤◌, Bool, true, false, cond, ◌&&◌, ◌||◌, eqb, List, [], ◌∷◌, ◌++◌, length, refl}
+use Rattle.dom_base.proofs.Std.{sym, ap, subst, ◌∙◌, arith, true≢false, append-nil, filter, range_with_len, eq-eqb, eqb-true, both_ways, or_cases, or_parts}
+use Rattle.dom_base.proofs.Std.{or_left, or_right, cases_Bool, false_from_ne_true, and_parts, eqb_tells, filter-append, slice_get-get_or}
+use Rattle.dom_model.proofs.Model.{name_before, Node}
 use Rattle.node_arena.specs.Nodes.{contains, IsOnce, without}
 use Rattle.node_arena.proofs.Lists.{contains-append, contains-head, Split, split_at, Beside, IsOnce-closed, without-absent}
-use Rattle.dom_tree.specs.Rows.{node_at, put_key, in_order}
+use Rattle.dom_tree.specs.Definitions.{node_at, put_key, in_order}
 use Rattle.dom_tree.proofs.Names.{name_before-trans, name_before-turned}
 use Rattle.dom_tree.proofs.Rows.{IsNamed, Each, name_of_key}
 

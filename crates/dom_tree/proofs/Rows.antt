@@ -1,20 +1,14 @@
 -- Trees that stand for keys: the root of each is the node of the key, and its children stand for the key's list.
-use Rattle.std.proofs.Common.{◌≡◌, ◌≢◌, ◌⊎◌, inl, inr, ℕ, zero, suc, ◌+◌, ◌<◌, ◌≤◌, true, false, eqb, List, [], ◌∷◌, ◌++◌, map, length, Option, Some}
-use Rattle.std.proofs.Common.{None, refl, sym, ap, subst, ◌∙◌, arith}
-use Rattle.std.specs.Prelude.{slice_get}
-use Rattle.std.specs.Option.{option_map}
-use Rattle.std.proofs.lemmas.Bool.{or_right, cases_Bool}
-use Rattle.std.proofs.lemmas.Bool.Decides.{eqb_tells}
-use Rattle.std.proofs.lemmas.Option.{same_Some, slice_get-get_or, get_or_from_slice_get}
-use Rattle.dom_base.specs.declared.NodeName.{NodeName}
-use Rattle.dom_model.specs.Names.{name_eq, name_before}
-use Rattle.dom_model.specs.Tree.{Trees, none, tree, Node}
-use Rattle.dom_model.specs.TreeChanges.{followed_by, without, put_before, put_below, put_root, map_nodes}
+use Rattle.dom_base.proofs.Std.{◌≡◌, ◌≢◌, ◌⊎◌, inl, inr, ℕ, zero, suc, ◌+◌, ◌<◌, ◌≤◌, true, false, eqb, List, [], ◌∷◌, ◌++◌, map, length, Option, Some, None}
+use Rattle.dom_base.proofs.Std.{refl, sym, ap, subst, ◌∙◌, arith, slice_get, option_map, or_right, cases_Bool, eqb_tells, same_Some, slice_get-get_or}
+use Rattle.dom_base.proofs.Std.{get_or_from_slice_get}
+use Rattle.dom_model.proofs.Model.{NodeName, name_eq, name_before, Trees, none, tree, Node, followed_by, without, put_before, put_below, put_root, map_nodes}
+use Rattle.dom_model.proofs.Model.{name_eq-same, name_eq-other}
 use Rattle.node_arena.specs.Nodes.{children_of, contains, ancestors_of, IsForest, without as without_key, put_before as put_key_before, insert_before}
 use Rattle.node_arena.proofs.Forests.{parent_of_is, ancestors_of-child, length-ancestors_of, children_of-without}
 use Rattle.node_arena.proofs.Lists.{contains-head}
-use Rattle.dom_tree.specs.Rows.{node_at, row, below_within, trees_on, put_key}
-use Rattle.dom_model.proofs.OwnerLaws.{name_eq-same, name_eq-other}
+use Rattle.dom_tree.specs.Definitions.{node_at, row, below_within, put_key}
+use Rattle.dom_tree.specs.Rows.{trees_on}
 
 -- the trees stand for the keys
 abbrev pub Stands : List Node → List (List ℕ) → Trees → List ℕ → Type 0

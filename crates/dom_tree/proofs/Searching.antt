@@ -1,17 +1,11 @@
 -- Steps along tree order by keys, and what they leave to search.
-use Rattle.std.proofs.Common.{◌≡◌, inl, ℕ, ◌<◌, Bool, false, [], ◌∷◌, ◌++◌, length, Option, Some, refl, sym, ap, subst, ◌∙◌, arith}
-use Rattle.std.proofs.Common.{suc, length-append}
-use Rattle.std.specs.Prelude.{filter}
-use Rattle.std.specs.Option.{option_map, ForSome}
-use Rattle.dom_base.specs.declared.NodeName.{NodeName}
-use Rattle.dom_model.specs.Names.{first_of, last_of}
-use Rattle.dom_tree.specs.Forest.{NamedTrees, name_at}
+use Rattle.dom_base.proofs.Std.{◌≡◌, inl, ℕ, ◌<◌, Bool, false, [], ◌∷◌, ◌++◌, length, Option, Some, refl, sym, ap, subst, ◌∙◌, arith, suc, length-append}
+use Rattle.dom_base.proofs.Std.{filter, option_map, ForSome}
+use Rattle.dom_model.proofs.Model.{NodeName, first_of, last_of}
+use Rattle.dom_tree.specs.Definitions.{NamedTrees, name_at, StandsIn}
 use Rattle.dom_laws.specs.Within.{ahead_of, behind, from_node, up_to_node}
-use Rattle.dom_tree.specs.Within.{StandsIn}
-use Rattle.dom_laws.proofs.Lists.{In, first-miss, last-miss}
-use Rattle.dom_laws.proofs.Shapes.{above-present, below-from_above}
-use Rattle.dom_laws.proofs.Order.{IsWithin, above-within}
-use Rattle.dom_laws.proofs.Steps.{following_place, preceding_place, behind-next, ahead-previous}
+use Rattle.dom_laws.proofs.Laws.{In, first-miss, last-miss, above-present, below-from_above, IsWithin, above-within, following_place, preceding_place}
+use Rattle.dom_laws.proofs.Laws.{behind-next, ahead-previous}
 use Rattle.dom_tree.proofs.Standing.{StandOnce, StandAlone, Once-forest, Has-forest, IsWithin-forest}
 
 -- the key of a node that was found stands in the tree of another one where the node does

@@ -1,20 +1,9 @@
 -- What a change of one node's contents does to a `Forest`.
-use Rattle.std.proofs.Common.{◌≡◌, ◌≢◌, ◌⊎◌, inl, inr, ℕ, zero, suc, ◌<◌, true, false, cond, eqb, List, [], ◌∷◌, length, set, Some, refl, sym, ap}
-use Rattle.std.proofs.Common.{subst, ◌∙◌, arith}
-use Rattle.std.specs.Prelude.{slice_get}
-use Rattle.std.specs.Option.{option_map}
-use Rattle.std.proofs.lemmas.Bool.{cases_Bool}
-use Rattle.std.proofs.lemmas.Bool.Decides.{eqb_tells}
-use Rattle.std.proofs.lemmas.List.{length-map, length-set}
-use Rattle.std.proofs.lemmas.Option.{same_Some, none-some, slice_get-map, get_or_from_slice_get}
-use Rattle.dom_base.specs.declared.Owner.{Owner}
-use Rattle.dom_model.specs.Names.{name_eq}
-use Rattle.dom_model.specs.Tree.{Node}
-use Rattle.dom_model.specs.TreeChanges.{change_node}
-use Rattle.dom_tree.specs.Contents.{Stored}
-use Rattle.dom_tree.specs.Rows.{trees_of}
-use Rattle.dom_tree.specs.Forest.{NamedTrees, IsKept, stored_names, nodes_with, nodes_of, name_at, node_with, count_of}
-use Rattle.dom_model.proofs.OwnerLaws.{name_eq-same}
+use Rattle.dom_base.proofs.Std.{◌≡◌, ◌≢◌, ◌⊎◌, inl, inr, ℕ, zero, suc, ◌<◌, true, false, cond, eqb, List, [], ◌∷◌, length, set, Some, refl, sym, ap, subst, ◌∙◌}
+use Rattle.dom_base.proofs.Std.{arith, slice_get, option_map, cases_Bool, eqb_tells, length-map, length-set, same_Some, none-some, slice_get-map}
+use Rattle.dom_base.proofs.Std.{get_or_from_slice_get}
+use Rattle.dom_model.proofs.Model.{Owner, name_eq, Node, change_node, name_eq-same}
+use Rattle.dom_tree.specs.Definitions.{Stored, trees_of, NamedTrees, IsKept, stored_names, nodes_with, nodes_of, name_at, node_with, count_of}
 use Rattle.dom_tree.proofs.Rows.{same_name}
 use Rattle.dom_tree.proofs.Changes.{IsWhole, trees_of-map}
 use Rattle.dom_tree.proofs.Kept.{seen, IsWhole-kept, name_at-same}

@@ -1,21 +1,11 @@
 -- In the trees of a forest each name stands once, and the nodes of its keys stand there.
-use Rattle.std.proofs.Common.{◌≡◌, ◌⊎◌, inl, inr, ℕ, ◌<◌, ◌≤◌, true, false, not, eqb, List, length, Some, ap, subst, arith}
-use Rattle.std.specs.Prelude.{slice_get, count_by}
-use Rattle.std.proofs.lemmas.Bool.{cases_Bool, not-true, eq-eqb, both_ways}
-use Rattle.std.proofs.lemmas.Option.{slice_get_within, get_or_from_slice_get}
-use Rattle.dom_base.specs.declared.Owner.{Owner}
-use Rattle.dom_base.specs.declared.Owner.TheVariants.{Page}
-use Rattle.dom_base.specs.declared.NodeName.{NodeName}
-use Rattle.dom_model.specs.Names.{owner_eq, name_eq, node_of}
-use Rattle.dom_model.specs.Tree.{Trees, none, tree, Node, nodes, names_of, has_node, is_inclusive_ancestor, inclusive_ancestors, times_in}
-use Rattle.dom_laws.proofs.Lists.{is_in-from, In-from}
-use Rattle.dom_laws.proofs.Counts.{Once, times_in-tree, times_count}
-use Rattle.dom_laws.proofs.Shapes.{Has, has_or_not, times-absent, Has-above, below-from_above}
-use Rattle.dom_laws.proofs.Children.{In-names}
-use Rattle.dom_laws.proofs.Order.{IsWithin}
-use Rattle.dom_tree.specs.Apart.{TellApart}
-use Rattle.dom_tree.specs.Forest.{NamedTrees, name_at}
-use Rattle.dom_tree.specs.Owners.{trees_of_owner}
+use Rattle.dom_base.proofs.Std.{◌≡◌, ◌⊎◌, inl, inr, ℕ, ◌<◌, ◌≤◌, true, false, not, eqb, List, length, Some, ap, subst, arith, slice_get, count_by, cases_Bool}
+use Rattle.dom_base.proofs.Std.{not-true, eq-eqb, both_ways, slice_get_within, get_or_from_slice_get}
+use Rattle.dom_model.proofs.Model.{Owner, Page, NodeName, owner_eq, name_eq, node_of, Trees, none, tree, Node, nodes, names_of, has_node, is_inclusive_ancestor}
+use Rattle.dom_model.proofs.Model.{inclusive_ancestors, times_in}
+use Rattle.dom_laws.proofs.Laws.{is_in-from, In-from, Once, times_in-tree, times_count, Has, has_or_not, times-absent, Has-above, below-from_above, In-names}
+use Rattle.dom_laws.proofs.Laws.{IsWithin}
+use Rattle.dom_tree.specs.Definitions.{TellApart, NamedTrees, name_at, trees_of_owner}
 
 -- a key's name
 pub name_found : (names : List NodeName) (k : ℕ) (x : NodeName) → slice_get names k ≡ Some x → (k < length names) × (name_at names k ≡ x)

@@ -1,20 +1,13 @@
 -- What each step leaves above the nodes that it does not move.
-use Rattle.std.proofs.Common.{◌≡◌, ◌≢◌, inl, inr, ℕ, zero, suc, ◌<◌, ◌≤◌, true, false, ◌||◌, eqb, List, [], ◌∷◌, ◌++◌, map, length}
-use Rattle.std.proofs.Common.{Option, Some, None, refl, sym, ap, subst, ◌∙◌, arith}
-use Rattle.std.specs.Option.{option_map}
-use Rattle.std.proofs.lemmas.Bool.{eq-eqb, ne_eqb, eqb-true, eqb-false, or_cases, or_left, or_right, or_parts, false_from_ne_true}
-use Rattle.std.proofs.lemmas.Bool.Decides.{eqb_tells}
-use Rattle.std.proofs.lemmas.List.{length-map, get_or-set_same, get_or-set_other, get_or_append_left, map-append, length_push}
-use Rattle.dom_base.specs.declared.Owner.{Owner}
-use Rattle.dom_base.specs.declared.NodeName.{NodeName}
-use Rattle.dom_model.specs.Tree.{Trees, inclusive_ancestors, is_inclusive_ancestor, parent_of as parent_in, children_of as children_in}
+use Rattle.dom_base.proofs.Std.{◌≡◌, ◌≢◌, inl, inr, ℕ, zero, suc, ◌<◌, ◌≤◌, true, false, ◌||◌, eqb, List, [], ◌∷◌, ◌++◌, map, length, Option, Some, None, refl}
+use Rattle.dom_base.proofs.Std.{sym, ap, subst, ◌∙◌, arith, option_map, eq-eqb, ne_eqb, eqb-true, eqb-false, or_cases, or_left, or_right, or_parts}
+use Rattle.dom_base.proofs.Std.{false_from_ne_true, eqb_tells, length-map, get_or-set_same, get_or-set_other, get_or_append_left, map-append, length_push}
+use Rattle.dom_model.proofs.Model.{Owner, NodeName, Trees, inclusive_ancestors, is_inclusive_ancestor, parent_of as parent_in, children_of as children_in}
 use Rattle.node_arena.specs.Nodes.{Nodes, IsSound, IsForest, children_of, contains, parent_of, ancestors_of, without, insert_before}
 use Rattle.node_arena.proofs.Forests.{cases_Option, ancestors_of-child, ancestors_of-root, parent_of_same, parent_of_none, parent_of_is}
 use Rattle.node_arena.proofs.Forests.{children_of-without, children_of-push}
 use Rattle.node_arena.proofs.Lists.{contains-without_same, contains-without_other}
-use Rattle.dom_tree.specs.Contents.{Stored}
-use Rattle.dom_tree.specs.Rows.{trees_of}
-use Rattle.dom_tree.specs.Forest.{NamedTrees, IsKept, stored_names, nodes_of, name_at}
+use Rattle.dom_tree.specs.Definitions.{Stored, trees_of, NamedTrees, IsKept, stored_names, nodes_of, name_at}
 use Rattle.dom_tree.proofs.Rows.{name_of_key}
 use Rattle.dom_tree.proofs.Changes.{linked, contains-insert_before}
 use Rattle.dom_tree.proofs.Reading.{parent_in-at, children_in-at, inclusive_ancestors-at}

@@ -1,12 +1,7 @@
 -- A node that is stored anew and seen as before.
-use Rattle.std.proofs.Common.{◌≡◌, ℕ, Bool, true, false, cond, List, set, refl, ap, ◌∙◌}
-use Rattle.dom_base.specs.declared.Owner.{Owner}
-use Rattle.dom_base.specs.declared.NodeName.{NodeName}
-use Rattle.dom_model.specs.Names.{name_eq}
-use Rattle.dom_model.specs.Tree.{Trees, none, tree}
-use Rattle.dom_model.specs.TreeChanges.{change_node}
-use Rattle.dom_tree.specs.Contents.{Stored}
-use Rattle.dom_tree.specs.Forest.{NamedTrees, IsKept, name_at, node_with}
+use Rattle.dom_base.proofs.Std.{◌≡◌, ℕ, Bool, true, false, cond, List, set, refl, ap, ◌∙◌}
+use Rattle.dom_model.proofs.Model.{Owner, NodeName, name_eq, Trees, none, tree, change_node}
+use Rattle.dom_tree.specs.Definitions.{Stored, NamedTrees, IsKept, name_at, node_with}
 use Rattle.dom_tree.proofs.Kept.{seen}
 use Rattle.dom_tree.proofs.Setting.{IsStoredAnew, set_done}
 

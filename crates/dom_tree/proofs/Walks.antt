@@ -1,25 +1,18 @@
 -- Walks up a tree.
-use Rattle.std.proofs.Common.{◌≡◌, ◌⊎◌, inl, inr, ℕ, suc, ◌+◌, ◌-◌, ◌^◌, ◌<◌, ◌≤◌, true, false, eqb, List, [], ◌∷◌, map, length, Option, Some}
-use Rattle.std.proofs.Common.{None, refl, sym, ap, subst, ◌∙◌, arith, true≢false}
-use Rattle.std.specs.Prelude.{unwrap_or}
-use Rattle.std.specs.Option.{option_map, option_map_or, option_and_then, ForSome}
-use Rattle.std.proofs.lemmas.Bool.{eq-eqb, ne_eqb, eqb-true, cases_Bool, or_cases, or_right, or_parts, both_ways, false_from_ne_true}
-use Rattle.dom_base.specs.declared.Owner.{Owner}
-use Rattle.dom_base.specs.declared.NodeName.{NodeName}
-use Rattle.dom_model.specs.Names.{last_of, name_eq, items_before}
-use Rattle.dom_model.specs.Tree.{Node, root_of, is_inclusive_ancestor, index_of, children_of as children_in}
+use Rattle.dom_base.proofs.Std.{◌≡◌, ◌⊎◌, inl, inr, ℕ, suc, ◌+◌, ◌-◌, ◌^◌, ◌<◌, ◌≤◌, true, false, eqb, List, [], ◌∷◌, map, length, Option, Some, None, refl}
+use Rattle.dom_base.proofs.Std.{sym, ap, subst, ◌∙◌, arith, true≢false, unwrap_or, option_map, option_map_or, option_and_then, ForSome, eq-eqb, ne_eqb}
+use Rattle.dom_base.proofs.Std.{eqb-true, cases_Bool, or_cases, or_right, or_parts, both_ways, false_from_ne_true}
+use Rattle.dom_model.proofs.Model.{Owner, NodeName, last_of, name_eq, items_before, Node, root_of, is_inclusive_ancestor, index_of, children_of as children_in}
+use Rattle.dom_model.proofs.Model.{name_eq-same}
 use Rattle.node_arena.specs.Nodes.{Nodes, contains, parent_of, children_of, ancestors_of, IsForest, IsOnce, last_from, head_of, next_in, next_of}
 use Rattle.node_arena.specs.Nodes.{place_in, place_of}
 use Rattle.node_arena.proofs.Lists.{contains-head, length-IsOnce, contains-next_in}
 use Rattle.node_arena.proofs.Indexes.{place_in-within, place_of-root, place_of-child}
 use Rattle.node_arena.proofs.Forests.{cases_Option, contains-parent, parent_within, parent_of_is, ancestors_of-child, ancestors_of-root}
-use Rattle.dom_tree.specs.Contents.{Stored}
-use Rattle.dom_tree.specs.Rows.{trees_of}
-use Rattle.dom_tree.specs.Forest.{NamedTrees, IsKept, stored_names, nodes_of, name_at}
+use Rattle.dom_tree.specs.Definitions.{Stored, trees_of, NamedTrees, IsKept, stored_names, nodes_of, name_at}
 use Rattle.dom_tree.proofs.Rows.{name_of_key}
 use Rattle.dom_tree.proofs.Changes.{IsWhole}
 use Rattle.dom_tree.proofs.Reading.{inclusive_ancestors-at, last_or-map, Tells, tells-children, siblings-root, siblings-child, children_in-at}
-use Rattle.dom_model.proofs.OwnerLaws.{name_eq-same}
 use Rattle.dom_tree.proofs.Kept.{seen, IsWhole-kept, name_at-same, above-at, within}
 
 -- the topmost of a node and those above it

@@ -1,22 +1,13 @@
 -- The nodes in the tree of a node are those that it is above.
-use Rattle.std.proofs.Common.{◌≡◌, inl, inr, ℕ, zero, suc, ◌<◌, ◌≤◌, true, false, eqb, List, [], ◌∷◌, length, Option, Some, None, sym, ap, subst, ◌∙◌}
-use Rattle.std.proofs.Common.{arith, true≢false}
-use Rattle.std.specs.Prelude.{slice_get}
-use Rattle.std.specs.Option.{option_map, ForSome}
-use Rattle.std.specs.List.{last_or}
-use Rattle.std.proofs.lemmas.Bool.{eqb-true, or_cases, or_left, or_right, cases_Bool, false_from_ne_true, both_ways}
-use Rattle.std.proofs.lemmas.Option.{same_Some, none-some}
-use Rattle.dom_base.specs.declared.Owner.{Owner}
-use Rattle.dom_base.specs.declared.NodeName.{NodeName}
-use Rattle.dom_model.specs.Names.{name_eq, is_in, first_of, last_of, items_after, items_before}
-use Rattle.dom_model.specs.Tree.{Trees, none, tree, Node, subtree, inclusive_descendants, is_inclusive_ancestor}
-use Rattle.dom_model.proofs.OwnerLaws.{name_eq-same}
+use Rattle.dom_base.proofs.Std.{◌≡◌, inl, inr, ℕ, zero, suc, ◌<◌, ◌≤◌, true, false, eqb, List, [], ◌∷◌, length, Option, Some, None, sym, ap, subst, ◌∙◌, arith}
+use Rattle.dom_base.proofs.Std.{true≢false, slice_get, option_map, ForSome, last_or, eqb-true, or_cases, or_left, or_right, cases_Bool, false_from_ne_true}
+use Rattle.dom_base.proofs.Std.{both_ways, same_Some, none-some}
+use Rattle.dom_model.proofs.Model.{Owner, NodeName, name_eq, is_in, first_of, last_of, items_after, items_before, Trees, none, tree, Node, subtree}
+use Rattle.dom_model.proofs.Model.{inclusive_descendants, is_inclusive_ancestor, name_eq-same}
 use Rattle.node_arena.specs.Nodes.{children_of, contains, parent_of, ancestors_of}
 use Rattle.node_arena.proofs.Forests.{cases_Option, contains-parent, parent_within, ancestors_of-child, ancestors_of-root}
 use Rattle.node_arena.proofs.Lists.{contains-head}
-use Rattle.dom_tree.specs.Contents.{Stored}
-use Rattle.dom_tree.specs.Rows.{trees_of}
-use Rattle.dom_tree.specs.Forest.{NamedTrees, IsKept, stored_names, name_at}
+use Rattle.dom_tree.specs.Definitions.{Stored, trees_of, NamedTrees, IsKept, stored_names, name_at}
 use Rattle.dom_tree.proofs.Rows.{Stands, same_name, name_of_key}
 use Rattle.dom_tree.proofs.Reach.{reaches, has_node-reaches, reaches-root, reaches-child}
 use Rattle.dom_tree.proofs.Changes.{IsWhole, node_here, subtree_here, above_up}

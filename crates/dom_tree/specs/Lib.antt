@@ -7,3 +7,4 @@ pub mod Owners
 pub mod Apart
 pub mod EachNode
 pub mod Within
+pub mod Definitions

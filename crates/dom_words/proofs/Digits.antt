@@ -1,14 +1,7 @@
 -- Reading digits one after the other.
-use Rattle.std.proofs.Common.{◌≡◌, ℕ, ◌+◌, ◌-◌, ◌*◌, ◌^◌, ◌<◌, ◌≤◌, true, false, List}
-use Rattle.std.proofs.Common.{length, get_or, drop, refl, sym, ap, ◌∙◌, arith, add-one, one-add}
-use Rattle.std.proofs.Math.ListN.{drop_of_length-le}
-use Rattle.std.proofs.Math.Nat.{pow-le-pow_right}
-use Rattle.std.proofs.Math.Seq.{drop-cons}
-use Rattle.std.proofs.lemmas.Bool.Decides.{nat_tests}
-use Rattle.std.proofs.lemmas.Grind.{pow_more}
-use Rattle.std.specs.List.{prefix_len, take_while}
-use Rattle.std.specs.Char.{digit_value, is_ascii_digit}
-use Rattle.std.specs.Str.Parse.{digits_value_after}
+use Rattle.dom_base.proofs.Std.{◌≡◌, ℕ, ◌+◌, ◌-◌, ◌*◌, ◌^◌, ◌<◌, ◌≤◌, true, false, List, length, get_or, drop, refl, sym, ap, ◌∙◌, arith, add-one, one-add}
+use Rattle.dom_base.proofs.Std.{drop_of_length-le, pow-le-pow_right, drop-cons, nat_tests, pow_more, prefix_len, take_while, digit_value, is_ascii_digit}
+use Rattle.dom_base.proofs.Std.{digits_value_after}
 
 -- the number with the digits in front of the bytes behind its own
 abbrev pub read_on : ℕ → List ℕ → ℕ

@@ -1,19 +1,9 @@
 -- Numbers read from the front of bytes, up to the end of the word.
-use Rattle.std.proofs.Common.{◌≡◌, ℕ, ◌+◌, ◌-◌, ◌≤◌, Bool, true, false, List, [], ◌∷◌, ◌++◌, length, get_or, take}
-use Rattle.std.proofs.Common.{drop, min, Option, Some, None, inr, refl, sym, ap, ◌∙◌, arith, one-add}
-use Rattle.std.proofs.Math.Nat.{min_comm}
-use Rattle.std.proofs.Math.Seq.{drop-cons}
-use Rattle.std.proofs.lemmas.Bool.{and_from, ne_eqb, eq-eqb, le-leb}
-use Rattle.std.proofs.lemmas.Bool.Decides.{nat_tests}
-use Rattle.std.proofs.lemmas.List.{take-append-drop, take-take, take_min, take_rest, length-take}
-use Rattle.std.proofs.lemmas.List.Sums.{prefix_len-le-length}
-use Rattle.std.specs.Prelude.{nat_le, ◌==◌, ◌&&◌, IfSome}
-use Rattle.std.specs.Borrow.{Bor}
-use Rattle.std.specs.List.{list_all, prefix_len, take_while}
-use Rattle.std.specs.Int.{is_in_range}
-use Rattle.std.specs.Char.{digit_value, is_ascii_digit, is_ascii_graphic}
-use Rattle.std.specs.Str.Parse.{digits_value_after}
-use Rattle.dom_text.specs.Readers.{is_positive, positive_of, number_of, numbered, next_as}
+use Rattle.dom_base.proofs.Std.{◌≡◌, ℕ, ◌+◌, ◌-◌, ◌≤◌, Bool, true, false, List, [], ◌∷◌, ◌++◌, length, get_or, take, drop, min, Option, Some, None, inr, refl}
+use Rattle.dom_base.proofs.Std.{sym, ap, ◌∙◌, arith, one-add, min_comm, drop-cons, and_from, ne_eqb, eq-eqb, le-leb, nat_tests, take-append-drop, take-take}
+use Rattle.dom_base.proofs.Std.{take_min, take_rest, length-take, prefix_len-le-length, nat_le, ◌==◌, ◌&&◌, IfSome, Bor, list_all, prefix_len, take_while}
+use Rattle.dom_base.proofs.Std.{is_in_range, digit_value, is_ascii_digit, is_ascii_graphic, digits_value_after}
+use Rattle.dom_text.specs.Definitions.{is_positive, positive_of, number_of, numbered, next_as}
 use Rattle.dom_text.proofs.NumberLaws.{number_complete, positive_of_sound}
 use Rattle.dom_text.proofs.WordLaws.{Passes, Stops, run_complete, each_from, list_all_each}
 use Rattle.dom_words.proofs.Texts.{all_of_run}

@@ -1,11 +1,6 @@
 -- Words are ASCII, and so texts.
-use Rattle.std.proofs.Common.{◌≡◌, ℕ, zero, suc, ◌<◌, ◌≤◌, Bool, true, List, [], ◌∷◌, get_or, arith}
-use Rattle.std.specs.Prelude.{take_while}
-use Rattle.std.specs.List.{list_all}
-use Rattle.std.specs.Char.{is_ascii_graphic}
-use Rattle.std.specs.Str.{IsAscii, IsUtf8}
-use Rattle.std.proofs.lemmas.Bool.{and_parts}
-use Rattle.std.proofs.lemmas.Str.{IsUtf8-from_ascii}
+use Rattle.dom_base.proofs.Std.{◌≡◌, ℕ, zero, suc, ◌<◌, ◌≤◌, Bool, true, List, [], ◌∷◌, get_or, arith, take_while, list_all, is_ascii_graphic, IsAscii, IsUtf8}
+use Rattle.dom_base.proofs.Std.{and_parts, IsUtf8-from_ascii}
 use Rattle.dom_text.proofs.WordLaws.{run, run_sound, in_range_is, each_list_all}
 
 -- each byte of a run passes its test

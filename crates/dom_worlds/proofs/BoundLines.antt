@@ -1,28 +1,11 @@
 -- Commands and lines keep the ends of ranges within their nodes.
-use Rattle.std.proofs.Common.{◌≡◌, ℕ, ◌+◌, Bool, true, false, not, ◌&&◌, List, [], ◌∷◌, filter, drop, Option, Some, None, option_map, refl, sym, arith, subst}
-use Rattle.std.specs.Prelude.{⊤}
-use Rattle.std.specs.List.{AllByRecursion}
-use Rattle.std.specs.Option.{option_map_or}
-use Rattle.std.proofs.lemmas.Bool.{and_parts, not-false, ltb-false}
-use Rattle.dom_base.specs.declared.NodeName.{NodeName}
-use Rattle.dom_base.specs.declared.Refusal.TheVariants.{Hierarchy, IndexSize}
-use Rattle.dom_model.specs.Changes.{observed}
-use Rattle.dom_model.specs.Command.{Command, part_refusal, effect}
-use Rattle.dom_model.specs.CommandNames.{named}
-use Rattle.dom_model.specs.CommandRefusals.{past_end}
-use Rattle.dom_model.specs.Effects.{Effect, tables, changes, answers, sets_walker, with_range, collapsed_to}
-use Rattle.dom_model.specs.Extract.{both_at}
-use Rattle.dom_model.specs.Names.{name_eq}
-use Rattle.dom_model.specs.Output.{Value, nothing}
-use Rattle.dom_model.specs.Part.{Part, first_node, range_at}
-use Rattle.dom_model.specs.Place.{Boundary, same_root, is_before}
-use Rattle.dom_model.specs.Ranges.{Range, at, from_to, with_start, with_end}
-use Rattle.dom_model.specs.Steps.{after}
-use Rattle.dom_model.specs.Traversal.{Walker}
-use Rattle.dom_model.specs.Tree.{Trees, Node, kind_of, has_data, is_text, child_nodes, length_of}
-use Rattle.dom_model.specs.Validity.{first_refusal, has_parent, may_be_parent, placing_tests, pre_insert_refusal, replace_refusal}
-use Rattle.dom_model.proofs.KindLaws.{parent-open}
-use Rattle.dom_worlds.specs.Worlds.{IsPart}
+use Rattle.dom_base.proofs.Std.{◌≡◌, ℕ, ◌+◌, Bool, true, false, not, ◌&&◌, List, [], ◌∷◌, filter, drop, Option, Some, None, option_map, refl, sym, arith, subst}
+use Rattle.dom_base.proofs.Std.{⊤, AllByRecursion, option_map_or, and_parts, not-false, ltb-false}
+use Rattle.dom_model.proofs.Model.{NodeName, Hierarchy, IndexSize, observed, Command, part_refusal, effect, named, past_end, Effect, tables, changes, answers}
+use Rattle.dom_model.proofs.Model.{sets_walker, with_range, collapsed_to, both_at, name_eq, Value, nothing, Part, first_node, range_at, Boundary, same_root}
+use Rattle.dom_model.proofs.Model.{is_before, Range, at, from_to, with_start, with_end, after, Walker, Trees, Node, kind_of, has_data, is_text, child_nodes}
+use Rattle.dom_model.proofs.Model.{length_of, first_refusal, has_parent, may_be_parent, placing_tests, pre_insert_refusal, replace_refusal, parent-open}
+use Rattle.dom_worlds.specs.Definitions.{IsPart}
 use Rattle.dom_worlds.proofs.Effects.{next-test, part-accepted, some-effect}
 use Rattle.dom_worlds.proofs.Bounds.{Under, RangeUnder, reach, nowhere, HasRoom, room-make}
 use Rattle.dom_worlds.proofs.Lists.{all-append, all-set, either_way, at-each}

@@ -1,44 +1,19 @@
 -- Both ends of a live range have one root, and every line keeps the ends within their nodes; worlds on the way through the end of a turn.
-use Rattle.std.proofs.Common.{Some, subst, false, [], Option, None, ◌≡◌, ◌≢◌, ℕ, Bool, List, ◌∷◌, ◌++◌, length, refl, sym, ◌∙◌, arith}
-use Rattle.std.specs.Prelude.{map}
-use Rattle.dom_model.specs.Command.{Line, EventWords, Command, part_refusal, effect}
-use Rattle.dom_model.specs.DocumentMachine.{first_world, step, run_lines, finish, part_with_root, effect_in, attaching}
-use Rattle.dom_model.specs.Part.{Part, range_at}
-use Rattle.dom_model.specs.Turns.{ending_other_turn, without_signals, notified, ending_turn}
-use Rattle.dom_model.specs.World.{World, part_of, with_part, component_made, components_below, shadow_root_of}
-use Rattle.dom_worlds.specs.Tables.{EndsIn, HasTables, IsWhole}
-use Rattle.dom_worlds.specs.Wholes.{HasOneRoots, RangesHaveOneRoot}
+use Rattle.dom_base.proofs.Std.{Some, subst, false, [], Option, None, ◌≡◌, ◌≢◌, ℕ, Bool, List, ◌∷◌, ◌++◌, length, refl, sym, ◌∙◌, arith, map}
+use Rattle.dom_model.proofs.Model.{Line, EventWords, Command, part_refusal, effect, first_world, step, run_lines, finish, part_with_root, effect_in, attaching}
+use Rattle.dom_model.proofs.Model.{Part, range_at, ending_other_turn, without_signals, notified, ending_turn, World, part_of, with_part, component_made}
+use Rattle.dom_model.proofs.Model.{components_below, shadow_root_of, Owner, NodeName, dispatch_in, world_visit, visits_of, Kind, Document, Shadow, Page}
+use Rattle.dom_model.proofs.Model.{Component, named, Effect, tables, changes, Visit, Dispatching, begun, after_invoke, name_eq, max_depth, views, extracting}
+use Rattle.dom_model.proofs.Model.{deleting, insertion_parent, start_reference, cannot_take_node, inserting_into_range, Range, signals, with_signal, Step}
+use Rattle.dom_model.proofs.Model.{set_document, part_step, after, node_in, pre_insert_refusal, world_step, world_after, stepped, with_shadow_document}
+use Rattle.dom_model.proofs.Model.{owner_eq-true, owner_eq-false, owner-part_of, owner-part_step, part_of-stepped-other}
+use Rattle.dom_worlds.specs.Definitions.{EndsIn, HasTables, IsWhole, HasOneRoots, RangesHaveOneRoot, IsReached, IsThere, IsPart, IsBounded, StepKeepsBounds}
+use Rattle.dom_worlds.specs.Definitions.{FirstHas, StepLeaves, EndingLeaves, FinishLeaves, ScriptsLeave}
 use Rattle.dom_worlds.proofs.PlanRoots.{ends-at}
 use Rattle.dom_worlds.proofs.TableLines.{first-is_whole, step-keeps_whole, ending-keeps_whole, finish-keeps_whole, scripts-stay_whole, IsFramed, framed-keeps}
 use Rattle.dom_worlds.proofs.TableLines.{framed-of, visits-keep, whole-framed}
-use Rattle.dom_base.specs.declared.Owner.{Owner}
-use Rattle.dom_base.specs.declared.NodeName.{NodeName}
-use Rattle.dom_model.specs.Dispatch.{dispatch_in, world_visit, visits_of}
-use Rattle.dom_worlds.specs.Reached.{IsReached}
-use Rattle.dom_worlds.specs.Worlds.{IsThere, IsPart}
 use Rattle.dom_worlds.proofs.Turns.{at_end, told_in}
 use Rattle.dom_worlds.proofs.Reached.{reached-of, first-is_reached, IsSound, sound-keeps, sound-of}
-use Rattle.dom_base.specs.declared.Kind.{Kind}
-use Rattle.dom_base.specs.declared.Kind.TheVariants.{Document, Shadow}
-use Rattle.dom_base.specs.declared.Owner.TheVariants.{Page, Component}
-use Rattle.dom_model.specs.CommandNames.{named}
-use Rattle.dom_model.specs.Effects.{Effect, tables, changes}
-use Rattle.dom_model.specs.Listeners.{Visit, Dispatching, begun, after_invoke}
-use Rattle.dom_model.specs.Names.{name_eq, max_depth}
-use Rattle.dom_model.specs.Paths.{views}
-use Rattle.dom_model.specs.Extract.{extracting}
-use Rattle.dom_model.specs.RangeOps.{deleting, insertion_parent, start_reference, cannot_take_node, inserting_into_range}
-use Rattle.dom_model.specs.Ranges.{Range}
-use Rattle.dom_model.specs.Slots.{signals, with_signal}
-use Rattle.dom_model.specs.Steps.{Step, set_document, part_step, after}
-use Rattle.dom_model.specs.Tree.{node_in}
-use Rattle.dom_model.specs.Validity.{pre_insert_refusal}
-use Rattle.dom_model.specs.WorldSteps.{world_step, world_after, stepped, with_shadow_document}
-use Rattle.dom_model.proofs.OwnerLaws.{owner_eq-true, owner_eq-false}
-use Rattle.dom_model.proofs.PartLaws.{owner-part_of}
-use Rattle.dom_model.proofs.StepLaws.{owner-part_step, part_of-stepped-other}
-use Rattle.dom_worlds.specs.Bounds.{IsBounded, StepKeepsBounds}
-use Rattle.dom_worlds.specs.Keeping.{FirstHas, StepLeaves, EndingLeaves, FinishLeaves, ScriptsLeave}
 use Rattle.dom_worlds.proofs.Effects.{part-accepted, KeepsBase, base-effect, range-steps}
 use Rattle.dom_worlds.proofs.BoundLines.{Roomy, ForRanges, room-effect, room-same, under-at, insertion-open}
 use Rattle.dom_worlds.proofs.Bounds.{RangeUnder, reach, nowhere, HasRoom, room-document}

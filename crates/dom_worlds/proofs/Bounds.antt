@@ -1,23 +1,14 @@
 -- Steps keep the ends of ranges within their nodes, up to a given room that nodes are about to get.
-use Rattle.std.proofs.Common.{suc, ◌≡◌, ◌≤◌, ℕ, ◌+◌, ◌-◌, Bool, true, false, not, ◌&&◌, ◌||◌, List, ◌++◌, map, length, take, drop, Option, Some, None}
-use Rattle.std.proofs.Common.{option_map, refl, sym, ap, ◌∙◌, arith, true≢false, subst, length-append, length-take, length-drop}
-use Rattle.std.specs.Prelude.{if◌then◌else◌, ⊤, nat_lt, nat_le, min}
-use Rattle.std.specs.List.{AllByRecursion}
-use Rattle.std.specs.Option.{option_map_or}
-use Rattle.std.proofs.lemmas.Bool.{cond-true, cond-false, and_parts, or_parts, not-false, ltb-false, leb-true, leb-false}
-use Rattle.dom_base.specs.declared.NodeName.{NodeName}
-use Rattle.dom_model.specs.Tree.{times_in, Trees, Node, node_in, no_node, kind_of, has_data, parent_of, index_of, length_of, inclusive_descendants}
-use Rattle.dom_model.specs.Tree.{is_inclusive_ancestor}
-use Rattle.dom_model.specs.Names.{Word, DomString, name_eq, is_in}
-use Rattle.dom_model.specs.TreeChanges.{map_nodes, replaced, taken_out, placed, with_name, with_document, with_data_replaced, with_attribute}
-use Rattle.dom_model.specs.Place.{Boundary}
-use Rattle.dom_model.specs.Ranges.{Range, at, map_ends, boundary_eq, after_insert, after_removal, after_replace_data, after_split, after_join}
-use Rattle.dom_model.specs.Output.{Change}
-use Rattle.dom_model.specs.Part.{Part, next_name}
-use Rattle.dom_model.specs.Steps.{make, make_room, place, take_out, set_document, set_attribute, replace_data, split_at, join_at, set_range, queue_record}
-use Rattle.dom_model.specs.Steps.{part_step, leave}
-use Rattle.dom_model.proofs.OwnerLaws.{name_eq-true, name_eq-turned}
-use Rattle.dom_worlds.specs.Worlds.{IsPart}
+use Rattle.dom_base.proofs.Std.{suc, ◌≡◌, ◌≤◌, ℕ, ◌+◌, ◌-◌, Bool, true, false, not, ◌&&◌, ◌||◌, List, ◌++◌, map, length, take, drop, Option, Some, None}
+use Rattle.dom_base.proofs.Std.{option_map, refl, sym, ap, ◌∙◌, arith, true≢false, subst, length-append, length-take, length-drop, if◌then◌else◌, ⊤, nat_lt}
+use Rattle.dom_base.proofs.Std.{nat_le, min, AllByRecursion, option_map_or, cond-true, cond-false, and_parts, or_parts, not-false, ltb-false, leb-true}
+use Rattle.dom_base.proofs.Std.{leb-false}
+use Rattle.dom_model.proofs.Model.{NodeName, times_in, Trees, Node, node_in, no_node, kind_of, has_data, parent_of, index_of, length_of, inclusive_descendants}
+use Rattle.dom_model.proofs.Model.{is_inclusive_ancestor, Word, DomString, name_eq, is_in, map_nodes, replaced, taken_out, placed, with_name, with_document}
+use Rattle.dom_model.proofs.Model.{with_data_replaced, with_attribute, Boundary, Range, at, map_ends, boundary_eq, after_insert, after_removal}
+use Rattle.dom_model.proofs.Model.{after_replace_data, after_split, after_join, Change, Part, next_name, make, make_room, place, take_out, set_document}
+use Rattle.dom_model.proofs.Model.{set_attribute, replace_data, split_at, join_at, set_range, queue_record, part_step, leave, name_eq-true, name_eq-turned}
+use Rattle.dom_worlds.specs.Definitions.{IsPart}
 use Rattle.dom_worlds.proofs.Insides.{CanPlace, unique-taken_out}
 use Rattle.dom_worlds.proofs.ChildCounts.{kids, kids-absent, one_at, kids-taken_out, kids-placed, kids-with_node, kids-map_nodes, index-below}
 use Rattle.dom_worlds.proofs.Roots.{node-taken_out, node-placed, node-with_node, node-map_nodes, length-data, length-kids, length-absent}
@@ -26,7 +17,7 @@ use Rattle.dom_worlds.proofs.PartSteps.{KeepsNames, some-keeps, attribute-keeps,
 use Rattle.dom_worlds.proofs.PlanTexts.{next-not}
 use Rattle.dom_worlds.proofs.ShadowRoots.{found-absent}
 use Rattle.dom_worlds.proofs.TableSteps.{HasNode}
-use Rattle.dom_laws.proofs.Counts.{Once, by_times}
+use Rattle.dom_laws.proofs.Laws.{Once, by_times}
 use Rattle.dom_worlds.proofs.TreeChangeLaws.{HasRoot}
 
 -- A boundary is not past what is allowed at its node.

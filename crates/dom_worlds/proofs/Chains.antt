@@ -1,27 +1,18 @@
 -- The chain of hosts around a node: it ends, and what is hidden from a node goes by it.
-use Rattle.std.proofs.Common.{◌≡◌, ◌≢◌, ℕ, zero, suc, ◌≤◌, ◌<◌, Bool, true, false, not, ◌&&◌, ◌||◌, List, [], ◌∷◌, ◌++◌, map, flat_map, Option, Some, None}
-use Rattle.std.proofs.Common.{unwrap_or, refl, sym, ap, ◌∙◌, arith, true≢false, subst, append-nil, find}
-use Rattle.std.specs.Prelude.{IsTrue, is_some, option_to_list, if◌then◌else◌}
-use Rattle.std.specs.List.{AllByRecursion, last_or}
-use Rattle.std.specs.Option.{option_and_then, option_map_or}
-use Rattle.dom_base.specs.declared.Owner.{Owner}
-use Rattle.dom_base.specs.declared.NodeName.{NodeName}
-use Rattle.dom_model.specs.Names.{name_eq, owner_eq, owner_depth, is_in}
-use Rattle.dom_model.specs.Tree.{names_of, roots, root_of, times_in}
-use Rattle.dom_model.specs.World.{World, part_of, trees_with, root_at, ancestors_at, host_of, host_above, host_chain, hosts_from, some_if, shadow_root_of}
-use Rattle.dom_model.specs.World.{shadow_including_ancestors, is_in_shadow_tree}
-use Rattle.dom_model.specs.Paths.{is_hidden_from, retarget}
-use Rattle.dom_model.proofs.OwnerLaws.{owner_eq-true, owner_eq-same, ne-owner_eq, name_eq-same, made_by-is, depth-made, name_eq-true}
-use Rattle.dom_worlds.specs.Worlds.{IsWorld, IsOf}
+use Rattle.dom_base.proofs.Std.{◌≡◌, ◌≢◌, ℕ, zero, suc, ◌≤◌, ◌<◌, Bool, true, false, not, ◌&&◌, ◌||◌, List, [], ◌∷◌, ◌++◌, map, flat_map, Option, Some, None}
+use Rattle.dom_base.proofs.Std.{unwrap_or, refl, sym, ap, ◌∙◌, arith, true≢false, subst, append-nil, find, IsTrue, is_some, option_to_list, if◌then◌else◌}
+use Rattle.dom_base.proofs.Std.{AllByRecursion, last_or, option_and_then, option_map_or, cond-true, cond-false}
+use Rattle.dom_model.proofs.Model.{Owner, NodeName, name_eq, owner_eq, owner_depth, is_in, names_of, roots, root_of, times_in, World, part_of, trees_with}
+use Rattle.dom_model.proofs.Model.{root_at, ancestors_at, host_of, host_above, host_chain, hosts_from, some_if, shadow_root_of, shadow_including_ancestors}
+use Rattle.dom_model.proofs.Model.{is_in_shadow_tree, is_hidden_from, retarget, owner_eq-true, owner_eq-same, ne-owner_eq, name_eq-same, made_by-is, depth-made}
+use Rattle.dom_model.proofs.Model.{name_eq-true}
+use Rattle.dom_worlds.specs.Definitions.{IsWorld, IsOf, is_within, HiddenByRoots, RetargetedByRoots}
 use Rattle.dom_worlds.proofs.ShadowTrees.{IsInTree, in_tree, ancestors-owned, not_in}
 use Rattle.dom_worlds.proofs.Lists.{all-then, by_cases, by_some_is}
 use Rattle.dom_worlds.proofs.Owners.{hosted, hosted-owned, hosted-no_page}
 use Rattle.dom_worlds.proofs.Reached.{root-alone}
 use Rattle.dom_worlds.proofs.Trees.{ancestors-root, root-there, ancestors-present, all-in, last_from, last-is, last-in}
-use Rattle.dom_laws.proofs.Counts.{by_times}
-use Rattle.dom_laws.proofs.Paths.{path_none}
-use Rattle.std.proofs.lemmas.Bool.{cond-true, cond-false}
-use Rattle.dom_worlds.specs.Sights.{is_within, HiddenByRoots, RetargetedByRoots}
+use Rattle.dom_laws.proofs.Laws.{by_times, path_none}
 
 -- the last of an owner's nodes is the owner's
 last-owned : (x : NodeName) (d : Option NodeName) (xs : List NodeName) → (unwrap_or d x).owner ≡ x.owner → AllByRecursion (IsOf x.owner) xs →

@@ -1,21 +1,14 @@
 -- How many children nodes have, and what the elementary changes do to that and to the nodes themselves.
-use Rattle.std.proofs.Common.{◌≡◌, ℕ, ◌+◌, ◌≤◌, ◌<◌, true, false, List, [], ◌∷◌, ◌++◌, length, Option, Some, None, refl, sym, ap, ◌∙◌, arith, true≢false, subst}
-use Rattle.std.proofs.Common.{drop}
-use Rattle.std.specs.Prelude.{if◌then◌else◌}
-use Rattle.std.specs.Option.{option_map_or}
-use Rattle.std.proofs.lemmas.Bool.{cond-true, cond-false}
-use Rattle.dom_base.specs.declared.NodeName.{NodeName}
-use Rattle.dom_model.specs.Names.{name_eq, is_in, items_before, first_of}
-use Rattle.dom_model.specs.Tree.{Trees, none, tree, Node, names_of, roots, subtree, or_else, trees_below, children_of, parent_of, index_of, times_in}
-use Rattle.dom_model.specs.Tree.{inclusive_ancestors, on_top}
-use Rattle.dom_model.specs.TreeChanges.{without, put_below, put_root, taken_out, placed, with_node, map_nodes}
-use Rattle.dom_model.proofs.OwnerLaws.{name_eq-same, name_eq-turned}
+use Rattle.dom_base.proofs.Std.{◌≡◌, ℕ, ◌+◌, ◌≤◌, ◌<◌, true, false, List, [], ◌∷◌, ◌++◌, length, Option, Some, None, refl, sym, ap, ◌∙◌, arith, true≢false}
+use Rattle.dom_base.proofs.Std.{subst, drop, if◌then◌else◌, option_map_or, cond-true, cond-false}
+use Rattle.dom_model.proofs.Model.{NodeName, name_eq, is_in, items_before, first_of, Trees, none, tree, Node, names_of, roots, subtree, or_else, trees_below}
+use Rattle.dom_model.proofs.Model.{children_of, parent_of, index_of, times_in, inclusive_ancestors, on_top, without, put_below, put_root, taken_out, placed}
+use Rattle.dom_model.proofs.Model.{with_node, map_nodes, name_eq-same, name_eq-turned}
 use Rattle.dom_worlds.proofs.Insides.{CanPlace, times-inside, times-parted, without-absent, or_else-none}
 use Rattle.dom_worlds.proofs.InsideAncestors.{parent-there, no_parent-root}
 use Rattle.dom_worlds.proofs.Lists.{by_cases, or-later}
 use Rattle.dom_worlds.proofs.TreeChangeLaws.{HasRoot, without-here, without-elsewhere, subtree-here, subtree-elsewhere, IsNodeSum, sum-put_below_name}
-use Rattle.dom_laws.proofs.Counts.{once_parts, Once, by_times, times-here, times-elsewhere, times-more}
-use Rattle.dom_laws.proofs.Paths.{subtree_gone, path_none}
+use Rattle.dom_laws.proofs.Laws.{once_parts, Once, by_times, times-here, times-elsewhere, times-more, subtree_gone, path_none}
 use Rattle.dom_worlds.proofs.Trees.{root-there, ancestors-present, IsSum, sum-put_root}
 
 -- how many roots there are

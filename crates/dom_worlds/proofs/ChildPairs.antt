@@ -1,23 +1,17 @@
 -- Which node is a child of which, counted, through the elementary changes.
-use Rattle.std.proofs.Common.{◌≡◌, ℕ, ◌+◌, ◌≤◌, true, false, List, [], ◌∷◌, ◌++◌, length, Option, Some, refl, sym, ap, ◌∙◌, arith, true≢false, subst, drop}
-use Rattle.std.specs.Prelude.{if◌then◌else◌}
-use Rattle.std.specs.List.{AllByRecursion}
-use Rattle.std.proofs.lemmas.Bool.{cond-true, cond-false}
-use Rattle.dom_base.specs.declared.NodeName.{NodeName}
-use Rattle.dom_model.specs.Tree.{times_in, Trees, none, tree, Node, names_of, roots, subtree, or_else, trees_below, children_of, parent_of, inclusive_ancestors}
-use Rattle.dom_model.specs.Tree.{on_top}
-use Rattle.dom_model.specs.Names.{name_eq, is_in, first_of}
-use Rattle.dom_model.specs.TreeChanges.{without, put_below, put_root, taken_out, placed, with_node, map_nodes}
-use Rattle.dom_model.proofs.OwnerLaws.{name_eq-same, name_eq-turned, name_eq-true}
-use Rattle.dom_worlds.specs.Worlds.{times_among}
+use Rattle.dom_base.proofs.Std.{◌≡◌, ℕ, ◌+◌, ◌≤◌, true, false, List, [], ◌∷◌, ◌++◌, length, Option, Some, refl, sym, ap, ◌∙◌, arith, true≢false, subst, drop}
+use Rattle.dom_base.proofs.Std.{if◌then◌else◌, AllByRecursion, cond-true, cond-false}
+use Rattle.dom_model.proofs.Model.{NodeName, times_in, Trees, none, tree, Node, names_of, roots, subtree, or_else, trees_below, children_of, parent_of}
+use Rattle.dom_model.proofs.Model.{inclusive_ancestors, on_top, name_eq, is_in, first_of, without, put_below, put_root, taken_out, placed, with_node, map_nodes}
+use Rattle.dom_model.proofs.Model.{name_eq-same, name_eq-turned, name_eq-true}
+use Rattle.dom_worlds.specs.Definitions.{times_among}
 use Rattle.dom_worlds.proofs.Insides.{CanPlace, times-inside, times-parted, without-absent, or_else-none}
 use Rattle.dom_worlds.proofs.ChildCounts.{rooted, kids}
 use Rattle.dom_worlds.proofs.Reached.{root-alone}
 use Rattle.dom_worlds.proofs.Lists.{all-then, by_cases, or-later}
 use Rattle.dom_worlds.proofs.TreeChangeLaws.{HasRoot, root-first, root-second, without-here, without-elsewhere, subtree-here, subtree-elsewhere, put_below-here}
 use Rattle.dom_worlds.proofs.TreeChangeLaws.{IsNodeSum, sum-put_below_name, put_below-elsewhere}
-use Rattle.dom_laws.proofs.Counts.{Once, by_times, times-here, times-elsewhere, once_parts}
-use Rattle.dom_laws.proofs.Paths.{subtree_gone, path_none}
+use Rattle.dom_laws.proofs.Laws.{Once, by_times, times-here, times-elsewhere, once_parts, subtree_gone, path_none}
 use Rattle.dom_worlds.proofs.Trees.{ancestors-present, IsSum, sum-put_root}
 
 -- how often a name is a root's

@@ -1,18 +1,11 @@
 -- What the start of a range does not come before: its start node with the first children, or a node above it with those up to
 -- the one that holds the start.
-use Rattle.std.proofs.Common.{zero, suc, ◌≡◌, ◌≤◌, ◌<◌, ℕ, ◌+◌, ◌*◌, Bool, true, false, ◌&&◌, ◌||◌, eqb, List, [], ◌∷◌, ◌++◌, map, take, Some, None, option_map}
-use Rattle.std.proofs.Common.{unwrap_or, refl, sym, ap, ◌∙◌, arith, true≢false, subst}
-use Rattle.std.specs.Prelude.{nat_lt, ◌==◌}
-use Rattle.std.specs.List.{AllByRecursion}
-use Rattle.std.specs.Option.{option_or}
-use Rattle.std.proofs.lemmas.Bool.{cond-true, cond-false, ltb-true, eqb-true, false_from_ne_true, eq-eqb}
-use Rattle.dom_base.specs.declared.NodeName.{NodeName}
-use Rattle.dom_model.specs.Tree.{times_in, Trees, none, tree, Node, names_of, roots, subtree, or_else, trees_below, children_of, parent_of}
-use Rattle.dom_model.specs.Tree.{is_inclusive_ancestor}
-use Rattle.dom_model.specs.Names.{name_eq, is_in, items_before}
-use Rattle.dom_model.specs.Place.{place_from, list_before, boundary_place, is_before}
-use Rattle.dom_model.specs.Ranges.{Range, at}
-use Rattle.dom_model.proofs.OwnerLaws.{name_eq-same, name_eq-turned, name_eq-true}
+use Rattle.dom_base.proofs.Std.{zero, suc, ◌≡◌, ◌≤◌, ◌<◌, ℕ, ◌+◌, ◌*◌, Bool, true, false, ◌&&◌, ◌||◌, eqb, List, [], ◌∷◌, ◌++◌, map, take, Some, None}
+use Rattle.dom_base.proofs.Std.{option_map, unwrap_or, refl, sym, ap, ◌∙◌, arith, true≢false, subst, nat_lt, ◌==◌, AllByRecursion, option_or, cond-true}
+use Rattle.dom_base.proofs.Std.{cond-false, ltb-true, eqb-true, false_from_ne_true, eq-eqb}
+use Rattle.dom_model.proofs.Model.{NodeName, times_in, Trees, none, tree, Node, names_of, roots, subtree, or_else, trees_below, children_of, parent_of}
+use Rattle.dom_model.proofs.Model.{is_inclusive_ancestor, name_eq, is_in, items_before, place_from, list_before, boundary_place, is_before, Range, at}
+use Rattle.dom_model.proofs.Model.{name_eq-same, name_eq-turned, name_eq-true}
 use Rattle.dom_worlds.proofs.Descents.{ancestor-inside}
 use Rattle.dom_worlds.proofs.Insides.{or_else-none}
 use Rattle.dom_worlds.proofs.InsideAncestors.{child-there, parent-there}
@@ -21,8 +14,7 @@ use Rattle.dom_worlds.proofs.Lists.{all-then, by_cases, or-later}
 use Rattle.dom_worlds.proofs.Roots.{self-above, parent-above}
 use Rattle.dom_worlds.proofs.TableRecords.{inside-alone, above-above}
 use Rattle.dom_worlds.proofs.TreeChangeLaws.{HasRoot, subtree-here, subtree-elsewhere, times-below}
-use Rattle.dom_laws.proofs.Counts.{Once, by_times, times-here, times-elsewhere, times-more, times_subtree, once_parts}
-use Rattle.dom_laws.proofs.Paths.{subtree_gone}
+use Rattle.dom_laws.proofs.Laws.{Once, by_times, times-here, times-elsewhere, times-more, times_subtree, once_parts, subtree_gone}
 use Rattle.dom_worlds.proofs.Trees.{root-there}
 
 -- Places. A name without a node has none.

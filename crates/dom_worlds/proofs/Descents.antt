@@ -1,18 +1,12 @@
 -- Which node stands in whose tree stays where nothing leaves it; and where a node leaves, what was before it or behind its
 -- tree stays.
-use Rattle.std.proofs.Common.{◌≡◌, ◌+◌, ◌≤◌, true, false, List, [], ◌∷◌, ◌++◌, Option, refl, sym, ap, ◌∙◌, arith, true≢false, subst}
-use Rattle.std.specs.Prelude.{◌||◌}
-use Rattle.std.specs.List.{AllByRecursion}
-use Rattle.std.proofs.lemmas.Bool.{cond-true, cond-false}
-use Rattle.dom_base.specs.declared.NodeName.{NodeName}
-use Rattle.dom_model.specs.Names.{name_eq, is_in, items_before}
-use Rattle.dom_model.specs.Tree.{Trees, none, tree, Node, nodes, names_of, roots, subtree, or_else, trees_below, inclusive_ancestors, times_in}
-use Rattle.dom_model.specs.Tree.{inclusive_descendants, is_inclusive_ancestor, on_top}
-use Rattle.dom_model.specs.TreeChanges.{without, put_before, put_below, placed, with_node}
-use Rattle.dom_model.proofs.OwnerLaws.{name_eq-same, name_eq-turned, name_eq-true}
+use Rattle.dom_base.proofs.Std.{◌≡◌, ◌+◌, ◌≤◌, true, false, List, [], ◌∷◌, ◌++◌, Option, refl, sym, ap, ◌∙◌, arith, true≢false, subst, ◌||◌, AllByRecursion}
+use Rattle.dom_base.proofs.Std.{cond-true, cond-false}
+use Rattle.dom_model.proofs.Model.{NodeName, name_eq, is_in, items_before, Trees, none, tree, Node, nodes, names_of, roots, subtree, or_else, trees_below}
+use Rattle.dom_model.proofs.Model.{inclusive_ancestors, times_in, inclusive_descendants, is_inclusive_ancestor, on_top, without, put_before, put_below, placed}
+use Rattle.dom_model.proofs.Model.{with_node, name_eq-same, name_eq-turned, name_eq-true}
 use Rattle.dom_worlds.proofs.Lists.{all-then, all-append, by_cases, or-later}
-use Rattle.dom_laws.proofs.Counts.{Once, by_times, times-here, times-elsewhere, times-more, times-parts, once_parts}
-use Rattle.dom_laws.proofs.Paths.{subtree_gone, path_none}
+use Rattle.dom_laws.proofs.Laws.{Once, by_times, times-here, times-elsewhere, times-more, times-parts, once_parts, subtree_gone, path_none}
 use Rattle.dom_worlds.proofs.Trees.{root-there, nodes-there, ancestors-present}
 use Rattle.dom_worlds.proofs.TreeChangeLaws.{HasRoot, without-here, without-elsewhere, subtree-here, subtree-elsewhere, put_below-here, put_below-elsewhere}
 use Rattle.dom_worlds.proofs.TreeChangeLaws.{times-put_below_all, put_below-absent, times-put_before}

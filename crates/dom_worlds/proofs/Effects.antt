@@ -1,39 +1,15 @@
 -- An accepted command: what its tests say, and what its effect keeps of its owner's part.
-use Rattle.std.proofs.lemmas.Bool.{not-false, or_parts}
-use Rattle.std.proofs.Common.{◌≡◌, ◌+◌, Bool, true, false, not, ◌&&◌, ◌||◌, List, [], ◌∷◌, length, Option, Some, None, refl, sym, ap, ◌∙◌, ℕ, ◌++◌, subst}
-use Rattle.std.specs.Prelude.{nat_lt, ⊤, if◌then◌else◌}
-use Rattle.std.specs.Option.{option_or, option_map_or}
-use Rattle.dom_base.specs.declared.Owner.{Owner}
-use Rattle.dom_base.specs.declared.TheConstants.{MAX_COMPONENTS}
-use Rattle.dom_base.specs.Owners.{may_attach}
-use Rattle.dom_base.specs.declared.Refusal.{Refusal}
-use Rattle.dom_base.specs.declared.Refusal.TheVariants.{Syntax, Busy, Foreign, Unknown, WrongKind, NotSupported, Limit}
-use Rattle.dom_model.specs.Command.{Command, NodeWord, ListenerWords, names_foreign, nodes_exist, thing_exists, nodes_fit, is_command_of, part_refusal}
-use Rattle.dom_model.specs.Command.{own_refusal, effect}
-use Rattle.dom_model.specs.Names.{name_eq, is_in, DomString}
-use Rattle.dom_model.specs.Tree.{node_in}
-use Rattle.dom_model.specs.CommandNames.{named}
-use Rattle.dom_model.specs.CommandRefusals.{may_be_host, of_range}
-use Rattle.dom_model.specs.DocumentMachine.{refusal, is_busy}
-use Rattle.dom_model.specs.Part.{Part, range_at}
-use Rattle.dom_model.specs.Validity.{first_refusal}
-use Rattle.dom_model.specs.World.{World, part_of, is_there, MayAttach}
-use Rattle.dom_model.proofs.PartLaws.{owner-part_of}
-use Rattle.dom_base.specs.declared.NodeName.{NodeName}
-use Rattle.dom_base.specs.declared.Action.TheVariants.{Log}
-use Rattle.dom_model.specs.Listeners.{Listener, with_listener_added, is_listener}
-use Rattle.std.specs.List.{AllByRecursion, list_any}
-use Rattle.dom_worlds.specs.Worlds.{OnlyLogs}
+use Rattle.dom_base.proofs.Std.{not-false, or_parts, ◌≡◌, ◌+◌, Bool, true, false, not, ◌&&◌, ◌||◌, List, [], ◌∷◌, length, Option, Some, None, refl, sym, ap}
+use Rattle.dom_base.proofs.Std.{◌∙◌, ℕ, ◌++◌, subst, nat_lt, ⊤, if◌then◌else◌, option_or, option_map_or, AllByRecursion, list_any}
+use Rattle.dom_model.proofs.Model.{Owner, MAX_COMPONENTS, may_attach, Refusal, Syntax, Busy, Foreign, Unknown, WrongKind, NotSupported, Limit, Command}
+use Rattle.dom_model.proofs.Model.{NodeWord, ListenerWords, names_foreign, nodes_exist, thing_exists, nodes_fit, is_command_of, part_refusal, own_refusal}
+use Rattle.dom_model.proofs.Model.{effect, name_eq, is_in, DomString, node_in, named, may_be_host, of_range, refusal, is_busy, Part, range_at, first_refusal}
+use Rattle.dom_model.proofs.Model.{World, part_of, is_there, MayAttach, owner-part_of, NodeName, Log, Listener, with_listener_added, is_listener, Value}
+use Rattle.dom_model.proofs.Model.{nothing, attributes, Range, inserting_into_range, deleting, Walker, Effect, tables, changes, answers, sets_walker, new_node}
+use Rattle.dom_model.proofs.Model.{new_document_of, Document, Fragment, Element, Text, Comment, extracting, Step, make, set_attribute, queue_record}
+use Rattle.dom_worlds.specs.Definitions.{OnlyLogs}
 use Rattle.dom_worlds.proofs.Turns.{IsAlike}
 use Rattle.dom_worlds.proofs.Lists.{all-append, all-filter, by_some_is, by_some}
-use Rattle.dom_model.specs.Output.{Value, nothing, attributes}
-use Rattle.dom_model.specs.Ranges.{Range}
-use Rattle.dom_model.specs.RangeOps.{inserting_into_range, deleting}
-use Rattle.dom_model.specs.Traversal.{Walker}
-use Rattle.dom_model.specs.Effects.{Effect, tables, changes, answers, sets_walker, new_node, new_document_of}
-use Rattle.dom_base.specs.declared.Kind.TheVariants.{Document, Fragment, Element, Text, Comment}
-use Rattle.dom_model.specs.Extract.{extracting}
-use Rattle.dom_model.specs.Steps.{Step, make, set_attribute, queue_record}
 use Rattle.dom_worlds.proofs.Plans.{IsKept, keeps-removing, keeps-adopting, keeps-pre_inserting, keeps-replacing, keeps-setting_attribute}
 use Rattle.dom_worlds.proofs.Plans.{keeps-unsetting_attribute, keeps-replacing_data, keeps-replacing_all_data, keeps-splitting, keeps-normalizing}
 use Rattle.dom_worlds.proofs.Plans.{keeps-setting_text, keeps-extracting, keeps-deleting, keeps-inserting_into_range}

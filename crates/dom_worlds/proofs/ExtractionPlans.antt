@@ -1,21 +1,13 @@
 -- Extractions of a range whose ends are in one tree keep all ends of ranges within their nodes.
-use Rattle.std.proofs.Common.{◌≡◌, ◌≤◌, ℕ, ◌-◌, true, false, not, ◌&&◌, List, [], ◌∷◌, ◌++◌, length, None, refl, sym, ap, ◌∙◌, arith, true≢false, subst}
-use Rattle.std.specs.Prelude.{if◌then◌else◌}
-use Rattle.std.proofs.lemmas.Bool.{cond-true, and_parts, not-true}
-use Rattle.dom_base.specs.declared.NodeName.{NodeName}
-use Rattle.dom_model.specs.Names.{DomString, name_eq}
-use Rattle.dom_model.specs.Tree.{Trees, none, tree, Node, node_in, kind_of, has_data, subtree, trees_below, length_of, is_inclusive_ancestor, times_in}
-use Rattle.dom_model.specs.TreeChanges.{with_name}
-use Rattle.dom_model.specs.Part.{Part, next_name}
-use Rattle.dom_model.specs.Place.{Boundary, is_before}
-use Rattle.dom_model.specs.Ranges.{Range, at, is_collapsed}
-use Rattle.dom_model.specs.Steps.{make, set_range, part_step, after}
-use Rattle.dom_model.specs.Changes.{observed, insert_plan}
-use Rattle.dom_model.specs.TextChanges.{replacing_data}
-use Rattle.dom_model.specs.Extract.{Pieces, nothing, cut, tree_holding, pieces_of, common_ancestor, is_in_one_data, clone_part, making_below, taking}
-use Rattle.dom_model.specs.Extract.{new_fragment_node, own_document, new_place, both_at, extracting}
-use Rattle.dom_model.proofs.OwnerLaws.{name_eq-same, name_eq-true}
-use Rattle.dom_worlds.specs.Worlds.{IsPart, AllNodes}
+use Rattle.dom_base.proofs.Std.{◌≡◌, ◌≤◌, ℕ, ◌-◌, true, false, not, ◌&&◌, List, [], ◌∷◌, ◌++◌, length, None, refl, sym, ap, ◌∙◌, arith, true≢false, subst}
+use Rattle.dom_base.proofs.Std.{if◌then◌else◌, cond-true, and_parts, not-true}
+use Rattle.dom_model.proofs.Model.{NodeName, DomString, name_eq, Trees, none, tree, Node, node_in, kind_of, has_data, subtree, trees_below, length_of}
+use Rattle.dom_model.proofs.Model.{is_inclusive_ancestor, times_in, with_name, Part, next_name, Boundary, is_before, Range, at, is_collapsed, make, set_range}
+use Rattle.dom_model.proofs.Model.{part_step, after, observed, insert_plan, replacing_data, Pieces, cut, tree_holding, pieces_of, common_ancestor}
+use Rattle.dom_model.proofs.Model.{is_in_one_data, clone_part, making_below, taking, new_fragment_node, own_document, new_place, both_at, extracting}
+use Rattle.dom_model.proofs.Model.{name_eq-same, name_eq-true}
+use Rattle.dom_model.specs.Extract.{nothing}
+use Rattle.dom_worlds.specs.Definitions.{IsPart, AllNodes}
 use Rattle.dom_worlds.proofs.Bounds.{nowhere, HasRoom, room-make}
 use Rattle.dom_worlds.proofs.Bounds as bounds
 use Rattle.dom_worlds.proofs.Contained.{IsSpared}
@@ -37,7 +29,7 @@ use Rattle.dom_worlds.proofs.PlanChildren.{IsChild, IsNot, child-make, child-par
 use Rattle.dom_worlds.proofs.RangePlans.{room-at, above-kids, room-place_new, IsProper, zero_one, data-left, early-not, room-last}
 use Rattle.dom_worlds.proofs.TableSteps.{HasNode}
 use Rattle.dom_worlds.proofs.TreeChangeLaws.{nodes-subtree, nodes-then, nodes-named}
-use Rattle.dom_laws.proofs.Counts.{Once}
+use Rattle.dom_laws.proofs.Laws.{Once}
 
 -- Extraction. Each node of the trees is there, and is the one that is read under its name.
 all-read : (ts : Trees) → Once ts → AllNodes (λ n. (1 ≤ times_in ts n.name) × (n ≡ node_in ts n.name)) ts

@@ -1,25 +1,12 @@
 -- The whole path of a node is its orbit under the event parent.
-use Rattle.std.proofs.Common.{zero, suc, ◌≡◌, ◌≤◌, ◌<◌, ◌+◌, ℕ, Bool, true, false, not, ◌||◌, List, [], ◌∷◌, ◌++◌, drop, flat_map, unwrap_or, Option, Some}
-use Rattle.std.proofs.Common.{None, refl, sym, ap, ◌∙◌, arith, subst, append-nil}
-use Rattle.std.specs.Prelude.{if◌then◌else◌, IsTrue, is_some, option_to_list}
-use Rattle.std.specs.List.{AllByRecursion}
-use Rattle.std.specs.Option.{option_or, option_and_then}
-use Rattle.std.proofs.lemmas.Bool.{cond-true, cond-false, false_from_ne_true}
-use Rattle.dom_base.specs.declared.Kind.{Kind}
-use Rattle.dom_base.specs.declared.Kind.TheVariants.{Shadow}
-use Rattle.dom_base.specs.declared.NodeName.{NodeName}
-use Rattle.dom_base.specs.declared.Owner.{Owner}
-use Rattle.dom_base.specs.declared.Owner.TheVariants.{Page, Component}
-use Rattle.dom_model.specs.Names.{name_eq, first_of, last_of, owner_depth, max_depth}
-use Rattle.dom_model.specs.Paths.{with_slots, way_up, event_parent, FollowsParents}
-use Rattle.dom_model.specs.Slots.{slot_in, slot_of}
-use Rattle.dom_model.specs.Tree.{Trees, is_shadow, inclusive_ancestors, parent_of, root_of, times_in}
-use Rattle.dom_model.specs.World.{World, part_of, trees_with, node_at, kind_at, root_at, parent_at, ancestors_at, component_at, host_of, host_above}
-use Rattle.dom_model.specs.World.{shadow_root_of, shadow_tree, some_if, MayAttach, host_chain}
-use Rattle.dom_model.proofs.OwnerLaws.{name_eq-same, depth-maker}
-use Rattle.dom_model.proofs.StepLaws.{Component-IsNoPage}
-use Rattle.dom_worlds.specs.Reached.{IsReached}
-use Rattle.dom_worlds.specs.Worlds.{MayBeShadow, IsOf, IsWorld}
+use Rattle.dom_base.proofs.Std.{zero, suc, ◌≡◌, ◌≤◌, ◌<◌, ◌+◌, ℕ, Bool, true, false, not, ◌||◌, List, [], ◌∷◌, ◌++◌, drop, flat_map, unwrap_or, Option, Some}
+use Rattle.dom_base.proofs.Std.{None, refl, sym, ap, ◌∙◌, arith, subst, append-nil, if◌then◌else◌, IsTrue, is_some, option_to_list, AllByRecursion, option_or}
+use Rattle.dom_base.proofs.Std.{option_and_then, cond-true, cond-false, false_from_ne_true}
+use Rattle.dom_model.proofs.Model.{Kind, Shadow, NodeName, Owner, Page, Component, name_eq, first_of, last_of, owner_depth, max_depth, with_slots, way_up}
+use Rattle.dom_model.proofs.Model.{event_parent, FollowsParents, slot_in, slot_of, Trees, is_shadow, inclusive_ancestors, parent_of, root_of, times_in, World}
+use Rattle.dom_model.proofs.Model.{part_of, trees_with, node_at, kind_at, root_at, parent_at, ancestors_at, component_at, host_of, host_above, shadow_root_of}
+use Rattle.dom_model.proofs.Model.{shadow_tree, some_if, MayAttach, host_chain, name_eq-same, depth-maker, Component-IsNoPage}
+use Rattle.dom_worlds.specs.Definitions.{IsReached, MayBeShadow, IsOf, IsWorld, PathFollowsParents, IsNodeIn, IsWhole}
 use Rattle.dom_worlds.proofs.Chains.{IsBelow, above-host, root-owned, below-host, hosts-alone, chain-below, other-owner}
 use Rattle.dom_worlds.proofs.ShadowTrees.{owned-in, ancestors-owned, IsInTree, slot-in_tree, slot_in-there, slot_way, slots-first}
 use Rattle.dom_worlds.proofs.InsideAncestors.{parent-there, child-there, no_parent-root}
@@ -27,10 +14,8 @@ use Rattle.dom_worlds.proofs.Lists.{all-then, by_cases, either_way, get-all, by_
 use Rattle.dom_worlds.proofs.Owners.{component-host, component-maker, component-deeper, hosted-is, node-there, there-hosted, hosted, hosted-owned}
 use Rattle.dom_worlds.proofs.Reached.{root-alone, no_other_shadow_roots, shadow_roots-are_roots}
 use Rattle.dom_worlds.proofs.Roots.{ancestors-step}
-use Rattle.dom_laws.proofs.Counts.{Once, times_subtree}
+use Rattle.dom_laws.proofs.Laws.{Once, times_subtree}
 use Rattle.dom_worlds.proofs.Trees.{ancestors-present, ancestors-root, ancestors-there, all-both}
-use Rattle.dom_worlds.specs.Follows.{PathFollowsParents}
-use Rattle.dom_worlds.specs.Tables.{IsNodeIn, IsWhole}
 use Rattle.dom_worlds.proofs.KindLines.{has_node-times}
 use Rattle.dom_worlds.proofs.KindCases.{failing, of_kinds}
 

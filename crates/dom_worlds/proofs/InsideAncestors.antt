@@ -1,16 +1,11 @@
 -- Which nodes stand in the tree of another one, by ancestors, children and counts.
-use Rattle.std.proofs.Common.{◌≡◌, ◌≤◌, true, false, List, [], ◌∷◌, ◌++◌, Some, None, refl, sym, ap, ◌∙◌, arith, true≢false, subst, drop}
-use Rattle.std.specs.Prelude.{◌||◌}
-use Rattle.std.specs.List.{AllByRecursion}
-use Rattle.std.proofs.lemmas.Bool.{cond-true, cond-false}
-use Rattle.dom_base.specs.declared.NodeName.{NodeName}
-use Rattle.dom_model.specs.Names.{name_eq, is_in, first_of}
-use Rattle.dom_model.specs.Tree.{Trees, none, tree, Node, nodes, names_of, roots, has_node, subtree, or_else, trees_below, children_of, times_in}
-use Rattle.dom_model.specs.Tree.{inclusive_ancestors, is_inclusive_ancestor, on_top, parent_of}
-use Rattle.dom_model.proofs.OwnerLaws.{name_eq-same, name_eq-turned, name_eq-true}
+use Rattle.dom_base.proofs.Std.{◌≡◌, ◌≤◌, true, false, List, [], ◌∷◌, ◌++◌, Some, None, refl, sym, ap, ◌∙◌, arith, true≢false, subst, drop, ◌||◌}
+use Rattle.dom_base.proofs.Std.{AllByRecursion, cond-true, cond-false}
+use Rattle.dom_model.proofs.Model.{NodeName, name_eq, is_in, first_of, Trees, none, tree, Node, nodes, names_of, roots, has_node, subtree, or_else, trees_below}
+use Rattle.dom_model.proofs.Model.{children_of, times_in, inclusive_ancestors, is_inclusive_ancestor, on_top, parent_of, name_eq-same, name_eq-turned}
+use Rattle.dom_model.proofs.Model.{name_eq-true}
 use Rattle.dom_worlds.proofs.Lists.{all-then, by_cases, or-first, or-second, or-later}
-use Rattle.dom_laws.proofs.Counts.{Once, by_times, times-here, times-elsewhere, times-more, times-parts, times_subtree, once_parts}
-use Rattle.dom_laws.proofs.Paths.{subtree_gone, path_none}
+use Rattle.dom_laws.proofs.Laws.{Once, by_times, times-here, times-elsewhere, times-more, times-parts, times_subtree, once_parts, subtree_gone, path_none}
 use Rattle.dom_worlds.proofs.Trees.{ancestors-present, ancestors-there}
 use Rattle.dom_worlds.proofs.TreeChangeLaws.{subtree-here, subtree-elsewhere, HasRoot, root-first, root-second, times-below}
 use Rattle.dom_worlds.proofs.Insides.{inside, inside-here, inside-elsewhere, inside-times, inside-absent, or_else-none}

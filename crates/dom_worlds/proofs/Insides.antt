@@ -1,15 +1,9 @@
 -- Which nodes stand in the tree of another one, how elementary changes shrink that, and that they lose no node.
-use Rattle.std.proofs.Common.{◌≡◌, ℕ, ◌+◌, ◌≤◌, true, false, Option, refl, ap, ◌∙◌, arith}
-use Rattle.std.specs.Prelude.{if◌then◌else◌}
-use Rattle.std.proofs.lemmas.Bool.{cond-true, cond-false}
-use Rattle.dom_base.specs.declared.NodeName.{NodeName}
-use Rattle.dom_model.specs.Names.{name_eq}
-use Rattle.dom_model.specs.Tree.{Trees, none, tree, Node, subtree, or_else, times_in}
-use Rattle.dom_model.specs.TreeChanges.{without, put_before, put_below, put_root, taken_out, placed, with_node, map_nodes}
-use Rattle.dom_model.proofs.OwnerLaws.{name_eq-same}
+use Rattle.dom_base.proofs.Std.{◌≡◌, ℕ, ◌+◌, ◌≤◌, true, false, Option, refl, ap, ◌∙◌, arith, if◌then◌else◌, cond-true, cond-false}
+use Rattle.dom_model.proofs.Model.{NodeName, name_eq, Trees, none, tree, Node, subtree, or_else, times_in, without, put_before, put_below, put_root, taken_out}
+use Rattle.dom_model.proofs.Model.{placed, with_node, map_nodes, name_eq-same}
 use Rattle.dom_worlds.proofs.Lists.{by_cases}
-use Rattle.dom_laws.proofs.Counts.{Once, by_times, times-here, times-elsewhere, times-more, times-parts, times_or_else, once_parts}
-use Rattle.dom_laws.proofs.Paths.{subtree_gone}
+use Rattle.dom_laws.proofs.Laws.{Once, by_times, times-here, times-elsewhere, times-more, times-parts, times_or_else, once_parts, subtree_gone}
 use Rattle.dom_worlds.proofs.TreeChangeLaws.{without-here, without-elsewhere, times-put_below_all, subtree-here, subtree-elsewhere, put_below-here}
 use Rattle.dom_worlds.proofs.TreeChangeLaws.{put_below-elsewhere, put_below-absent, times-put_root, times-without, times-map_nodes}
 use Rattle.dom_worlds.proofs.Trees.{IsSum, sum-put_before, sum-put_root}

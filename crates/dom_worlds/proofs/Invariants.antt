@@ -1,24 +1,12 @@
 -- An invariant of worlds is kept by the ends of turns, by lines and by scripts, if it is kept by what they consist of.
-use Rattle.std.proofs.Common.{◌≡◌, ◌∷◌, ◌++◌, ◌∙◌, [], ap, false, filter, List, None, Option, option_map, refl, Some, subst, sym, true}
-use Rattle.std.specs.List.{AllByRecursion}
-use Rattle.std.specs.Prelude.{is_some, map, ⊤}
-use Rattle.dom_base.specs.declared.NodeName.{NodeName}
-use Rattle.dom_base.specs.declared.Owner.{Owner}
-use Rattle.dom_base.specs.declared.Owner.TheVariants.{Page}
-use Rattle.dom_base.specs.declared.Refusal.{Refusal}
-use Rattle.dom_model.specs.Command.{command, Command, EventWords, Line, no_command, no_owner, NodeWord, part_refusal, effect}
-use Rattle.dom_model.specs.CommandNames.{named}
-use Rattle.dom_model.specs.Dispatch.{dispatch_in, visits_of}
-use Rattle.dom_model.specs.DocumentMachine.{accepted, attaching, effect_in, finish, perform, refusal, run_command, run_lines, step}
-use Rattle.dom_model.specs.Listeners.{begun}
-use Rattle.dom_model.specs.Names.{name_eq, Word}
-use Rattle.dom_model.specs.PageMachine.{PageState}
-use Rattle.dom_model.specs.Paths.{views}
-use Rattle.dom_model.specs.Runs.{quiet, Run, run_each, unless_refused}
-use Rattle.dom_model.specs.Turns.{ending_other_turn, ending_turn, firing_slotchange, has_other_turn, is_owned_by, is_page_turn, notified, opening_turn}
-use Rattle.dom_model.specs.Turns.{running_task, slotchange, without_signals}
-use Rattle.dom_model.specs.World.{micro_task, notify_task, part_of, Task, World}
-use Rattle.dom_worlds.specs.Worlds.{IsThere, task_owner}
+use Rattle.dom_base.proofs.Std.{◌≡◌, ◌∷◌, ◌++◌, ◌∙◌, [], ap, false, filter, List, None, Option, option_map, refl, Some, subst, sym, true, AllByRecursion}
+use Rattle.dom_base.proofs.Std.{is_some, map, ⊤}
+use Rattle.dom_model.proofs.Model.{NodeName, Owner, Page, Refusal, command, Command, EventWords, Line, no_command, no_owner, NodeWord, part_refusal, effect}
+use Rattle.dom_model.proofs.Model.{named, dispatch_in, visits_of, accepted, attaching, effect_in, finish, perform, refusal, run_command, run_lines, step, begun}
+use Rattle.dom_model.proofs.Model.{name_eq, Word, PageState, views, quiet, Run, run_each, unless_refused, ending_other_turn, ending_turn, firing_slotchange}
+use Rattle.dom_model.proofs.Model.{has_other_turn, is_owned_by, is_page_turn, notified, opening_turn, running_task, slotchange, without_signals, micro_task}
+use Rattle.dom_model.proofs.Model.{notify_task, part_of, Task, World}
+use Rattle.dom_worlds.specs.Definitions.{IsThere, task_owner}
 use Rattle.dom_worlds.proofs.Effects.{accepted-facts}
 use Rattle.dom_worlds.proofs.Turns.{IsPageTime, opening-page, page_time, part_of-opening, there-with_part, at_end, there-visits, told_in}
 use Rattle.dom_worlds.proofs.Lists.{all-then, by_cases, either_way}

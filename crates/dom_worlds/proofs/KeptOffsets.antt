@@ -1,23 +1,11 @@
 -- Steps and plans over one part keep the ends of its live ranges within their nodes: stated for who holds ranges.
-use Rattle.std.proofs.Common.{◌≡◌, ◌≤◌, ℕ, ◌+◌, Bool, true, false, List, [], ◌∷◌, length, Option, Some, None, refl, ap, arith}
-use Rattle.std.specs.Prelude.{IsTrue, if◌then◌else◌}
-use Rattle.dom_base.specs.declared.NodeName.{NodeName}
-use Rattle.dom_base.specs.declared.Refusal.{Refusal}
-use Rattle.dom_base.specs.declared.Refusal.TheVariants.{Hierarchy}
-use Rattle.dom_model.specs.Names.{Word, DomString}
-use Rattle.dom_model.specs.Tree.{Node, kind_of, has_node, has_data, is_text, children_of, is_inclusive_ancestor, length_of}
-use Rattle.dom_model.specs.Output.{Change}
-use Rattle.dom_model.specs.Part.{Part, range_at}
-use Rattle.dom_model.specs.RangeOps.{deleting, insertion_parent, start_reference, cannot_take_node, insert_node_refusal, inserting_into_range}
-use Rattle.dom_model.specs.Ranges.{Range}
-use Rattle.dom_model.specs.Extract.{extracting}
-use Rattle.dom_model.specs.Validity.{pre_insert_refusal}
-use Rattle.dom_model.specs.Steps.{make, set_document, join_at, set_range, queue_record, part_step, after}
-use Rattle.dom_model.specs.Changes.{Observing, remove_plan, adopt_plan, insert_plan, replace_plan, setting_attribute, unsetting_attribute}
-use Rattle.dom_model.specs.TextChanges.{replacing_data, splitting, normalizing, setting_text}
-use Rattle.dom_worlds.specs.Bounds.{EndsWithin, IsWithin, HasBounds}
-use Rattle.dom_worlds.specs.Tables.{HasEnds, HasTables}
-use Rattle.dom_worlds.specs.Worlds.{IsPart}
+use Rattle.dom_base.proofs.Std.{◌≡◌, ◌≤◌, ℕ, ◌+◌, Bool, true, false, List, [], ◌∷◌, length, Option, Some, None, refl, ap, arith, IsTrue, if◌then◌else◌}
+use Rattle.dom_model.proofs.Model.{NodeName, Refusal, Hierarchy, Word, DomString, Node, kind_of, has_node, has_data, is_text, children_of}
+use Rattle.dom_model.proofs.Model.{is_inclusive_ancestor, length_of, Change, Part, range_at, deleting, insertion_parent, start_reference, cannot_take_node}
+use Rattle.dom_model.proofs.Model.{insert_node_refusal, inserting_into_range, Range, extracting, pre_insert_refusal, make, set_document, join_at, set_range}
+use Rattle.dom_model.proofs.Model.{queue_record, part_step, after, Observing, remove_plan, adopt_plan, insert_plan, replace_plan, setting_attribute}
+use Rattle.dom_model.proofs.Model.{unsetting_attribute, replacing_data, splitting, normalizing, setting_text}
+use Rattle.dom_worlds.specs.Definitions.{EndsWithin, IsWithin, HasBounds, HasEnds, HasTables, IsPart}
 use Rattle.dom_worlds.proofs.BoundLines.{insertion-open}
 use Rattle.dom_worlds.proofs.Bounds.{RangeUnder, reach, nowhere, HasRoom, room-make, room-document, room-record, room-join, room-set}
 use Rattle.dom_worlds.proofs.InsideAncestors.{inside-no_ancestor, times-has_node}

@@ -1,7 +1,6 @@
 -- What is shown of each kind.
-use Rattle.std.proofs.Common.{◌≡◌, true, false, sym, true≢false}
-use Rattle.dom_base.specs.declared.Kind.{Kind}
-use Rattle.dom_base.specs.declared.Kind.TheVariants.{Document, Fragment, Shadow, Element, Text, Comment}
+use Rattle.dom_base.proofs.Std.{◌≡◌, true, false, sym, true≢false}
+use Rattle.dom_model.proofs.Model.{Kind, Document, Fragment, Shadow, Element, Text, Comment}
 
 -- what holds of each of them holds of all
 module _ (P : Kind → Type 0) (document : P Document) (fragment : P Fragment) (shadow : P Shadow) (element : P Element) (text : P Text) (comment : P Comment)

@@ -1,28 +1,14 @@
 -- Every line keeps the kinds of nodes: no command makes a shadow root, and `attach` makes hosts of elements alone.
-use Rattle.std.proofs.Common.{◌≡◌, ◌≢◌, Bool, true, false, None, sym, ap, ◌∙◌, true≢false, subst, ◌+◌, ◌≤◌, not, ◌||◌, List, [], ◌∷◌, ◌++◌, length, find}
-use Rattle.std.proofs.Common.{unwrap_or, Option, Some, refl, arith}
-use Rattle.std.specs.Prelude.{⊤, nat_lt}
-use Rattle.dom_base.specs.declared.Owner.{Owner}
-use Rattle.dom_base.specs.declared.Owner.TheVariants.{Page, Component}
-use Rattle.dom_base.specs.declared.NodeName.{NodeName}
-use Rattle.dom_base.specs.declared.Kind.{Kind}
-use Rattle.dom_base.specs.declared.Kind.TheVariants.{Document, Shadow, Element, Text, Comment}
-use Rattle.dom_model.specs.Names.{ComponentName, name_eq, is_in}
-use Rattle.dom_model.specs.Tree.{node_in, children_of, is_element, is_text, is_document, Trees, none, tree, Node, nodes, names_of, kind_of, has_node, no_node}
-use Rattle.dom_model.specs.Tree.{times_in}
-use Rattle.dom_model.specs.Command.{Command, NodeWord, own_refusal, part_refusal, effect, nodes_exist}
-use Rattle.dom_model.specs.CommandRefusals.{may_be_host}
-use Rattle.dom_model.specs.DocumentMachine.{effect_in, first_world, part_with_root, attaching}
-use Rattle.dom_model.specs.Effects.{Effect, tables, changes}
-use Rattle.dom_model.specs.Extract.{pieces_of}
-use Rattle.dom_model.specs.Part.{Part}
-use Rattle.dom_model.specs.Steps.{Step}
-use Rattle.dom_model.specs.World.{World, part_of, shadow_root_of, with_part, component_made, micro_task}
-use Rattle.dom_model.proofs.OwnerLaws.{name_eq-same, component_made-no_page, name_eq-turned, name_eq-true}
-use Rattle.dom_model.proofs.PartLaws.{owner-part_of}
-use Rattle.dom_model.proofs.StepLaws.{owner-part_step, Component-IsNoPage}
-use Rattle.dom_worlds.specs.Reached.{Invariant}
-use Rattle.dom_worlds.specs.Worlds.{MayBeShadow, HasKinds, AllNodes, IsElementAt, IsHost, times_among}
+use Rattle.dom_base.proofs.Std.{◌≡◌, ◌≢◌, Bool, true, false, None, sym, ap, ◌∙◌, true≢false, subst, ◌+◌, ◌≤◌, not, ◌||◌, List, [], ◌∷◌, ◌++◌, length, find}
+use Rattle.dom_base.proofs.Std.{unwrap_or, Option, Some, refl, arith, ⊤, nat_lt, AllByRecursion, option_or, cond-true, cond-false, and_parts, or_parts}
+use Rattle.dom_base.proofs.Std.{find-append}
+use Rattle.dom_model.proofs.Model.{Owner, Page, Component, NodeName, Kind, Document, Shadow, Element, Text, Comment, ComponentName, name_eq, is_in, node_in}
+use Rattle.dom_model.proofs.Model.{children_of, is_element, is_text, is_document, Trees, none, tree, Node, nodes, names_of, kind_of, has_node, no_node}
+use Rattle.dom_model.proofs.Model.{times_in, Command, NodeWord, own_refusal, part_refusal, effect, nodes_exist, may_be_host, effect_in, first_world}
+use Rattle.dom_model.proofs.Model.{part_with_root, attaching, Effect, tables, changes, pieces_of, Part, Step, World, part_of, shadow_root_of, with_part}
+use Rattle.dom_model.proofs.Model.{component_made, micro_task, name_eq-same, component_made-no_page, name_eq-turned, name_eq-true, owner-part_of}
+use Rattle.dom_model.proofs.Model.{owner-part_step, Component-IsNoPage, NotSupported, Limit, MAX_COMPONENTS, may_attach, named, is_element-is, dispatch_in}
+use Rattle.dom_worlds.specs.Definitions.{Invariant, MayBeShadow, HasKinds, AllNodes, IsElementAt, IsHost, times_among}
 use Rattle.dom_worlds.proofs.Turns.{AreAlike, alike-dispatch, alike-told, told_in, at_end}
 use Rattle.dom_worlds.proofs.Effects.{KeepsBase, Makes, MayDo, made-effect, base-effect, next-test, part-accepted}
 use Rattle.dom_worlds.proofs.Lists.{all-then, all-from, all-append, by_cases}
@@ -33,20 +19,10 @@ use Rattle.dom_worlds.proofs.Plans.{IsKept}
 use Rattle.dom_worlds.proofs.Rules.{rules-kept}
 use Rattle.dom_worlds.proofs.ShadowRoots.{any-whole, IsOther, shadow-rules, may-do, found-absent, found-there}
 use Rattle.dom_worlds.proofs.WorldSteps.{HoldsIn, IsKeptIn, holds-with_part, holds-world_after, own-part}
-use Rattle.std.specs.List.{AllByRecursion}
-use Rattle.std.specs.Option.{option_or}
-use Rattle.std.proofs.lemmas.Bool.{cond-true, cond-false, and_parts, or_parts}
-use Rattle.std.proofs.lemmas.List.Folds.{find-append}
-use Rattle.dom_base.specs.declared.Refusal.TheVariants.{NotSupported, Limit}
-use Rattle.dom_base.specs.declared.TheConstants.{MAX_COMPONENTS}
-use Rattle.dom_base.specs.Owners.{may_attach}
-use Rattle.dom_model.specs.CommandNames.{named}
-use Rattle.dom_model.proofs.KindLaws.{is_element-is}
 use Rattle.dom_worlds.proofs.TreeChangeLaws.{nodes-listed, nodes-then}
-use Rattle.dom_laws.proofs.Counts.{Once, by_times, times-here, times-elsewhere, times-more}
+use Rattle.dom_laws.proofs.Laws.{Once, by_times, times-here, times-elsewhere, times-more}
 use Rattle.dom_worlds.proofs.Invariants.{Keeps}
 use Rattle.dom_worlds.proofs.StepKeeps.{OkFor}
-use Rattle.dom_model.specs.Dispatch.{dispatch_in}
 
 -- What is made is of another kind.
 element-no_shadow : Element ≢ Shadow

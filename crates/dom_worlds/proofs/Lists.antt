@@ -1,13 +1,8 @@
 -- Lists: what holds of all items of lists made of others; and choices by a test.
-use Rattle.std.proofs.Common.{◌≡◌, Bool, true, false, ◌&&◌, ◌||◌, refl, sym, ◌∙◌, true≢false, ℕ, zero, ◌<◌, Some, length, not, List, [], ◌∷◌, ◌++◌, filter, map}
-use Rattle.std.proofs.Common.{None, Option, flat_map, fold, take_while, reverse, ap, arith, append-nil, take, drop, subst, suc, ◌+◌}
-use Rattle.std.specs.Prelude.{if◌then◌else◌, is_some, slice_get, slice_set}
-use Rattle.std.specs.Option.{option_flatten}
-use Rattle.std.proofs.lemmas.Bool.{cond-true, cond-false}
-use Rattle.std.proofs.lemmas.List.{reverse-append}
-use Rattle.std.specs.List.{AllByRecursion, prefix_len}
-use Rattle.std.proofs.lemmas.List.Elements.{filter-append}
-use Rattle.dom_model.specs.Names.{distinct}
+use Rattle.dom_base.proofs.Std.{◌≡◌, Bool, true, false, ◌&&◌, ◌||◌, refl, sym, ◌∙◌, true≢false, ℕ, zero, ◌<◌, Some, length, not, List, [], ◌∷◌, ◌++◌, filter}
+use Rattle.dom_base.proofs.Std.{map, None, Option, flat_map, fold, take_while, reverse, ap, arith, append-nil, take, drop, subst, suc, ◌+◌, if◌then◌else◌}
+use Rattle.dom_base.proofs.Std.{is_some, slice_get, slice_set, option_flatten, cond-true, cond-false, reverse-append, AllByRecursion, prefix_len, filter-append}
+use Rattle.dom_model.proofs.Model.{distinct}
 
 -- by whether a test holds
 pub by_cases : {P : Type 0} (b : Bool) → (b ≡ true → P) → (b ≡ false → P) → P

@@ -1,36 +1,21 @@
 -- Steps, dispatches and notifications: no owner's part comes or goes, and what they leave open, queued and signalled is of owners that are there.
-use Rattle.std.proofs.Common.{◌≡◌, ℕ, zero, suc, Bool, true, false, not, ◌&&◌, List, [], ◌∷◌, ◌++◌, length, filter, fold, filter_map, Option, Some, None, refl}
-use Rattle.std.proofs.Common.{sym, ap, ◌∙◌, true≢false, subst, ◌≤◌, ◌||◌, map, flat_map, take_while, reverse}
-use Rattle.std.specs.Prelude.{if◌then◌else◌, is_some, option_to_list}
-use Rattle.std.specs.List.{AllByRecursion, list_any, cons_option}
-use Rattle.std.specs.Option.{option_and_then, option_map_or}
-use Rattle.dom_base.specs.declared.Owner.{Owner}
-use Rattle.dom_base.specs.declared.NodeName.{NodeName}
-use Rattle.std.proofs.lemmas.Bool.{and_parts}
-use Rattle.dom_model.specs.Names.{name_eq, first_of, is_in, list_eq, max_depth, is_empty}
-use Rattle.dom_model.specs.Tree.{inclusive_descendants, times_in}
-use Rattle.dom_model.specs.Part.{Part}
-use Rattle.dom_model.specs.Slots.{assigned_nodes, slottables_of, assigned_nodes_changed, is_bare_slot, is_slot_element, own_slots, other_slots, signals}
-use Rattle.dom_model.specs.Slots.{with_signal, slot_of}
-use Rattle.dom_model.specs.Steps.{Step, set_document, part_step}
-use Rattle.dom_model.specs.World.{World, Task, notify_task, part_of, with_part, node_at, trees_with, root_at, host_of, some_if, is_in_shadow_tree, is_notify_of}
-use Rattle.dom_model.specs.World.{with_notify, component_at, components_below, shadow_root_of, ancestors_at, host_chain}
-use Rattle.dom_model.specs.WorldSteps.{world_step, world_after, stepped, with_shadow_document}
-use Rattle.dom_model.proofs.PartLaws.{owner-part_of}
-use Rattle.dom_model.proofs.StepLaws.{owner-part_step}
-use Rattle.dom_worlds.specs.Reached.{IsReached}
-use Rattle.dom_worlds.specs.Worlds.{owners_in, IsThere, task_owner, components_of, is_made_by, is_unmade, HasMakers, HasOwners, IsWorld}
+use Rattle.dom_base.proofs.Std.{◌≡◌, ℕ, zero, suc, Bool, true, false, not, ◌&&◌, List, [], ◌∷◌, ◌++◌, length, filter, fold, filter_map, Option, Some, None}
+use Rattle.dom_base.proofs.Std.{refl, sym, ap, ◌∙◌, true≢false, subst, ◌≤◌, ◌||◌, map, flat_map, take_while, reverse, if◌then◌else◌, is_some, option_to_list}
+use Rattle.dom_base.proofs.Std.{AllByRecursion, list_any, cons_option, option_and_then, option_map_or, and_parts}
+use Rattle.dom_model.proofs.Model.{Owner, NodeName, name_eq, first_of, is_in, list_eq, max_depth, is_empty, inclusive_descendants, times_in, Part}
+use Rattle.dom_model.proofs.Model.{assigned_nodes, slottables_of, assigned_nodes_changed, is_bare_slot, is_slot_element, own_slots, other_slots, signals}
+use Rattle.dom_model.proofs.Model.{with_signal, slot_of, Step, set_document, part_step, World, Task, notify_task, part_of, with_part, node_at, trees_with}
+use Rattle.dom_model.proofs.Model.{root_at, host_of, some_if, is_in_shadow_tree, is_notify_of, with_notify, component_at, components_below, shadow_root_of}
+use Rattle.dom_model.proofs.Model.{ancestors_at, host_chain, world_step, world_after, stepped, with_shadow_document, owner-part_of, owner-part_step, EventWords}
+use Rattle.dom_model.proofs.Model.{world_visit, visits_of, visit_of, is_at_target, dispatch_in, Visit, Dispatching, after_invoke, begun, View, views, view_at}
+use Rattle.dom_model.proofs.Model.{event_path, whole_path, way_up, with_slots, ends_at, is_node, retarget_related, is_owned_by, without_signals, notified}
+use Rattle.dom_worlds.specs.Definitions.{IsReached, owners_in, IsThere, task_owner, components_of, is_made_by, is_unmade, HasMakers, HasOwners, IsWorld}
 use Rattle.dom_worlds.proofs.Turns.{host_of-same, there-with_part, told_in}
 use Rattle.dom_worlds.proofs.Lists.{all-append, all-passed, all-distinct, all-then, all-flat_map, by_cases, either_way, all-filter, all-map, all-reverse}
 use Rattle.dom_worlds.proofs.Lists.{by_some_is, kept-fold, all-from, all-take_while}
 use Rattle.dom_worlds.proofs.Owners.{makers-same, component-host, hosted-is, there-same, owners-put, hosted-there, node-there}
 use Rattle.dom_worlds.proofs.PartSteps.{rest-step}
 use Rattle.dom_worlds.proofs.WorldSteps.{attached-with_part, kept-world_step}
-use Rattle.dom_model.specs.Command.{EventWords}
-use Rattle.dom_model.specs.Dispatch.{world_visit, visits_of, visit_of, is_at_target, dispatch_in}
-use Rattle.dom_model.specs.Listeners.{Visit, Dispatching, after_invoke, begun}
-use Rattle.dom_model.specs.Paths.{View, views, view_at, event_path, whole_path, way_up, with_slots, ends_at, is_node, retarget_related}
-use Rattle.dom_model.specs.Turns.{is_owned_by, without_signals, notified}
 use Rattle.dom_worlds.proofs.Trees.{ancestors-there}
 
 -- What steps keep: the owners, and that whoever has hosts may attach.

@@ -1,26 +1,14 @@
 -- Who made whom, whose host is whose, and who is there.
-use Rattle.std.proofs.Common.{◌≡◌, ◌≢◌, ℕ, ◌<◌, List, length, position, option_map, Option, Some, None, refl, sym, ap, ◌∙◌, arith, subst, zero, suc, ◌≤◌, Bool}
-use Rattle.std.proofs.Common.{true, false, ◌||◌, [], ◌∷◌, ◌++◌, map, filter, unwrap_or, true≢false}
-use Rattle.std.specs.Prelude.{is_some, slice_get, ⊤, is_none}
-use Rattle.std.specs.Option.{option_and_then, option_map_or}
-use Rattle.std.proofs.lemmas.List.Quantifiers.{position-Some}
-use Rattle.std.proofs.lemmas.Option.{slice_get-get_or}
-use Rattle.dom_base.specs.declared.Owner.{Owner}
-use Rattle.dom_base.specs.declared.Owner.TheVariants.{Page}
-use Rattle.dom_base.specs.declared.NodeName.{NodeName}
-use Rattle.dom_model.specs.Names.{name_eq, owner_depth, owner_eq}
-use Rattle.dom_model.specs.World.{World, part_of, component_at, component_made, made_by, host_of, MayAttach, find_part, put_part, is_there}
-use Rattle.dom_model.proofs.OwnerLaws.{made_by-made, depth-made, name_eq-true, owner_eq-same, owner_eq-true, owner_eq-false, ne-owner_eq, made_by-is}
-use Rattle.dom_model.proofs.OwnerLaws.{component_made-number, component_made-no_page}
-use Rattle.dom_worlds.specs.Worlds.{IsWorld, IsOf, HasMakers, components_of, is_made_by, is_unmade, owners_in, IsThere, HasOwners}
+use Rattle.dom_base.proofs.Std.{◌≡◌, ◌≢◌, ℕ, ◌<◌, List, length, position, option_map, Option, Some, None, refl, sym, ap, ◌∙◌, arith, subst, zero, suc, ◌≤◌}
+use Rattle.dom_base.proofs.Std.{Bool, true, false, ◌||◌, [], ◌∷◌, ◌++◌, map, filter, unwrap_or, true≢false, is_some, slice_get, ⊤, is_none, option_and_then}
+use Rattle.dom_base.proofs.Std.{option_map_or, position-Some, slice_get-get_or, list_any, cond-true, cond-false, false_from_ne_true}
+use Rattle.dom_model.proofs.Model.{Owner, Page, NodeName, name_eq, owner_depth, owner_eq, World, part_of, component_at, component_made, made_by, host_of}
+use Rattle.dom_model.proofs.Model.{MayAttach, find_part, put_part, is_there, made_by-made, depth-made, name_eq-true, owner_eq-same, owner_eq-true}
+use Rattle.dom_model.proofs.Model.{owner_eq-false, ne-owner_eq, made_by-is, component_made-number, component_made-no_page, times_in, Part, empty_part, NodeWord}
+use Rattle.dom_model.proofs.Model.{own, foreign, named}
+use Rattle.dom_worlds.specs.Definitions.{IsWorld, IsOf, HasMakers, components_of, is_made_by, is_unmade, owners_in, IsThere, HasOwners}
 use Rattle.dom_worlds.proofs.Lists.{get-below, get-all, get-there, by_cases, which_way, or-later, or-first, or-second, or-neither, or-earlier, by_some_is}
 use Rattle.dom_worlds.proofs.Lists.{by_some}
-use Rattle.std.specs.List.{list_any}
-use Rattle.std.proofs.lemmas.Bool.{cond-true, cond-false, false_from_ne_true}
-use Rattle.dom_model.specs.Tree.{times_in}
-use Rattle.dom_model.specs.Part.{Part, empty_part}
-use Rattle.dom_model.specs.Command.{NodeWord, own, foreign}
-use Rattle.dom_model.specs.CommandNames.{named}
 
 -- other worlds with the same hosts
 pub makers-same : (v w : World) → ((o : Owner) → (part_of v o).attached ≡ (part_of w o).attached) → HasMakers w → HasMakers v

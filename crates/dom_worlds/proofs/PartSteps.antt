@@ -1,27 +1,16 @@
 -- Steps of a part: names, counts, its shadow root, and the kinds of its nodes.
-use Rattle.std.proofs.Common.{◌≡◌, ◌≤◌, ◌<◌, Bool, true, false, List, Option, Some, None, refl, sym, ap, ◌∙◌, arith, true≢false, subst, ◌≢◌, [], ◌∷◌, find, ℕ}
-use Rattle.std.proofs.Common.{unwrap_or}
-use Rattle.std.specs.Prelude.{if◌then◌else◌, ⊤}
-use Rattle.std.specs.List.{AllByRecursion}
-use Rattle.std.specs.Option.{option_map_or}
-use Rattle.dom_base.specs.declared.NodeName.{NodeName}
-use Rattle.dom_model.specs.Names.{Word, DomString, name_eq, is_in}
-use Rattle.dom_model.specs.Tree.{Trees, none, tree, Node, parent_of, inclusive_descendants, times_in, nodes, node_in, no_node, is_fragment}
-use Rattle.dom_model.specs.TreeChanges.{map_nodes, with_name, with_document, with_data_replaced, with_attribute}
-use Rattle.dom_model.specs.Output.{Change}
-use Rattle.dom_model.specs.Part.{Part, next_name}
-use Rattle.dom_model.specs.Steps.{Step, make, place, take_out, set_document, set_attribute, replace_data, queue_record, part_step, leave}
-use Rattle.dom_model.proofs.StepLaws.{owner-part_step}
-use Rattle.dom_model.proofs.OwnerLaws.{name_eq-true}
-use Rattle.dom_worlds.specs.Worlds.{AllNodes, IsShadowAt, IsRoot, IsPart, IsElementAt, IsHost, MayBeShadow, IsShadowOf, times_among, HasKinds}
+use Rattle.dom_base.proofs.Std.{◌≡◌, ◌≤◌, ◌<◌, Bool, true, false, List, Option, Some, None, refl, sym, ap, ◌∙◌, arith, true≢false, subst, ◌≢◌, [], ◌∷◌, find, ℕ}
+use Rattle.dom_base.proofs.Std.{unwrap_or, if◌then◌else◌, ⊤, AllByRecursion, option_map_or, cond-true, cond-false}
+use Rattle.dom_model.proofs.Model.{NodeName, Word, DomString, name_eq, is_in, Trees, none, tree, Node, parent_of, inclusive_descendants, times_in, nodes}
+use Rattle.dom_model.proofs.Model.{node_in, no_node, is_fragment, map_nodes, with_name, with_document, with_data_replaced, with_attribute, Change, Part}
+use Rattle.dom_model.proofs.Model.{next_name, Step, make, place, take_out, set_document, set_attribute, replace_data, queue_record, part_step, leave}
+use Rattle.dom_model.proofs.Model.{owner-part_step, name_eq-true, Owner, Fragment, Shadow}
+use Rattle.dom_worlds.specs.Definitions.{AllNodes, IsShadowAt, IsRoot, IsPart, IsElementAt, IsHost, MayBeShadow, IsShadowOf, times_among, HasKinds}
 use Rattle.dom_worlds.proofs.Lists.{by_cases, all-then, by_some}
-use Rattle.dom_laws.proofs.Counts.{by_times, times-here, times-elsewhere}
+use Rattle.dom_laws.proofs.Laws.{by_times, times-here, times-elsewhere}
 use Rattle.dom_worlds.proofs.Trees.{root-there}
 use Rattle.dom_worlds.proofs.TreeChangeLaws.{times-with_node, times-taken_out, times-placed, times-map_nodes, nodes-with_node, nodes-taken_out, nodes-placed}
 use Rattle.dom_worlds.proofs.TreeChangeLaws.{nodes-map_nodes, HasRoot, root-with_node, root-taken_out, root-placed, root-map_nodes, nodes-listed}
-use Rattle.std.proofs.lemmas.Bool.{cond-true, cond-false}
-use Rattle.dom_base.specs.declared.Owner.{Owner}
-use Rattle.dom_base.specs.declared.Kind.TheVariants.{Fragment, Shadow}
 use Rattle.dom_worlds.proofs.Turns.{IsAlike}
 
 -- A function on nodes that keeps names and kinds.

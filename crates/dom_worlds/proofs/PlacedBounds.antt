@@ -1,23 +1,12 @@
 -- Texts stay where no data are replaced, and a root that is placed is one child more for its parent.
-use Rattle.std.proofs.Common.{◌≡◌, ℕ, ◌+◌, Bool, true, false, not, List, [], ◌∷◌, ◌++◌, drop, length, Option, Some, None, refl, sym, ap, ◌∙◌, arith, true≢false}
-use Rattle.std.proofs.Common.{subst}
-use Rattle.std.specs.Prelude.{if◌then◌else◌, ⊤}
-use Rattle.std.specs.List.{AllByRecursion}
-use Rattle.std.specs.Option.{option_map_or}
-use Rattle.std.proofs.lemmas.Bool.{cond-true, cond-false}
-use Rattle.dom_base.specs.declared.NodeName.{NodeName}
-use Rattle.dom_model.specs.Names.{name_eq, is_in, is_empty}
-use Rattle.dom_model.specs.Tree.{Trees, Node, node_in, kind_of, is_fragment, children_of, parent_of, inclusive_descendants, roots}
-use Rattle.dom_model.specs.TreeChanges.{with_document}
-use Rattle.dom_model.specs.Output.{child_list}
-use Rattle.dom_model.specs.Part.{Part}
-use Rattle.dom_model.specs.Steps.{Step, place, take_out, set_document, part_step, after}
-use Rattle.dom_model.specs.Changes.{Plan, in_turn, steps_of, Observing, observed, suppressed, telling, removal_record, remove_plan, removing_from, has_document}
-use Rattle.dom_model.specs.Changes.{changing_document, adopt_plan, document_below, placed_nodes, emptying, making_room, placing, sibling_before}
-use Rattle.dom_model.specs.Changes.{inserting_nodes}
-use Rattle.dom_model.specs.Changes.{insert_plan}
-use Rattle.dom_model.proofs.OwnerLaws.{name_eq-same}
-use Rattle.dom_worlds.specs.Worlds.{IsPart}
+use Rattle.dom_base.proofs.Std.{◌≡◌, ℕ, ◌+◌, Bool, true, false, not, List, [], ◌∷◌, ◌++◌, drop, length, Option, Some, None, refl, sym, ap, ◌∙◌, arith}
+use Rattle.dom_base.proofs.Std.{true≢false, subst, if◌then◌else◌, ⊤, AllByRecursion, option_map_or, cond-true, cond-false}
+use Rattle.dom_model.proofs.Model.{NodeName, name_eq, is_in, is_empty, Trees, Node, node_in, kind_of, is_fragment, children_of, parent_of}
+use Rattle.dom_model.proofs.Model.{inclusive_descendants, roots, with_document, child_list, Part, Step, place, take_out, set_document, part_step, after, Plan}
+use Rattle.dom_model.proofs.Model.{in_turn, steps_of, Observing, observed, suppressed, telling, removal_record, remove_plan, removing_from, has_document}
+use Rattle.dom_model.proofs.Model.{changing_document, adopt_plan, document_below, placed_nodes, emptying, making_room, placing, sibling_before, inserting_nodes}
+use Rattle.dom_model.proofs.Model.{insert_plan, name_eq-same}
+use Rattle.dom_worlds.specs.Definitions.{IsPart}
 use Rattle.dom_worlds.proofs.ChildCounts.{kids, one_at, kids-placed, kids-map_nodes}
 use Rattle.dom_worlds.proofs.Roots.{node-taken_out, node-placed, node-map_nodes}
 use Rattle.dom_worlds.proofs.Lists.{all-then, either_way, all-from}

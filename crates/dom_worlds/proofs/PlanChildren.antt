@@ -1,25 +1,16 @@
 -- What holds of lists of steps one after another holds of insertions and of plans in turn; so plans leave the children that they do not name.
-use Rattle.std.proofs.Common.{◌++◌, ◌∷◌, [], Bool, false, length, List, None, Option, Some, true, ◌≡◌, ◌≤◌, ℕ, ◌-◌, not, sym, ap, ◌∙◌, arith, true≢false, subst}
-use Rattle.std.specs.List.{AllByRecursion}
-use Rattle.std.specs.Prelude.{if◌then◌else◌, ⊤, min}
-use Rattle.dom_base.specs.declared.NodeName.{NodeName}
-use Rattle.dom_model.specs.Changes.{emptying, in_turn, insert_plan, inserting_nodes, making_room, Observing, placed_nodes, placing, Plan, remove_plan}
-use Rattle.dom_model.specs.Changes.{sibling_before, steps_of, suppressed, telling, observed, removal_record, removing_from, has_document, changing_document}
-use Rattle.dom_model.specs.Changes.{adopt_plan, document_below}
-use Rattle.dom_model.specs.Names.{is_empty, DomString, name_eq}
-use Rattle.dom_model.specs.Output.{child_list}
-use Rattle.dom_model.specs.Part.{Part, next_name}
-use Rattle.dom_model.specs.Steps.{after, queue_record, Step, make, place, take_out, set_document, part_step}
-use Rattle.dom_model.specs.Tree.{is_fragment, kind_of, Trees, Node, node_in, children_of, parent_of}
-use Rattle.dom_worlds.specs.Worlds.{IsPart}
+use Rattle.dom_base.proofs.Std.{◌++◌, ◌∷◌, [], Bool, false, length, List, None, Option, Some, true, ◌≡◌, ◌≤◌, ℕ, ◌-◌, not, sym, ap, ◌∙◌, arith, true≢false}
+use Rattle.dom_base.proofs.Std.{subst, AllByRecursion, if◌then◌else◌, ⊤, min, option_map_or}
+use Rattle.dom_model.proofs.Model.{NodeName, emptying, in_turn, insert_plan, inserting_nodes, making_room, Observing, placed_nodes, placing, Plan, remove_plan}
+use Rattle.dom_model.proofs.Model.{sibling_before, steps_of, suppressed, telling, observed, removal_record, removing_from, has_document, changing_document}
+use Rattle.dom_model.proofs.Model.{adopt_plan, document_below, is_empty, DomString, name_eq, child_list, Part, next_name, after, queue_record, Step, make}
+use Rattle.dom_model.proofs.Model.{place, take_out, set_document, part_step, is_fragment, kind_of, Trees, Node, node_in, children_of, parent_of, with_name}
+use Rattle.dom_model.proofs.Model.{replacing_data, name_eq-same, name_eq-true}
+use Rattle.dom_worlds.specs.Definitions.{IsPart}
 use Rattle.dom_worlds.proofs.Lists.{all-from, all-then, either_way, by_cases, by_some_is}
 use Rattle.dom_worlds.proofs.PlanPlaces.{Changed, emptied_of, leads-each, leads-eased, leads-emptied, leads-making_room, leads-then, LeadsEach, may-still}
 use Rattle.dom_worlds.proofs.PlanPlaces.{MayGo, placed-may, placing-each, removing-each, may-place, taken-step, telling-trees, after-append, leads-removing}
 use Rattle.dom_worlds.proofs.PlanPlaces.{leads-adopting, leads-placing}
-use Rattle.std.specs.Option.{option_map_or}
-use Rattle.dom_model.specs.TreeChanges.{with_name}
-use Rattle.dom_model.specs.TextChanges.{replacing_data}
-use Rattle.dom_model.proofs.OwnerLaws.{name_eq-same, name_eq-true}
 use Rattle.dom_worlds.proofs.ChildPairs.{childs, childs-taken_out, childs-placed, child-placed, childs-with_node, childs-map_nodes, childs-parent}
 use Rattle.dom_worlds.proofs.ChildPairs.{children-childs}
 use Rattle.dom_worlds.proofs.ChildCounts.{root-below}

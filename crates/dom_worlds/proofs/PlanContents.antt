@@ -1,28 +1,17 @@
 -- The steps of the plans of extractions, deletions and insertions into ranges fit where they are made.
-use Rattle.std.proofs.Common.{◌≡◌, ◌≤◌, ℕ, ◌+◌, ◌-◌, Bool, true, false, not, List, [], ◌∷◌, ◌++◌, filter, Option, Some, None, unwrap_or, refl, sym, ap, ◌∙◌}
-use Rattle.std.proofs.Common.{arith, subst}
-use Rattle.std.specs.Prelude.{if◌then◌else◌, slice_get}
-use Rattle.std.specs.Option.{option_map_or, option_and_then}
-use Rattle.std.proofs.lemmas.Bool.{cond-true, cond-false}
-use Rattle.dom_base.specs.declared.NodeName.{NodeName}
-use Rattle.dom_model.specs.Names.{name_eq, last_of}
-use Rattle.dom_model.specs.Tree.{Trees, Node, node_in, kind_of, is_text, is_fragment, has_data, subtree, children_of, parent_of, root_of, index_of, times_in}
-use Rattle.dom_model.specs.Tree.{length_of, inclusive_ancestors, is_inclusive_ancestor}
-use Rattle.dom_model.specs.TreeChanges.{with_name}
-use Rattle.dom_model.specs.Part.{Part, next_name, range_at}
-use Rattle.dom_model.specs.Place.{Boundary}
-use Rattle.dom_model.specs.Ranges.{Range, at, from_to, is_collapsed}
-use Rattle.dom_model.specs.Steps.{Step, make, set_range, part_step, after}
-use Rattle.dom_model.specs.Changes.{◌and_then◌, in_turn, doing, steps_of, observed, remove_plan, insert_plan, reference_child, pre_insert_plan}
-use Rattle.dom_model.specs.TextChanges.{replacing_data, splitting}
-use Rattle.dom_model.specs.Extract.{Pieces, nothing, whole, cut, clone, cut_start, cut_end, pieces_of, common_ancestor, is_in_one_data, clone_part}
-use Rattle.dom_model.specs.Extract.{making_below, taking, new_fragment_node, own_document, new_place, behind_node, both_at, extracting}
-use Rattle.dom_model.specs.RangeOps.{cutting_data, outermost_contained, deleting_contents, deleting, insertion_parent, start_reference, ending_at}
-use Rattle.dom_model.specs.RangeOps.{inserting_before, inserting_at, inserting_into_range}
-use Rattle.dom_worlds.specs.Worlds.{IsPart}
-use Rattle.dom_worlds.specs.Tables.{EndsIn, HasTables}
+use Rattle.dom_base.proofs.Std.{◌≡◌, ◌≤◌, ℕ, ◌+◌, ◌-◌, Bool, true, false, not, List, [], ◌∷◌, ◌++◌, filter, Option, Some, None, unwrap_or, refl, sym, ap, ◌∙◌}
+use Rattle.dom_base.proofs.Std.{arith, subst, if◌then◌else◌, slice_get, option_map_or, option_and_then, cond-true, cond-false}
+use Rattle.dom_model.proofs.Model.{NodeName, name_eq, last_of, Trees, Node, node_in, kind_of, is_text, is_fragment, has_data, subtree, children_of, parent_of}
+use Rattle.dom_model.proofs.Model.{root_of, index_of, times_in, length_of, inclusive_ancestors, is_inclusive_ancestor, with_name, Part, next_name, range_at}
+use Rattle.dom_model.proofs.Model.{Boundary, Range, at, from_to, is_collapsed, Step, make, set_range, part_step, after, ◌and_then◌, in_turn, doing, steps_of}
+use Rattle.dom_model.proofs.Model.{observed, remove_plan, insert_plan, reference_child, pre_insert_plan, replacing_data, splitting, Pieces, whole, cut, clone}
+use Rattle.dom_model.proofs.Model.{cut_start, cut_end, pieces_of, common_ancestor, is_in_one_data, clone_part, making_below, taking, new_fragment_node}
+use Rattle.dom_model.proofs.Model.{own_document, new_place, behind_node, both_at, extracting, cutting_data, outermost_contained, deleting_contents, deleting}
+use Rattle.dom_model.proofs.Model.{insertion_parent, start_reference, ending_at, inserting_before, inserting_at, inserting_into_range}
+use Rattle.dom_model.specs.Extract.{nothing}
+use Rattle.dom_worlds.specs.Definitions.{IsPart, EndsIn, HasTables}
 use Rattle.dom_worlds.proofs.Lists.{all-filter, by_cases, either_way, at-each, by_some_is}
-use Rattle.dom_laws.proofs.Counts.{by_times, times_subtree}
+use Rattle.dom_laws.proofs.Laws.{by_times, times_subtree}
 use Rattle.dom_worlds.proofs.Trees.{ancestors-there}
 use Rattle.dom_worlds.proofs.TreeChangeLaws.{times-below, nodes-named}
 use Rattle.dom_worlds.proofs.PartSteps.{next-absent}

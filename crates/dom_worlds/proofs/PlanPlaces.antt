@@ -1,24 +1,16 @@
 -- The steps of plans fit where they are made: what is placed, is placed below a node that does not stand in its tree.
-use Rattle.std.proofs.Common.{◌≡◌, ◌≤◌, ℕ, Bool, true, false, not, List, [], ◌∷◌, ◌++◌, length, Option, Some, None, refl, sym, ap, ◌∙◌, arith, subst}
-use Rattle.std.specs.Prelude.{if◌then◌else◌, ⊤}
-use Rattle.std.specs.List.{AllByRecursion}
-use Rattle.std.specs.Option.{option_map_or}
-use Rattle.dom_base.specs.declared.NodeName.{NodeName}
-use Rattle.dom_model.specs.Names.{name_eq, is_empty}
-use Rattle.dom_model.specs.Tree.{Trees, Node, node_in, kind_of, is_fragment, subtree, children_of, parent_of, index_of, times_in}
-use Rattle.dom_model.specs.TreeChanges.{without, map_nodes, with_name}
-use Rattle.dom_model.specs.Output.{Change, child_list}
-use Rattle.dom_model.specs.Part.{Part, next_name}
-use Rattle.dom_model.specs.Steps.{Step, make, make_room, place, take_out, set_document, set_attribute, replace_data, queue_record, part_step, leave, after}
-use Rattle.dom_model.specs.Changes.{Plan, in_turn, steps_of, Observing, observed, suppressed, telling, removal_record, remove_plan, removing_from, has_document}
-use Rattle.dom_model.specs.Changes.{changing_document, adopt_plan, document_below, placed_nodes, emptying, making_room, placing, sibling_before, insert_plan}
-use Rattle.dom_model.proofs.StepLaws.{owner-part_step}
-use Rattle.dom_model.proofs.OwnerLaws.{name_eq-true}
-use Rattle.dom_worlds.specs.Worlds.{IsPart}
+use Rattle.dom_base.proofs.Std.{◌≡◌, ◌≤◌, ℕ, Bool, true, false, not, List, [], ◌∷◌, ◌++◌, length, Option, Some, None, refl, sym, ap, ◌∙◌, arith, subst}
+use Rattle.dom_base.proofs.Std.{if◌then◌else◌, ⊤, AllByRecursion, option_map_or}
+use Rattle.dom_model.proofs.Model.{NodeName, name_eq, is_empty, Trees, Node, node_in, kind_of, is_fragment, subtree, children_of, parent_of, index_of, times_in}
+use Rattle.dom_model.proofs.Model.{without, map_nodes, with_name, Change, child_list, Part, next_name, Step, make, make_room, place, take_out, set_document}
+use Rattle.dom_model.proofs.Model.{set_attribute, replace_data, queue_record, part_step, leave, after, Plan, in_turn, steps_of, Observing, observed, suppressed}
+use Rattle.dom_model.proofs.Model.{telling, removal_record, remove_plan, removing_from, has_document, changing_document, adopt_plan, document_below}
+use Rattle.dom_model.proofs.Model.{placed_nodes, emptying, making_room, placing, sibling_before, insert_plan, owner-part_step, name_eq-true}
+use Rattle.dom_worlds.specs.Definitions.{IsPart}
 use Rattle.dom_worlds.proofs.Roots.{node-taken_out, node-placed, node-with_node, node-map_nodes}
 use Rattle.dom_worlds.proofs.Lists.{all-then, all-from, by_cases, either_way, by_some, by_some_is}
 use Rattle.dom_worlds.proofs.TreeChangeLaws.{HasRoot, root-put_root_new, root-subtree, root-map_nodes}
-use Rattle.dom_laws.proofs.Counts.{times_subtree}
+use Rattle.dom_laws.proofs.Laws.{times_subtree}
 use Rattle.dom_worlds.proofs.PartSteps.{KeepsNames, part-step, next-absent, count-grows, attribute_put, attribute_put-keeps, data_put, data_put-keeps}
 use Rattle.dom_worlds.proofs.PartSteps.{document_put, document_put-keeps}
 use Rattle.dom_worlds.proofs.TableSteps.{fits-place, HasNode, Fits, MadeIn, stays-step}

@@ -1,23 +1,13 @@
 -- What stands in the tree of a node that no step takes out keeps to it: the start of a live range through an insertion.
-use Rattle.std.proofs.Common.{zero, suc, ◌≡◌, ℕ, ◌-◌, not, List, [], ◌∷◌, ◌++◌, drop, map, length, Option, Some, None, option_map, unwrap_or, refl, sym, ◌∙◌}
-use Rattle.std.proofs.Common.{arith, subst}
-use Rattle.std.specs.Prelude.{⊤, slice_get}
-use Rattle.std.specs.Option.{option_map_or, option_flatten}
-use Rattle.dom_base.specs.declared.NodeName.{NodeName}
-use Rattle.dom_model.specs.Names.{name_eq}
-use Rattle.dom_model.specs.Tree.{Trees, node_in, parent_of, root_of, index_of, next_sibling, is_inclusive_ancestor}
-use Rattle.dom_model.specs.TreeChanges.{taken_out}
-use Rattle.dom_model.specs.Output.{child_list}
-use Rattle.dom_model.specs.Part.{Part, next_name, range_at}
-use Rattle.dom_model.specs.Place.{Boundary}
-use Rattle.dom_model.specs.Ranges.{Range, map_ends, after_insert, after_removal, after_replace_data, after_split, after_join}
-use Rattle.dom_model.specs.Steps.{Step, make, make_room, place, take_out, set_document, set_attribute, replace_data, split_at, join_at, set_range, queue_record}
-use Rattle.dom_model.specs.Steps.{part_step, leave, with_ends, after}
-use Rattle.dom_model.specs.Changes.{Observing, observed, suppressed, telling, remove_plan, removing_from, has_document, changing_document, adopt_plan}
-use Rattle.dom_model.specs.Changes.{document_below, placed_nodes, making_room, placing, sibling_before, insert_plan}
-use Rattle.dom_model.specs.TextChanges.{replacing_data, new_text_node, placing_tail, splitting}
-use Rattle.dom_worlds.specs.Worlds.{IsPart}
-use Rattle.dom_worlds.specs.Tables.{IsNodeIn, EndsIn, HasTables}
+use Rattle.dom_base.proofs.Std.{zero, suc, ◌≡◌, ℕ, ◌-◌, not, List, [], ◌∷◌, ◌++◌, drop, map, length, Option, Some, None, option_map, unwrap_or, refl, sym, ◌∙◌}
+use Rattle.dom_base.proofs.Std.{arith, subst, ⊤, slice_get, option_map_or, option_flatten}
+use Rattle.dom_model.proofs.Model.{NodeName, name_eq, Trees, node_in, parent_of, root_of, index_of, next_sibling, is_inclusive_ancestor, taken_out, child_list}
+use Rattle.dom_model.proofs.Model.{Part, next_name, range_at, Boundary, Range, map_ends, after_insert, after_removal, after_replace_data, after_split}
+use Rattle.dom_model.proofs.Model.{after_join, Step, make, make_room, place, take_out, set_document, set_attribute, replace_data, split_at, join_at, set_range}
+use Rattle.dom_model.proofs.Model.{queue_record, part_step, leave, with_ends, after, Observing, observed, suppressed, telling, remove_plan, removing_from}
+use Rattle.dom_model.proofs.Model.{has_document, changing_document, adopt_plan, document_below, placed_nodes, making_room, placing, sibling_before, insert_plan}
+use Rattle.dom_model.proofs.Model.{replacing_data, new_text_node, placing_tail, splitting}
+use Rattle.dom_worlds.specs.Definitions.{IsPart, IsNodeIn, EndsIn, HasTables}
 use Rattle.dom_worlds.proofs.Insides.{inside}
 use Rattle.dom_worlds.proofs.InsideAncestors.{times-has_node, parent-there}
 use Rattle.dom_worlds.proofs.KindLines.{has_node-times}

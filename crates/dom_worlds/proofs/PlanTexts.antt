@@ -1,30 +1,21 @@
 -- The steps of the plans of replacements, data, text and ranges fit where they are made.
-use Rattle.std.proofs.Common.{◌≡◌, ◌≤◌, ℕ, ◌+◌, ◌-◌, Bool, true, false, not, ◌&&◌, List, [], ◌∷◌, ◌++◌, map, filter, flat_map, drop, length, Option, Some, None}
-use Rattle.std.proofs.Common.{refl, sym, ap, ◌∙◌, arith, subst}
-use Rattle.std.specs.Prelude.{if◌then◌else◌, ⊤, ◌==◌, min}
-use Rattle.std.specs.List.{AllByRecursion}
-use Rattle.std.specs.Option.{option_map_or}
-use Rattle.dom_base.specs.declared.NodeName.{NodeName}
-use Rattle.dom_model.specs.Names.{Word, DomString, name_eq, is_empty, items_after}
-use Rattle.dom_model.specs.Tree.{Trees, none, Node, node_in, kind_of, is_text, is_document, is_fragment, has_data, subtree, children_of, parent_of, times_in}
-use Rattle.dom_model.specs.Tree.{root_of, siblings, previous_sibling, next_sibling, index_of, length_of, attribute_value, descendants, inclusive_descendants}
-use Rattle.dom_model.specs.Tree.{nodes}
-use Rattle.dom_model.specs.TreeChanges.{with_name}
-use Rattle.dom_model.specs.Output.{child_list, attributes, character_data}
-use Rattle.dom_model.specs.Part.{Part, next_name}
-use Rattle.dom_model.specs.Steps.{Step, make, set_attribute, replace_data, split_at, join_at, queue_record, part_step, after}
-use Rattle.dom_model.specs.Changes.{Plan, ◌and_then◌, in_turn, doing, steps_of, only_if, Observing, observed, suppressed, remove_plan, document_below}
-use Rattle.dom_model.specs.Changes.{placed_nodes, insert_plan, reference_child, replace_plan, setting_attribute, unsetting_attribute}
-use Rattle.dom_model.specs.TextChanges.{replacing_data, new_text_node, replacing_all_data, placing_tail, splitting, contiguous_texts_after, joins, joining}
-use Rattle.dom_model.specs.TextChanges.{normalizing_text, normalizing, replacing_children, setting_text}
-use Rattle.dom_model.proofs.OwnerLaws.{name_eq-same, name_eq-true}
-use Rattle.dom_worlds.specs.Worlds.{IsPart}
+use Rattle.dom_base.proofs.Std.{◌≡◌, ◌≤◌, ℕ, ◌+◌, ◌-◌, Bool, true, false, not, ◌&&◌, List, [], ◌∷◌, ◌++◌, map, filter, flat_map, drop, length, Option, Some}
+use Rattle.dom_base.proofs.Std.{None, refl, sym, ap, ◌∙◌, arith, subst, if◌then◌else◌, ⊤, ◌==◌, min, AllByRecursion, option_map_or}
+use Rattle.dom_model.proofs.Model.{NodeName, Word, DomString, name_eq, is_empty, items_after, Trees, none, Node, node_in, kind_of, is_text, is_document}
+use Rattle.dom_model.proofs.Model.{is_fragment, has_data, subtree, children_of, parent_of, times_in, root_of, siblings, previous_sibling, next_sibling}
+use Rattle.dom_model.proofs.Model.{index_of, length_of, attribute_value, descendants, inclusive_descendants, nodes, with_name, child_list, attributes}
+use Rattle.dom_model.proofs.Model.{character_data, Part, next_name, Step, make, set_attribute, replace_data, split_at, join_at, queue_record, part_step, after}
+use Rattle.dom_model.proofs.Model.{Plan, ◌and_then◌, in_turn, doing, steps_of, only_if, Observing, observed, suppressed, remove_plan, document_below}
+use Rattle.dom_model.proofs.Model.{placed_nodes, insert_plan, reference_child, replace_plan, setting_attribute, unsetting_attribute, replacing_data}
+use Rattle.dom_model.proofs.Model.{new_text_node, replacing_all_data, placing_tail, splitting, contiguous_texts_after, joins, joining, normalizing_text}
+use Rattle.dom_model.proofs.Model.{normalizing, replacing_children, setting_text, name_eq-same, name_eq-true}
+use Rattle.dom_worlds.specs.Definitions.{IsPart}
 use Rattle.dom_worlds.proofs.ChildPairs.{children-childs}
 use Rattle.dom_worlds.proofs.Lists.{all-dropped, all-then, all-from, all-map, all-filter, all-take_while, by_cases}
 use Rattle.dom_worlds.proofs.Roots.{node-new, root-parent_of}
 use Rattle.dom_worlds.proofs.PlanChildren.{IsOtherChild, IsChild, parent-child, child-parent, child-make, child-inserting, child-inserted, child-replacing_data}
 use Rattle.dom_worlds.proofs.TableRecords.{after-all}
-use Rattle.dom_laws.proofs.Counts.{times-here, times_subtree}
+use Rattle.dom_laws.proofs.Laws.{times-here, times_subtree}
 use Rattle.dom_worlds.proofs.Trees.{nodes-there}
 use Rattle.dom_worlds.proofs.TreeChangeLaws.{times-with_node}
 use Rattle.dom_worlds.proofs.PartSteps.{next-absent}

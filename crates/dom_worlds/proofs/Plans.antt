@@ -1,29 +1,19 @@
 -- What the plans of commands keep: an invariant of a part that is kept by the steps that they make.
-use Rattle.std.proofs.Common.{ℕ, ◌+◌, ◌-◌, Bool, true, false, not, ◌&&◌, List, [], ◌∷◌, length, map, filter, drop, flat_map, Option, Some, None}
-use Rattle.std.specs.Prelude.{if◌then◌else◌, ⊤, ◌==◌, min}
-use Rattle.std.specs.List.{AllByRecursion}
-use Rattle.std.specs.Option.{option_map_or}
-use Rattle.dom_base.specs.declared.NodeName.{NodeName}
-use Rattle.dom_model.specs.Names.{Word, DomString, name_eq, is_empty}
-use Rattle.dom_model.specs.Tree.{Trees, Node, node_in, kind_of, is_text, is_document, is_fragment, has_data, children_of, parent_of, previous_sibling}
-use Rattle.dom_model.specs.Tree.{next_sibling, index_of, length_of, attribute_value, descendants}
-use Rattle.dom_model.specs.TreeChanges.{with_name}
-use Rattle.dom_model.specs.Output.{Change, child_list, attributes, character_data}
-use Rattle.dom_model.specs.Part.{Part, next_name, range_at}
-use Rattle.dom_model.specs.Place.{Boundary}
-use Rattle.dom_model.specs.Ranges.{Range, from_to, is_collapsed}
-use Rattle.dom_model.specs.Steps.{Step, make, make_room, place, take_out, set_document, set_attribute, replace_data, split_at, join_at, set_range, queue_record}
-use Rattle.dom_model.specs.Steps.{part_step, after}
-use Rattle.dom_model.specs.Changes.{Plan, ◌and_then◌, in_turn, doing, steps_of, only_if, Observing, observed, suppressed, telling, removal_record, remove_plan}
-use Rattle.dom_model.specs.Changes.{removing_from, has_document, changing_document, adopt_plan, document_below, placed_nodes, emptying, making_room, placing}
-use Rattle.dom_model.specs.Changes.{sibling_before, inserting_nodes, insert_plan, reference_child, pre_insert_plan, replace_plan, setting_attribute}
-use Rattle.dom_model.specs.Changes.{unsetting_attribute}
-use Rattle.dom_model.specs.TextChanges.{replacing_data, new_text_node, replacing_all_data, placing_tail, splitting, contiguous_texts_after, joins, joining}
-use Rattle.dom_model.specs.TextChanges.{normalizing_text, normalizing, replacing_children, setting_text}
-use Rattle.dom_model.specs.Extract.{Pieces, nothing, whole, cut, clone, cut_start, cut_end, pieces_of, is_in_one_data, clone_part, making_below, taking}
-use Rattle.dom_model.specs.Extract.{new_fragment_node, own_document, new_place, both_at, extracting}
-use Rattle.dom_model.specs.RangeOps.{cutting_data, outermost_contained, deleting_contents, deleting, insertion_parent, start_reference, ending_at}
-use Rattle.dom_model.specs.RangeOps.{inserting_before, inserting_at, inserting_into_range}
+use Rattle.dom_base.proofs.Std.{ℕ, ◌+◌, ◌-◌, Bool, true, false, not, ◌&&◌, List, [], ◌∷◌, length, map, filter, drop, flat_map, Option, Some, None}
+use Rattle.dom_base.proofs.Std.{if◌then◌else◌, ⊤, ◌==◌, min, AllByRecursion, option_map_or}
+use Rattle.dom_model.proofs.Model.{NodeName, Word, DomString, name_eq, is_empty, Trees, Node, node_in, kind_of, is_text, is_document, is_fragment, has_data}
+use Rattle.dom_model.proofs.Model.{children_of, parent_of, previous_sibling, next_sibling, index_of, length_of, attribute_value, descendants, with_name, Change}
+use Rattle.dom_model.proofs.Model.{child_list, attributes, character_data, Part, next_name, range_at, Boundary, Range, from_to, is_collapsed, Step, make}
+use Rattle.dom_model.proofs.Model.{make_room, place, take_out, set_document, set_attribute, replace_data, split_at, join_at, set_range, queue_record, part_step}
+use Rattle.dom_model.proofs.Model.{after, Plan, ◌and_then◌, in_turn, doing, steps_of, only_if, Observing, observed, suppressed, telling, removal_record}
+use Rattle.dom_model.proofs.Model.{remove_plan, removing_from, has_document, changing_document, adopt_plan, document_below, placed_nodes, emptying, making_room}
+use Rattle.dom_model.proofs.Model.{placing, sibling_before, inserting_nodes, insert_plan, reference_child, pre_insert_plan, replace_plan, setting_attribute}
+use Rattle.dom_model.proofs.Model.{unsetting_attribute, replacing_data, new_text_node, replacing_all_data, placing_tail, splitting, contiguous_texts_after}
+use Rattle.dom_model.proofs.Model.{joins, joining, normalizing_text, normalizing, replacing_children, setting_text, Pieces, whole, cut, clone, cut_start}
+use Rattle.dom_model.proofs.Model.{cut_end, pieces_of, is_in_one_data, clone_part, making_below, taking, new_fragment_node, own_document, new_place, both_at}
+use Rattle.dom_model.proofs.Model.{extracting, cutting_data, outermost_contained, deleting_contents, deleting, insertion_parent, start_reference, ending_at}
+use Rattle.dom_model.proofs.Model.{inserting_before, inserting_at, inserting_into_range}
+use Rattle.dom_model.specs.Extract.{nothing}
 use Rattle.dom_worlds.proofs.Lists.{all-append, all-from, all-then, by_some}
 
 -- What is known of the nodes of pieces: W of those that are taken whole, C of those that are cut, K of those that are cloned.

@@ -1,20 +1,14 @@
 -- Plans keep the ends of ranges within their nodes; what extractions and deletions ask of the nodes that they take.
-use Rattle.std.proofs.Common.{◌≡◌, ◌≤◌, ℕ, ◌+◌, Bool, true, false, not, List, [], ◌∷◌, ◌++◌, length, Option, Some, None, sym, ap, ◌∙◌, arith, subst, ◌-◌, refl}
-use Rattle.std.specs.Prelude.{if◌then◌else◌}
-use Rattle.std.specs.List.{AllByRecursion}
-use Rattle.std.specs.Option.{option_map_or}
-use Rattle.std.proofs.lemmas.Bool.{cond-true, cond-false}
-use Rattle.dom_base.specs.declared.NodeName.{NodeName}
-use Rattle.dom_model.specs.Names.{Word, DomString, name_eq, is_empty}
-use Rattle.dom_model.specs.Tree.{node_in, kind_of, is_fragment, has_data, parent_of, next_sibling, previous_sibling, index_of, attribute_value, Node}
-use Rattle.dom_model.specs.Output.{Change, child_list, attributes, character_data}
-use Rattle.dom_model.specs.Part.{Part, next_name}
-use Rattle.dom_model.specs.Steps.{Step, place, take_out, set_document, set_attribute, queue_record, part_step, after, make}
-use Rattle.dom_model.specs.Changes.{Plan, ◌and_then◌, in_turn, steps_of, Observing, observed, suppressed, telling, removal_record, remove_plan, removing_from}
-use Rattle.dom_model.specs.Changes.{has_document, changing_document, adopt_plan, document_below, placed_nodes, emptying, making_room, placing, sibling_before}
-use Rattle.dom_model.specs.Changes.{inserting_nodes, insert_plan, reference_child, replace_plan, setting_attribute, unsetting_attribute}
-use Rattle.dom_model.specs.TextChanges.{replacing_data}
-use Rattle.dom_worlds.specs.Worlds.{IsPart}
+use Rattle.dom_base.proofs.Std.{◌≡◌, ◌≤◌, ℕ, ◌+◌, Bool, true, false, not, List, [], ◌∷◌, ◌++◌, length, Option, Some, None, sym, ap, ◌∙◌, arith, subst, ◌-◌}
+use Rattle.dom_base.proofs.Std.{refl, if◌then◌else◌, AllByRecursion, option_map_or, cond-true, cond-false}
+use Rattle.dom_model.proofs.Model.{NodeName, Word, DomString, name_eq, is_empty, node_in, kind_of, is_fragment, has_data, parent_of, next_sibling}
+use Rattle.dom_model.proofs.Model.{previous_sibling, index_of, attribute_value, Node, Change, child_list, attributes, character_data, Part, next_name, Step}
+use Rattle.dom_model.proofs.Model.{place, take_out, set_document, set_attribute, queue_record, part_step, after, make, Plan, ◌and_then◌, in_turn, steps_of}
+use Rattle.dom_model.proofs.Model.{Observing, observed, suppressed, telling, removal_record, remove_plan, removing_from, has_document, changing_document}
+use Rattle.dom_model.proofs.Model.{adopt_plan, document_below, placed_nodes, emptying, making_room, placing, sibling_before, inserting_nodes, insert_plan}
+use Rattle.dom_model.proofs.Model.{reference_child, replace_plan, setting_attribute, unsetting_attribute, replacing_data, with_name, Pieces, whole, cut, clone}
+use Rattle.dom_model.proofs.Model.{clone_part, making_below, taking}
+use Rattle.dom_worlds.specs.Definitions.{IsPart}
 use Rattle.dom_worlds.proofs.Bounds.{IsRoomy, nowhere, at_node, HasRoom, room-more, room-place, room-document, room-attribute, room-record, room-made}
 use Rattle.dom_worlds.proofs.Bounds.{room-take, room-replace, room-make}
 use Rattle.dom_worlds.proofs.ChildCounts.{one_at}
@@ -23,8 +17,7 @@ use Rattle.dom_worlds.proofs.PlanPlaces.{may-place, Changed, Leads, MayGo, may-s
 use Rattle.dom_worlds.proofs.PlanPlaces.{leads-one, leads-removing, leads-adopting, leads-placing, still}
 use Rattle.dom_worlds.proofs.PlanPlaces.{leads-inserting, roomed, leads-roomed, roomed-may}
 use Rattle.dom_worlds.proofs.TableSteps.{HasNode}
-use Rattle.dom_model.specs.TreeChanges.{with_name}
-use Rattle.dom_model.specs.Extract.{Pieces, nothing, whole, cut, clone, clone_part, making_below, taking}
+use Rattle.dom_model.specs.Extract.{nothing}
 use Rattle.dom_worlds.proofs.ChildPairs.{childs-parent}
 use Rattle.dom_worlds.proofs.Roots.{node-new}
 use Rattle.dom_worlds.proofs.PartSteps.{next-absent}

@@ -1,29 +1,15 @@
 -- Insertions into a range keep the ends of ranges within their nodes.
-use Rattle.std.proofs.Common.{◌≡◌, ◌≤◌, ℕ, ◌+◌, ◌-◌, Bool, true, false, ◌&&◌, ◌||◌, List, [], ◌∷◌, ◌++◌, drop, length, Option, Some, None, unwrap_or, refl, sym}
-use Rattle.std.proofs.Common.{ap, ◌∙◌, arith, true≢false, subst}
-use Rattle.std.specs.Prelude.{if◌then◌else◌, slice_get}
-use Rattle.std.specs.List.{AllByRecursion}
-use Rattle.std.specs.Option.{option_map_or, option_and_then}
-use Rattle.std.proofs.lemmas.Bool.{cond-true, cond-false}
-use Rattle.dom_base.specs.declared.Kind.{Kind}
-use Rattle.dom_base.specs.declared.NodeName.{NodeName}
-use Rattle.dom_model.specs.Names.{name_eq, is_empty, first_of, items_after}
-use Rattle.dom_model.specs.Tree.{Trees, Node, node_in, kind_of, is_text, is_fragment, has_data, children_of, ancestors, parent_of, next_sibling, index_of}
-use Rattle.dom_model.specs.Tree.{length_of}
-use Rattle.dom_model.specs.TreeChanges.{taken_out}
-use Rattle.dom_model.specs.Output.{child_list}
-use Rattle.dom_model.specs.Part.{Part, next_name, range_at}
-use Rattle.dom_model.specs.Place.{Boundary}
-use Rattle.dom_model.specs.Ranges.{Range, at, from_to, is_collapsed}
-use Rattle.dom_model.specs.Steps.{make, take_out, split_at, set_range, queue_record, part_step, after}
-use Rattle.dom_model.specs.Changes.{Plan, ◌and_then◌, in_turn, steps_of, Observing, observed, suppressed, removal_record, remove_plan, removing_from}
-use Rattle.dom_model.specs.Changes.{placed_nodes}
-use Rattle.dom_model.specs.Changes.{emptying, insert_plan, reference_child}
-use Rattle.dom_model.specs.TextChanges.{replacing_data, new_text_node, placing_tail, splitting}
-use Rattle.dom_model.specs.RangeOps.{start_reference, insertion_parent, is_comment, cannot_take_node, ending_at, inserting_before, inserting_at}
-use Rattle.dom_model.specs.RangeOps.{inserting_into_range}
-use Rattle.dom_model.proofs.OwnerLaws.{name_eq-same, name_eq-true, name_eq-turned}
-use Rattle.dom_worlds.specs.Worlds.{times_among, IsPart}
+use Rattle.dom_base.proofs.Std.{◌≡◌, ◌≤◌, ℕ, ◌+◌, ◌-◌, Bool, true, false, ◌&&◌, ◌||◌, List, [], ◌∷◌, ◌++◌, drop, length, Option, Some, None, unwrap_or, refl}
+use Rattle.dom_base.proofs.Std.{sym, ap, ◌∙◌, arith, true≢false, subst, if◌then◌else◌, slice_get, AllByRecursion, option_map_or, option_and_then, cond-true}
+use Rattle.dom_base.proofs.Std.{cond-false}
+use Rattle.dom_model.proofs.Model.{Kind, NodeName, name_eq, is_empty, first_of, items_after, Trees, Node, node_in, kind_of, is_text, is_fragment, has_data}
+use Rattle.dom_model.proofs.Model.{children_of, ancestors, parent_of, next_sibling, index_of, length_of, taken_out, child_list, Part, next_name, range_at}
+use Rattle.dom_model.proofs.Model.{Boundary, Range, at, from_to, is_collapsed, make, take_out, split_at, set_range, queue_record, part_step, after, Plan}
+use Rattle.dom_model.proofs.Model.{◌and_then◌, in_turn, steps_of, Observing, observed, suppressed, removal_record, remove_plan, removing_from, placed_nodes}
+use Rattle.dom_model.proofs.Model.{emptying, insert_plan, reference_child, replacing_data, new_text_node, placing_tail, splitting, start_reference}
+use Rattle.dom_model.proofs.Model.{insertion_parent, is_comment, cannot_take_node, ending_at, inserting_before, inserting_at, inserting_into_range}
+use Rattle.dom_model.proofs.Model.{name_eq-same, name_eq-true, name_eq-turned}
+use Rattle.dom_worlds.specs.Definitions.{times_among, IsPart}
 use Rattle.dom_worlds.proofs.BoundLines.{under-at}
 use Rattle.dom_worlds.proofs.Bounds.{IsRoomy, RangeUnder, reach, nowhere, HasRoom, room-set}
 use Rattle.dom_worlds.proofs.ChildPairs.{children-childs}

@@ -1,19 +1,14 @@
 -- Ends of ranges and their contents: deletions keep the ends within their nodes.
-use Rattle.std.proofs.Common.{zero, suc, ◌≡◌, ◌≤◌, ℕ, true, false, not, List, [], ◌∷◌, ◌++◌, filter, take, length, Option, Some, None, unwrap_or, refl, sym, ap}
-use Rattle.std.proofs.Common.{◌∙◌, arith, true≢false, subst, length-append, length-take, ◌-◌, Bool, ◌&&◌}
-use Rattle.std.specs.List.{AllByRecursion}
-use Rattle.std.specs.Option.{option_map_or}
-use Rattle.std.proofs.lemmas.Bool.{cond-true, cond-false, not-true, and_parts}
-use Rattle.dom_base.specs.declared.NodeName.{NodeName}
-use Rattle.dom_model.specs.Names.{name_eq, is_in, last_of, items_before}
-use Rattle.dom_model.specs.Tree.{Trees, subtree, trees_below, children_of, parent_of, index_of, length_of, times_in, inclusive_ancestors, is_inclusive_ancestor}
-use Rattle.dom_model.specs.Tree.{root_of, Node, node_in, kind_of, has_data, names_of, nodes}
-use Rattle.dom_model.specs.Part.{Part}
-use Rattle.dom_model.specs.Place.{Boundary, same_root, is_before}
-use Rattle.dom_model.specs.Ranges.{Range, at, is_collapsed, is_contained}
-use Rattle.dom_model.specs.Extract.{new_place, behind_node, cut_start, cut_end, is_in_one_data, both_at}
-use Rattle.dom_model.proofs.OwnerLaws.{name_eq-true, name_eq-same}
-use Rattle.dom_worlds.specs.Worlds.{times_among, IsPart}
+use Rattle.dom_base.proofs.Std.{zero, suc, ◌≡◌, ◌≤◌, ℕ, true, false, not, List, [], ◌∷◌, ◌++◌, filter, take, length, Option, Some, None, unwrap_or, refl, sym}
+use Rattle.dom_base.proofs.Std.{ap, ◌∙◌, arith, true≢false, subst, length-append, length-take, ◌-◌, Bool, ◌&&◌, AllByRecursion, option_map_or, cond-true}
+use Rattle.dom_base.proofs.Std.{cond-false, not-true, and_parts, if◌then◌else◌, min}
+use Rattle.dom_model.proofs.Model.{NodeName, name_eq, is_in, last_of, items_before, Trees, subtree, trees_below, children_of, parent_of, index_of, length_of}
+use Rattle.dom_model.proofs.Model.{times_in, inclusive_ancestors, is_inclusive_ancestor, root_of, Node, node_in, kind_of, has_data, names_of, nodes, Part}
+use Rattle.dom_model.proofs.Model.{Boundary, same_root, is_before, Range, at, is_collapsed, is_contained, new_place, behind_node, cut_start, cut_end}
+use Rattle.dom_model.proofs.Model.{is_in_one_data, both_at, name_eq-true, name_eq-same, character_data, Step, set_range, queue_record, part_step, after, Plan}
+use Rattle.dom_model.proofs.Model.{◌and_then◌, in_turn, doing, steps_of, observed, remove_plan, replacing_data, cutting_data, outermost_contained}
+use Rattle.dom_model.proofs.Model.{deleting_contents, deleting}
+use Rattle.dom_worlds.specs.Definitions.{times_among, IsPart}
 use Rattle.dom_worlds.proofs.Bounds.{IsRoomy, nowhere, HasRoom, room-set}
 use Rattle.dom_worlds.proofs.ChildPairs.{children-childs, held-length}
 use Rattle.dom_worlds.proofs.Contained.{IsSpared, spared-first, spared-up_to, below-rest}
@@ -29,12 +24,6 @@ use Rattle.dom_worlds.proofs.TableRecords.{IfSome, last-all, before-all, inside-
 use Rattle.dom_worlds.proofs.Lists.{all-append, all-then, by_cases, or-later, all-passed, either_way}
 use Rattle.dom_worlds.proofs.TextBounds.{children-among, kids-open, replaced-here}
 use Rattle.dom_worlds.proofs.Trees.{ancestors-root, ancestors-there, all-in}
-use Rattle.std.specs.Prelude.{if◌then◌else◌, min}
-use Rattle.dom_model.specs.Output.{character_data}
-use Rattle.dom_model.specs.Steps.{Step, set_range, queue_record, part_step, after}
-use Rattle.dom_model.specs.Changes.{Plan, ◌and_then◌, in_turn, doing, steps_of, observed, remove_plan}
-use Rattle.dom_model.specs.TextChanges.{replacing_data}
-use Rattle.dom_model.specs.RangeOps.{cutting_data, outermost_contained, deleting_contents, deleting}
 use Rattle.dom_worlds.proofs.PlanPlaces.{Changed, still, after-append, leads-nothing}
 use Rattle.dom_worlds.proofs.PlanTexts.{leads-removals, leads-replacing_data}
 use Rattle.dom_worlds.proofs.Bounds as bounds

@@ -1,31 +1,19 @@
 -- What holds of every world that the machine reaches, all in one; and what follows of shadow roots, hosts, slots and who is there.
-use Rattle.std.proofs.Common.{◌≡◌, ◌≢◌, ℕ, suc, Bool, false, List, [], ◌∷◌, ◌++◌, length, filter, Some, refl, sym, ap, ◌∙◌, arith, subst, append-nil}
-use Rattle.std.proofs.Common.{length-append, ◌≤◌, true, true≢false, not, map, zero, ◌+◌, ◌<◌, position, Option, None, option_map}
-use Rattle.std.specs.Prelude.{is_none, option_to_list, is_some, slice_get, nat_lt, cond, drop}
-use Rattle.std.specs.Option.{option_map_or, option_and_then}
-use Rattle.std.proofs.lemmas.Bool.{cond-true, cond-false, false_from_ne_true, and_parts, not-true, lt-ltb}
-use Rattle.std.proofs.lemmas.List.Elements.{filter-append}
-use Rattle.dom_base.specs.declared.Owner.{Owner}
-use Rattle.dom_base.specs.declared.Owner.TheVariants.{Page, Component}
-use Rattle.dom_base.specs.declared.NodeName.{NodeName}
-use Rattle.dom_base.specs.declared.Kind.TheVariants.{Shadow}
-use Rattle.dom_model.specs.Names.{owner_eq, first_of, name_eq, is_in}
-use Rattle.dom_model.specs.Tree.{node_in, names_of, roots, trees_below, subtree, children_of, times_in, Trees, none, tree, nodes, has_node, inclusive_ancestors}
-use Rattle.dom_model.specs.Tree.{on_top}
-use Rattle.dom_model.specs.CommandNames.{named}
-use Rattle.dom_model.specs.DocumentMachine.{first_world, part_with_root, effect_in, attaching, step, run_lines, finish}
-use Rattle.dom_model.specs.Effects.{Effect, tables, changes}
-use Rattle.dom_model.specs.Part.{Part}
-use Rattle.dom_model.specs.World.{World, micro_task, part_of, with_part, is_there, component_made, made_by, MayAttach, trees_with, some_if, root_at}
-use Rattle.dom_model.specs.World.{shadow_root_of, host_of}
-use Rattle.dom_model.proofs.OwnerLaws.{ne-owner_eq, made_by-made, component_made-other, owner_eq-true, owner_eq-false, name_eq-same, made_by-is, word-made}
-use Rattle.dom_model.proofs.OwnerLaws.{name_eq-turned}
-use Rattle.dom_model.proofs.PartLaws.{owner-part_of}
-use Rattle.dom_worlds.specs.Reached.{Invariant, IsReached, FirstIsReached, StepKeepsReached, EndingKeepsReached, FinishKeepsReached, ScriptsReach}
-use Rattle.dom_worlds.specs.Reached.{QuietScriptsReach, AssignedAreSiblings, ShadowRootsAreRoots, NoOtherShadowRoots, AttachedAreThere, OwnersHaveWords}
-use Rattle.dom_worlds.specs.Reached.{HostsAreTheirs}
-use Rattle.dom_worlds.specs.Worlds.{owners_in, IsThere, task_owner, components_of, is_made_by, is_unmade, HasOwners, IsWorld, IsOf, IsShadowOf, MayBeShadow}
-use Rattle.dom_worlds.specs.Worlds.{times_among}
+use Rattle.dom_base.proofs.Std.{◌≡◌, ◌≢◌, ℕ, suc, Bool, false, List, [], ◌∷◌, ◌++◌, length, filter, Some, refl, sym, ap, ◌∙◌, arith, subst, append-nil}
+use Rattle.dom_base.proofs.Std.{length-append, ◌≤◌, true, true≢false, not, map, zero, ◌+◌, ◌<◌, position, Option, None, option_map, is_none, option_to_list}
+use Rattle.dom_base.proofs.Std.{is_some, slice_get, nat_lt, cond, drop, option_map_or, option_and_then, cond-true, cond-false, false_from_ne_true, and_parts}
+use Rattle.dom_base.proofs.Std.{not-true, lt-ltb, filter-append, AllByRecursion, position_or_len}
+use Rattle.dom_model.proofs.Model.{Owner, Page, Component, NodeName, Shadow, owner_eq, first_of, name_eq, is_in, node_in, names_of, roots, trees_below, subtree}
+use Rattle.dom_model.proofs.Model.{children_of, times_in, Trees, none, tree, nodes, has_node, inclusive_ancestors, on_top, named, first_world, part_with_root}
+use Rattle.dom_model.proofs.Model.{effect_in, attaching, step, run_lines, finish, Effect, tables, changes, Part, World, micro_task, part_of, with_part}
+use Rattle.dom_model.proofs.Model.{is_there, component_made, made_by, MayAttach, trees_with, some_if, root_at, shadow_root_of, host_of, ne-owner_eq}
+use Rattle.dom_model.proofs.Model.{made_by-made, component_made-other, owner_eq-true, owner_eq-false, name_eq-same, made_by-is, word-made, name_eq-turned}
+use Rattle.dom_model.proofs.Model.{owner-part_of, Line, effect, slottables_of, is_assigned_to, line_may_stop, no_component_stops_from, ending_turn}
+use Rattle.dom_model.proofs.Model.{ending_other_turn}
+use Rattle.dom_worlds.specs.Definitions.{Invariant, IsReached, FirstIsReached, StepKeepsReached, EndingKeepsReached, FinishKeepsReached, ScriptsReach}
+use Rattle.dom_worlds.specs.Definitions.{QuietScriptsReach, AssignedAreSiblings, ShadowRootsAreRoots, NoOtherShadowRoots, AttachedAreThere, OwnersHaveWords}
+use Rattle.dom_worlds.specs.Definitions.{HostsAreTheirs, owners_in, IsThere, task_owner, components_of, is_made_by, is_unmade, HasOwners, IsWorld, IsOf}
+use Rattle.dom_worlds.specs.Definitions.{IsShadowOf, MayBeShadow, times_among}
 use Rattle.dom_worlds.proofs.Effects.{KeepsBase, base-effect, attach-may}
 use Rattle.dom_worlds.proofs.StepKeeps.{quiet-first, quiet-attaching, by_owner, attached-maker, attached-new, attached-other, attached-there, OkFor, quiet-step}
 use Rattle.dom_worlds.proofs.StepKeeps.{any-line, quiet-keeps}
@@ -35,21 +23,15 @@ use Rattle.dom_worlds.proofs.OwnerSteps.{IsPresent, IsPeopled, same-people, peop
 use Rattle.dom_worlds.proofs.Turns.{at_end, quiet-ending_turn, quiet-ending_other}
 use Rattle.dom_worlds.proofs.Owners.{has_owner, there-listed, owners-put, owners-put_new, absent-part, made_by-told, next-absent, owner-named, hosted}
 use Rattle.dom_worlds.proofs.Owners.{hosted-owned, hosted-maker, hosted-there, there-hosted}
-use Rattle.std.specs.List.{AllByRecursion, position_or_len}
-use Rattle.dom_model.specs.Command.{Line, effect}
-use Rattle.dom_model.specs.Slots.{slottables_of, is_assigned_to}
-use Rattle.dom_model.specs.Trace.{line_may_stop, no_component_stops_from}
-use Rattle.dom_model.specs.Turns.{ending_turn, ending_other_turn}
 use Rattle.dom_worlds.proofs.ShadowTrees.{owned-in}
 use Rattle.dom_worlds.proofs.KindLines.{all-kinds, AllKinds, kinds-first, kinds-keeps}
-use Rattle.dom_laws.proofs.Counts.{times_subtree, once_parts, Once, times-elsewhere}
+use Rattle.dom_laws.proofs.Laws.{times_subtree, once_parts, Once, times-elsewhere, path_none}
 use Rattle.dom_worlds.proofs.TreeChangeLaws.{times-below, HasRoot}
 use Rattle.dom_worlds.proofs.InsideAncestors.{roots-there, in-later}
 use Rattle.dom_base.specs.Owners.{has_word}
 use Rattle.dom_worlds.proofs.PartSteps.{node-read, name-node_in, fragment-no_shadow}
 use Rattle.dom_worlds.proofs.ShadowRoots.{kind-root}
 use Rattle.dom_worlds.proofs.Trees.{root-there}
-use Rattle.dom_laws.proofs.Paths.{path_none}
 use Rattle.dom_worlds.proofs.WorldSteps.{own-part}
 
 -- The first world, and attaching.

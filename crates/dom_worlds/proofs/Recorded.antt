@@ -1,24 +1,14 @@
 -- The records of plans name nodes that are there where they are queued, and steps keep that of all records.
-use Rattle.std.proofs.Common.{◌≤◌, ℕ, not, ◌&&◌, List, [], ◌∷◌, ◌++◌, fold, length, Option, Some, None, unwrap_or, arith}
-use Rattle.std.specs.Prelude.{⊤, slice_get, slice_set, ◌==◌}
-use Rattle.std.specs.List.{AllByRecursion, list_any}
-use Rattle.std.specs.Option.{option_map_or}
-use Rattle.dom_base.specs.declared.NodeName.{NodeName}
-use Rattle.dom_model.specs.Names.{Word, DomString, name_eq, items_before, items_after}
-use Rattle.dom_model.specs.Tree.{Trees, node_in, kind_of, is_fragment, subtree, children_of, parent_of, siblings, previous_sibling, next_sibling, times_in}
-use Rattle.dom_model.specs.Tree.{attribute_value, inclusive_ancestors}
-use Rattle.dom_model.specs.Observers.{target_of, fitting, without_old, asks_for_old}
-use Rattle.dom_model.specs.Output.{Change, child_list, attributes, character_data}
-use Rattle.dom_model.specs.Part.{Part, queue_of}
-use Rattle.dom_model.specs.Steps.{Step, make, place, take_out, set_document, set_attribute, replace_data, queue_record, part_step, leave, interested_in}
-use Rattle.dom_model.specs.Steps.{record_in, after}
-use Rattle.dom_model.specs.Changes.{Plan, ◌and_then◌, in_turn, doing, Observing, observed, suppressed, telling, removal_record, remove_plan, removing_from}
-use Rattle.dom_model.specs.Changes.{has_document, changing_document, adopt_plan, document_below, placed_nodes, making_room, placing, sibling_before}
-use Rattle.dom_model.specs.Changes.{insert_plan}
-use Rattle.dom_model.specs.Changes.{reference_child, replace_plan, setting_attribute, unsetting_attribute}
-use Rattle.dom_model.specs.TextChanges.{replacing_data}
-use Rattle.dom_worlds.specs.Worlds.{IsPart}
-use Rattle.dom_worlds.specs.Tables.{IsNodeIn, IsNodeIf, IsRecordIn, HasRecords}
+use Rattle.dom_base.proofs.Std.{◌≤◌, ℕ, not, ◌&&◌, List, [], ◌∷◌, ◌++◌, fold, length, Option, Some, None, unwrap_or, arith, ⊤, slice_get, slice_set, ◌==◌}
+use Rattle.dom_base.proofs.Std.{AllByRecursion, list_any, option_map_or}
+use Rattle.dom_model.proofs.Model.{NodeName, Word, DomString, name_eq, items_before, items_after, Trees, node_in, kind_of, is_fragment, subtree, children_of}
+use Rattle.dom_model.proofs.Model.{parent_of, siblings, previous_sibling, next_sibling, times_in, attribute_value, inclusive_ancestors, target_of, fitting}
+use Rattle.dom_model.proofs.Model.{without_old, asks_for_old, Change, child_list, attributes, character_data, Part, queue_of, Step, make, place, take_out}
+use Rattle.dom_model.proofs.Model.{set_document, set_attribute, replace_data, queue_record, part_step, leave, interested_in, record_in, after, Plan, ◌and_then◌}
+use Rattle.dom_model.proofs.Model.{in_turn, doing, Observing, observed, suppressed, telling, removal_record, remove_plan, removing_from, has_document}
+use Rattle.dom_model.proofs.Model.{changing_document, adopt_plan, document_below, placed_nodes, making_room, placing, sibling_before, insert_plan}
+use Rattle.dom_model.proofs.Model.{reference_child, replace_plan, setting_attribute, unsetting_attribute, replacing_data}
+use Rattle.dom_worlds.specs.Definitions.{IsPart, IsNodeIn, IsNodeIf, IsRecordIn, HasRecords}
 use Rattle.dom_worlds.proofs.Insides.{times-taken_out_all}
 use Rattle.dom_worlds.proofs.InsideAncestors.{children-inside, child-there, parent-there, times-has_node}
 use Rattle.dom_worlds.proofs.Lists.{all-then, all-append, all-from, all-set, either_way, by_some, by_some_is}
@@ -27,7 +17,7 @@ use Rattle.dom_worlds.proofs.PlanPlaces.{leads-inserting}
 use Rattle.dom_worlds.proofs.PlanTexts.{leads-plan}
 use Rattle.dom_worlds.proofs.TableSteps.{HasNode, Fits, Grows, grows-step, grows-times}
 use Rattle.dom_worlds.proofs.TableRecords.{IfSome, first-all, last-all, before-all, after-all, all-get}
-use Rattle.dom_laws.proofs.Counts.{times_subtree}
+use Rattle.dom_laws.proofs.Laws.{times_subtree}
 use Rattle.dom_worlds.proofs.PlanChildren.{Joins, each-by, inserting-by}
 
 -- What a step records is there.

@@ -1,21 +1,17 @@
 -- The records of the plans of texts and ranges name nodes that are there.
-use Rattle.std.proofs.Common.{◌≡◌, ℕ, ◌+◌, ◌-◌, Bool, true, false, not, ◌&&◌, List, [], ◌∷◌, ◌++◌, map, filter, flat_map, drop, length, Option, Some, None}
-use Rattle.std.proofs.Common.{refl, sym, subst, ◌≤◌, unwrap_or, ap, arith}
-use Rattle.std.specs.Prelude.{if◌then◌else◌, ◌==◌, slice_get}
-use Rattle.std.specs.List.{AllByRecursion}
-use Rattle.std.specs.Option.{option_map_or, option_and_then}
-use Rattle.dom_base.specs.declared.NodeName.{NodeName}
-use Rattle.dom_model.specs.Names.{DomString, is_empty, name_eq}
-use Rattle.dom_model.specs.Tree.{Trees, Node, node_in, kind_of, is_text, is_document, has_data, children_of, parent_of, next_sibling, index_of, length_of}
-use Rattle.dom_model.specs.Tree.{descendants, inclusive_descendants, is_fragment}
-use Rattle.dom_model.specs.Output.{child_list}
-use Rattle.dom_model.specs.Part.{Part, next_name, range_at}
-use Rattle.dom_model.specs.Steps.{Step, make, join_at, queue_record, part_step, after, set_range}
-use Rattle.dom_model.specs.Changes.{Plan, ◌and_then◌, in_turn, steps_of, only_if, observed, suppressed, remove_plan, document_below, insert_plan, doing}
-use Rattle.dom_model.specs.Changes.{reference_child, pre_insert_plan}
-use Rattle.dom_model.specs.TextChanges.{replacing_data, new_text_node, replacing_all_data, placing_tail, splitting, contiguous_texts_after, joins, joining}
-use Rattle.dom_model.specs.TextChanges.{normalizing_text, normalizing, replacing_children, setting_text}
-use Rattle.dom_worlds.specs.Worlds.{IsPart}
+use Rattle.dom_base.proofs.Std.{◌≡◌, ℕ, ◌+◌, ◌-◌, Bool, true, false, not, ◌&&◌, List, [], ◌∷◌, ◌++◌, map, filter, flat_map, drop, length, Option, Some, None}
+use Rattle.dom_base.proofs.Std.{refl, sym, subst, ◌≤◌, unwrap_or, ap, arith, if◌then◌else◌, ◌==◌, slice_get, AllByRecursion, option_map_or, option_and_then}
+use Rattle.dom_base.proofs.Std.{cond-true}
+use Rattle.dom_model.proofs.Model.{NodeName, DomString, is_empty, name_eq, Trees, Node, node_in, kind_of, is_text, is_document, has_data, children_of}
+use Rattle.dom_model.proofs.Model.{parent_of, next_sibling, index_of, length_of, descendants, inclusive_descendants, is_fragment, child_list, Part, next_name}
+use Rattle.dom_model.proofs.Model.{range_at, Step, make, join_at, queue_record, part_step, after, set_range, Plan, ◌and_then◌, in_turn, steps_of, only_if}
+use Rattle.dom_model.proofs.Model.{observed, suppressed, remove_plan, document_below, insert_plan, doing, reference_child, pre_insert_plan, replacing_data}
+use Rattle.dom_model.proofs.Model.{new_text_node, replacing_all_data, placing_tail, splitting, contiguous_texts_after, joins, joining, normalizing_text}
+use Rattle.dom_model.proofs.Model.{normalizing, replacing_children, setting_text, Pieces, whole, cut, clone, cut_start, cut_end, pieces_of, is_in_one_data}
+use Rattle.dom_model.proofs.Model.{clone_part, making_below, taking, new_fragment_node, own_document, new_place, both_at, extracting, Boundary, cutting_data}
+use Rattle.dom_model.proofs.Model.{outermost_contained, deleting_contents, deleting, insertion_parent, start_reference, ending_at, inserting_before}
+use Rattle.dom_model.proofs.Model.{inserting_at, inserting_into_range, Range, at, from_to, is_collapsed, with_name}
+use Rattle.dom_worlds.specs.Definitions.{IsPart}
 use Rattle.dom_worlds.proofs.Lists.{all-dropped, all-then, all-filter, either_way, which_way, by_some_is}
 use Rattle.dom_worlds.proofs.PlanPlaces.{Changed, MayGo, may-still, still, leads-then, leads-eased, leads-one, leads-each, inserting-each, after-append}
 use Rattle.dom_worlds.proofs.PlanPlaces.{leads-removing, leads-inserting, changed-eased}
@@ -24,14 +20,7 @@ use Rattle.dom_worlds.proofs.PlanTexts.{new-there, texts-beside, descend-there, 
 use Rattle.dom_worlds.proofs.Recorded.{TellsIn, tells-append, tells-plan, recorded, still-all, children-there, next-there, tells-removing, tells-joins_on}
 use Rattle.dom_worlds.proofs.Recorded.{tells-removals, tells-inserting, tells-replacing_data, still-if, reference-there}
 use Rattle.dom_worlds.proofs.TableSteps.{HasNode}
-use Rattle.std.proofs.lemmas.Bool.{cond-true}
-use Rattle.dom_model.specs.Extract.{Pieces, nothing, whole, cut, clone, cut_start, cut_end, pieces_of, is_in_one_data, clone_part, making_below, taking}
-use Rattle.dom_model.specs.Extract.{new_fragment_node, own_document, new_place, both_at, extracting}
-use Rattle.dom_model.specs.Place.{Boundary}
-use Rattle.dom_model.specs.RangeOps.{cutting_data, outermost_contained, deleting_contents, deleting, insertion_parent, start_reference, ending_at}
-use Rattle.dom_model.specs.RangeOps.{inserting_before, inserting_at, inserting_into_range}
-use Rattle.dom_model.specs.Ranges.{Range, at, from_to, is_collapsed}
-use Rattle.dom_model.specs.TreeChanges.{with_name}
+use Rattle.dom_model.specs.Extract.{nothing}
 use Rattle.dom_worlds.proofs.PartSteps.{next-absent}
 use Rattle.dom_worlds.proofs.PlanContents.{CanTake, take-still, take-below, OldIn, old-may, old-there, whole-then, changed-inner, leads-making_below}
 use Rattle.dom_worlds.proofs.PlanContents.{leads-taking, leads-cutting, pieces-there}

@@ -1,24 +1,17 @@
 -- The roots of trees, and the nodes that are read under their names, with their lengths, through the elementary changes.
-use Rattle.std.proofs.Common.{◌≡◌, ◌≤◌, true, false, List, [], ◌∷◌, ◌++◌, drop, Some, None, unwrap_or, sym, ap, ◌∙◌, arith, subst, length, map, find, Option}
-use Rattle.std.proofs.Common.{option_map, refl, true≢false}
-use Rattle.std.specs.List.{last_or, AllByRecursion}
-use Rattle.std.proofs.lemmas.Bool.{cond-true, cond-false}
-use Rattle.dom_base.specs.declared.NodeName.{NodeName}
-use Rattle.dom_model.specs.Names.{name_eq, is_in, first_of}
-use Rattle.dom_model.specs.Place.{same_root}
-use Rattle.dom_model.specs.Tree.{Trees, none, tree, inclusive_ancestors, is_inclusive_ancestor, on_top, parent_of, root_of, subtree, times_in, Node, nodes}
-use Rattle.dom_model.specs.Tree.{node_in, no_node, kind_of, has_data, children_of, length_of}
-use Rattle.dom_model.specs.TreeChanges.{taken_out, without, placed, with_node, map_nodes}
-use Rattle.dom_model.proofs.OwnerLaws.{name_eq-same, name_eq-true}
+use Rattle.dom_base.proofs.Std.{◌≡◌, ◌≤◌, true, false, List, [], ◌∷◌, ◌++◌, drop, Some, None, unwrap_or, sym, ap, ◌∙◌, arith, subst, length, map, find, Option}
+use Rattle.dom_base.proofs.Std.{option_map, refl, true≢false, last_or, AllByRecursion, cond-true, cond-false}
+use Rattle.dom_model.proofs.Model.{NodeName, name_eq, is_in, first_of, same_root, Trees, none, tree, inclusive_ancestors, is_inclusive_ancestor, on_top}
+use Rattle.dom_model.proofs.Model.{parent_of, root_of, subtree, times_in, Node, nodes, node_in, no_node, kind_of, has_data, children_of, length_of, taken_out}
+use Rattle.dom_model.proofs.Model.{without, placed, with_node, map_nodes, name_eq-same, name_eq-true}
 use Rattle.dom_worlds.proofs.Descents.{ancestor-inside, inside-ancestor, inside-left}
 use Rattle.dom_worlds.proofs.Insides.{IsOutside, unique-taken_out, inside, inside-absent, inside-elsewhere, inside-times, inside-put_root, CanPlace}
 use Rattle.dom_worlds.proofs.Insides.{times-taken_out_all, times-placed_all}
 use Rattle.dom_worlds.proofs.InsideAncestors.{parent-there}
 use Rattle.dom_worlds.proofs.Lists.{by_cases, or-first, or-second, or-later}
-use Rattle.dom_laws.proofs.Counts.{Once, by_times, times-here, times-elsewhere, once_parts}
+use Rattle.dom_laws.proofs.Laws.{Once, by_times, times-here, times-elsewhere, once_parts, path_none}
 use Rattle.dom_worlds.proofs.Trees.{all-in, last_from, last-is, last-in, ancestors-present, ancestors-root}
-use Rattle.dom_laws.proofs.Paths.{path_none}
-use Rattle.dom_worlds.specs.Worlds.{AllNodes}
+use Rattle.dom_worlds.specs.Definitions.{AllNodes}
 use Rattle.dom_worlds.proofs.KindLines.{all-found}
 use Rattle.dom_worlds.proofs.PartSteps.{name-node_in}
 use Rattle.dom_worlds.proofs.ShadowRoots.{found-absent, found-there}

@@ -1,16 +1,7 @@
 -- Rules of plans where something is asked of a few steps alone.
-use Rattle.std.proofs.Common.{ℕ, List, Option}
-use Rattle.std.specs.List.{AllByRecursion}
-use Rattle.dom_base.specs.declared.NodeName.{NodeName}
-use Rattle.dom_model.specs.Names.{Word, DomString}
-use Rattle.dom_model.specs.Tree.{Node, node_in, children_of}
-use Rattle.dom_model.specs.TreeChanges.{with_name}
-use Rattle.dom_model.specs.Output.{Change, child_list, character_data}
-use Rattle.dom_model.specs.Part.{Part, next_name}
-use Rattle.dom_model.specs.Ranges.{Range}
-use Rattle.dom_model.specs.Steps.{Step, part_step}
-use Rattle.dom_model.specs.TextChanges.{new_text_node}
-use Rattle.dom_model.specs.Extract.{pieces_of, clone_part, new_fragment_node}
+use Rattle.dom_base.proofs.Std.{ℕ, List, Option, AllByRecursion}
+use Rattle.dom_model.proofs.Model.{NodeName, Word, DomString, Node, node_in, children_of, with_name, Change, child_list, character_data, Part, next_name, Range}
+use Rattle.dom_model.proofs.Model.{Step, part_step, new_text_node, pieces_of, clone_part, new_fragment_node}
 use Rattle.dom_worlds.proofs.PartSteps.{Asked}
 use Rattle.dom_worlds.proofs.Plans.{AllWhole, IsKept}
 

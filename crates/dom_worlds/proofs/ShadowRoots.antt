@@ -1,37 +1,22 @@
 -- Pieces of ranges, and plans in a part with a shadow root: they place it nowhere.
-use Rattle.std.proofs.Common.{◌≡◌, ℕ, Bool, true, false, ◌&&◌, not, filter, ◌≤◌, List, [], ◌∷◌, ◌++◌, find, drop, unwrap_or, Option, Some, None, refl, sym, ap}
-use Rattle.std.proofs.Common.{◌∙◌, arith, true≢false}
-use Rattle.std.specs.Prelude.{if◌then◌else◌, ⊤}
-use Rattle.dom_base.specs.declared.NodeName.{NodeName}
-use Rattle.dom_model.specs.Names.{name_eq}
-use Rattle.dom_model.specs.Tree.{Trees, none, tree, Node, names_of, roots, has_data, subtree, trees_below, length_of, is_inclusive_ancestor, nodes, no_node}
-use Rattle.dom_model.specs.Tree.{kind_of, child_nodes, times_in}
-use Rattle.dom_model.specs.Place.{is_before}
-use Rattle.dom_model.specs.Ranges.{Range, at, is_collapsed, is_contained}
-use Rattle.dom_model.specs.Extract.{Pieces, nothing, whole, cut, clone, pieces_along, pieces_behind, pieces_in_front, tree_holding, all_whole, ◌followed_by◌}
-use Rattle.dom_model.specs.Extract.{common_ancestor, is_in_one_data, pieces_apart, pieces_of}
-use Rattle.std.proofs.lemmas.Bool.{and_parts, cond-true, cond-false, not-false}
-use Rattle.dom_worlds.specs.Worlds.{AllNodes, IsShadowAt}
+use Rattle.dom_base.proofs.Std.{◌≡◌, ℕ, Bool, true, false, ◌&&◌, not, filter, ◌≤◌, List, [], ◌∷◌, ◌++◌, find, drop, unwrap_or, Option, Some, None, refl, sym}
+use Rattle.dom_base.proofs.Std.{ap, ◌∙◌, arith, true≢false, if◌then◌else◌, ⊤, and_parts, cond-true, cond-false, not-false, AllByRecursion, option_map_or}
+use Rattle.dom_base.proofs.Std.{option_or, find-append}
+use Rattle.dom_model.proofs.Model.{NodeName, name_eq, Trees, none, tree, Node, names_of, roots, has_data, subtree, trees_below, length_of}
+use Rattle.dom_model.proofs.Model.{is_inclusive_ancestor, nodes, no_node, kind_of, child_nodes, times_in, is_before, Range, at, is_collapsed, is_contained}
+use Rattle.dom_model.proofs.Model.{Pieces, whole, cut, clone, pieces_along, pieces_behind, pieces_in_front, tree_holding, all_whole, ◌followed_by◌}
+use Rattle.dom_model.proofs.Model.{common_ancestor, is_in_one_data, pieces_apart, pieces_of, Shadow, Refusal, Hierarchy, NotFound, Command, NodeWord}
+use Rattle.dom_model.proofs.Model.{own_refusal, effect, Part, range_at, first_refusal, has_parent, may_be_parent, may_be_inserted, placing_tests}
+use Rattle.dom_model.proofs.Model.{pre_insert_refusal, replace_refusal, named, limit_on, made_by_insert_node, cannot_take_node, insert_node_refusal}
+use Rattle.dom_model.proofs.Model.{insertion_parent, start_reference, Effect, name_eq-true}
+use Rattle.dom_model.specs.Extract.{nothing}
+use Rattle.dom_worlds.specs.Definitions.{AllNodes, IsShadowAt}
 use Rattle.dom_worlds.proofs.Plans.{AreFit, AllWhole, IsKept}
 use Rattle.dom_worlds.proofs.Rules.{rules-kept}
 use Rattle.dom_worlds.proofs.Lists.{by_cases, either_way, which_way}
 use Rattle.dom_worlds.proofs.TreeChangeLaws.{nodes-then, nodes-listed, nodes-named, root-below_none}
-use Rattle.std.specs.List.{AllByRecursion}
-use Rattle.std.specs.Option.{option_map_or, option_or}
-use Rattle.dom_base.specs.declared.Kind.TheVariants.{Shadow}
-use Rattle.dom_base.specs.declared.Refusal.{Refusal}
-use Rattle.dom_base.specs.declared.Refusal.TheVariants.{Hierarchy, NotFound}
-use Rattle.dom_model.specs.Command.{Command, NodeWord, own_refusal, effect}
-use Rattle.dom_model.specs.Part.{Part, range_at}
-use Rattle.dom_model.specs.Validity.{first_refusal, has_parent, may_be_parent, may_be_inserted, placing_tests, pre_insert_refusal, replace_refusal}
-use Rattle.dom_model.specs.CommandNames.{named}
-use Rattle.dom_model.specs.CommandRefusals.{limit_on, made_by_insert_node}
-use Rattle.dom_model.specs.RangeOps.{cannot_take_node, insert_node_refusal, insertion_parent, start_reference}
-use Rattle.dom_model.specs.Effects.{Effect}
-use Rattle.dom_model.proofs.OwnerLaws.{name_eq-true}
-use Rattle.std.proofs.lemmas.List.Folds.{find-append}
 use Rattle.dom_worlds.proofs.Trees.{root-there}
-use Rattle.dom_laws.proofs.Counts.{times-here, times-elsewhere, times-more, by_times}
+use Rattle.dom_laws.proofs.Laws.{times-here, times-elsewhere, times-more, by_times}
 use Rattle.dom_worlds.proofs.PartSteps.{Allowed, IsOwn, own-step, next-other}
 use Rattle.dom_worlds.proofs.Effects.{or-none, next-test, Makes, MayDo, made-effect}
 

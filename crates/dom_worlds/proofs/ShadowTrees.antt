@@ -1,30 +1,17 @@
 -- Shadow trees: who is hidden from whom, and that no slot of the page is signalled.
-use Rattle.std.proofs.Common.{◌≡◌, ◌≢◌, ◌≤◌, Bool, true, false, List, [], ◌∷◌, find, flat_map, option_map, Option, Some, None, refl, sym, ap, ◌∙◌, arith}
-use Rattle.std.proofs.Common.{true≢false, subst, ℕ, zero, suc, ◌++◌, ◌&&◌, filter, append-nil}
-use Rattle.std.specs.Prelude.{IsTrue, is_some, option_to_list, if◌then◌else◌}
-use Rattle.std.specs.List.{AllByRecursion, list_any}
-use Rattle.std.specs.Option.{option_and_then}
-use Rattle.std.proofs.lemmas.Bool.{cond-true, cond-false, and_parts}
-use Rattle.dom_base.specs.declared.Owner.{Owner}
-use Rattle.dom_base.specs.declared.Owner.TheVariants.{Page}
-use Rattle.dom_base.specs.declared.NodeName.{NodeName}
-use Rattle.dom_model.specs.Names.{DomString, name_eq, is_in, is_empty}
-use Rattle.dom_model.specs.Tree.{Trees, Node, nodes, root_of, times_in}
-use Rattle.dom_model.specs.World.{World, part_of, node_at, trees_with, root_at, parent_at, ancestors_at, component_at, host_of, some_if, shadow_root_of}
-use Rattle.dom_model.specs.World.{shadow_tree, is_in_shadow_tree, Task, notify_task, is_notify_of, queued_notify}
-use Rattle.dom_model.specs.Slots.{slot_of, slot_in, has_slot_name, slottable_name, signals, assigned_nodes, is_slot_element, is_bare_slot}
-use Rattle.dom_model.specs.Slots.{assigned_nodes_changed, own_slots}
-use Rattle.dom_model.specs.Slots.{other_slots}
-use Rattle.dom_model.proofs.OwnerLaws.{ne-owner_eq, name_eq-same}
-use Rattle.dom_model.proofs.PartLaws.{owner-part_of}
-use Rattle.dom_worlds.specs.Worlds.{IsWorld, IsOf, HasMakers, IsForeignTo}
+use Rattle.dom_base.proofs.Std.{◌≡◌, ◌≢◌, ◌≤◌, Bool, true, false, List, [], ◌∷◌, find, flat_map, option_map, Option, Some, None, refl, sym, ap, ◌∙◌, arith}
+use Rattle.dom_base.proofs.Std.{true≢false, subst, ℕ, zero, suc, ◌++◌, ◌&&◌, filter, append-nil, IsTrue, is_some, option_to_list, if◌then◌else◌, AllByRecursion}
+use Rattle.dom_base.proofs.Std.{list_any, option_and_then, cond-true, cond-false, and_parts, filter-append}
+use Rattle.dom_model.proofs.Model.{Owner, Page, NodeName, DomString, name_eq, is_in, is_empty, Trees, Node, nodes, root_of, times_in, World, part_of, node_at}
+use Rattle.dom_model.proofs.Model.{trees_with, root_at, parent_at, ancestors_at, component_at, host_of, some_if, shadow_root_of, shadow_tree, is_in_shadow_tree}
+use Rattle.dom_model.proofs.Model.{Task, notify_task, is_notify_of, queued_notify, slot_of, slot_in, has_slot_name, slottable_name, signals, assigned_nodes}
+use Rattle.dom_model.proofs.Model.{is_slot_element, is_bare_slot, assigned_nodes_changed, own_slots, other_slots, ne-owner_eq, name_eq-same, owner-part_of}
+use Rattle.dom_model.proofs.Model.{with_slots, is_page_task}
+use Rattle.dom_worlds.specs.Definitions.{IsWorld, IsOf, HasMakers, IsForeignTo}
 use Rattle.dom_worlds.proofs.Lists.{all-then, by_cases, all-append, all-passed, all-distinct}
 use Rattle.dom_worlds.proofs.Owners.{component-host, hosted-is, hosted-no_page}
 use Rattle.dom_worlds.proofs.Trees.{ancestors-there, ancestors-root, root-of-root, nodes-there}
-use Rattle.dom_laws.proofs.Counts.{times_subtree}
-use Rattle.dom_model.specs.Paths.{with_slots}
-use Rattle.std.proofs.lemmas.List.Elements.{filter-append}
-use Rattle.dom_model.specs.PageMachine.{is_page_task}
+use Rattle.dom_laws.proofs.Laws.{times_subtree}
 
 -- A node's ancestors are of its owner.
 pub owned-in : (w : World) → IsWorld w → (o : Owner) (y : NodeName) → 1 ≤ times_in (part_of w o).trees y → y.owner ≡ o

@@ -1,37 +1,18 @@
 -- The first world, attaching, and each line keep what holds of the worlds.
-use Rattle.std.proofs.Common.{◌≡◌, ◌≢◌, ℕ, zero, suc, ◌≤◌, ◌<◌, Bool, true, false, ◌||◌, List, [], ◌∷◌, ◌++◌, length, Option, Some, None, refl, sym, ap, ◌∙◌}
-use Rattle.std.proofs.Common.{arith, true≢false, subst, not, ◌&&◌, filter, append-nil}
-use Rattle.std.specs.Prelude.{IsTrue, is_some, slice_get, is_none}
-use Rattle.std.specs.List.{AllByRecursion}
-use Rattle.std.specs.Option.{option_and_then}
-use Rattle.dom_base.specs.declared.Owner.{Owner}
-use Rattle.dom_base.specs.declared.Owner.TheVariants.{Page, Component}
-use Rattle.dom_base.specs.declared.NodeName.{NodeName}
-use Rattle.dom_base.specs.declared.Kind.{Kind}
-use Rattle.dom_base.specs.declared.Kind.TheVariants.{Document, Shadow}
-use Rattle.dom_model.specs.Names.{owner_eq, name_eq, node_of, Word}
-use Rattle.dom_model.specs.Tree.{none, tree, node_in, times_in}
-use Rattle.dom_model.specs.Part.{Part, empty_part}
-use Rattle.dom_model.specs.World.{World, part_of, with_part, is_there, host_of, component_made, MayAttach, shadow_root_of, micro_task}
-use Rattle.dom_model.specs.DocumentMachine.{first_world, new_root, part_with_root, attaching, refusal, effect_in, step}
-use Rattle.dom_model.proofs.OwnerLaws.{owner_eq-true, owner_eq-false, name_eq-same, made_by-is, component_made-other, name_eq-true, ne-owner_eq}
-use Rattle.dom_model.proofs.PartLaws.{part_of-with_part, part_of-with_part-other, owner-part_of}
-use Rattle.dom_worlds.specs.Reached.{Invariant}
-use Rattle.dom_worlds.specs.Worlds.{IsPart, IsRoot, IsOf, OnlyLogs, ComponentsOnlyLog}
+use Rattle.dom_base.proofs.Std.{◌≡◌, ◌≢◌, ℕ, zero, suc, ◌≤◌, ◌<◌, Bool, true, false, ◌||◌, List, [], ◌∷◌, ◌++◌, length, Option, Some, None, refl, sym, ap, ◌∙◌}
+use Rattle.dom_base.proofs.Std.{arith, true≢false, subst, not, ◌&&◌, filter, append-nil, IsTrue, is_some, slice_get, is_none, AllByRecursion, option_and_then}
+use Rattle.dom_base.proofs.Std.{cond-false, not-false, filter-append}
+use Rattle.dom_model.proofs.Model.{Owner, Page, Component, NodeName, Kind, Document, Shadow, owner_eq, name_eq, node_of, Word, none, tree, node_in, times_in}
+use Rattle.dom_model.proofs.Model.{Part, empty_part, World, part_of, with_part, is_there, host_of, component_made, MayAttach, shadow_root_of, micro_task}
+use Rattle.dom_model.proofs.Model.{first_world, new_root, part_with_root, attaching, refusal, effect_in, step, owner_eq-true, owner_eq-false, name_eq-same}
+use Rattle.dom_model.proofs.Model.{made_by-is, component_made-other, name_eq-true, ne-owner_eq, part_of-with_part, part_of-with_part-other, owner-part_of}
+use Rattle.dom_model.proofs.Model.{Action, Log, Stop, StopNow, Cancel, Command, Line, no_owner, no_command, command, effect, named, Effect, tables, changes}
+use Rattle.dom_model.proofs.Model.{ending_other_turn, is_page_turn, is_page, is_log, may_stop, line_may_stop, is_page_task}
+use Rattle.dom_worlds.specs.Definitions.{Invariant, IsPart, IsRoot, IsOf, OnlyLogs, ComponentsOnlyLog}
 use Rattle.dom_worlds.proofs.Lists.{all-append, by_cases, by_some_is}
 use Rattle.dom_worlds.proofs.Owners.{hosted, owner-named}
-use Rattle.dom_laws.proofs.Counts.{times-here, times-elsewhere}
+use Rattle.dom_laws.proofs.Laws.{times-here, times-elsewhere}
 use Rattle.dom_worlds.proofs.Turns.{there-with_part, part-alike, world-alike, quiet-at_end, quiet-dispatch, quiet-ending_turn, quiet-told, quiet-opening}
-use Rattle.std.proofs.lemmas.Bool.{cond-false, not-false}
-use Rattle.std.proofs.lemmas.List.Elements.{filter-append}
-use Rattle.dom_base.specs.declared.Action.{Action}
-use Rattle.dom_base.specs.declared.Action.TheVariants.{Log, Stop, StopNow, Cancel}
-use Rattle.dom_model.specs.Command.{Command, Line, no_owner, no_command, command, effect}
-use Rattle.dom_model.specs.CommandNames.{named}
-use Rattle.dom_model.specs.Effects.{Effect, tables, changes}
-use Rattle.dom_model.specs.Turns.{ending_other_turn, is_page_turn}
-use Rattle.dom_model.specs.Trace.{is_page, is_log, may_stop, line_may_stop}
-use Rattle.dom_model.specs.PageMachine.{is_page_task}
 use Rattle.dom_worlds.proofs.Effects.{KeepsBase, base-effect, AddsLogs, KeepsLogs, logs-effect, part-accepted, attach-may}
 use Rattle.dom_worlds.proofs.ShadowRoots.{SafeEffect, safe-effect}
 use Rattle.dom_worlds.proofs.WorldSteps.{world-with_part, own-part, InTurn, quiet-world_after}

@@ -1,21 +1,14 @@
 -- What accepted commands do to ranges, iterators and walkers: they keep to nodes that are there.
-use Rattle.std.proofs.Common.{◌≡◌, ℕ, Bool, true, false, not, ◌&&◌, List, filter, drop, Option, Some, None, option_map, refl, sym, ◌≤◌, [], ◌∷◌, ◌++◌, find}
-use Rattle.std.specs.Option.{option_map_or}
-use Rattle.std.proofs.lemmas.Bool.{and_parts}
-use Rattle.dom_base.specs.declared.NodeName.{NodeName}
-use Rattle.dom_base.specs.declared.Refusal.TheVariants.{Hierarchy}
-use Rattle.dom_model.specs.Command.{NodeWord}
-use Rattle.dom_model.specs.CommandNames.{named}
-use Rattle.dom_model.specs.Effects.{answers, Effect, tables, changes, with_range, collapsed_to, moves_iterator, sets_walker}
-use Rattle.dom_model.specs.Names.{name_eq, first_of, last_of, items_before, items_after}
-use Rattle.dom_model.specs.Part.{Part}
-use Rattle.dom_model.specs.Place.{Boundary, same_root, is_before}
-use Rattle.dom_model.specs.Ranges.{Range, from_to, with_start, with_end}
-use Rattle.dom_model.specs.Tree.{Trees, Node, has_node, kind_of, is_inclusive_ancestor, child_nodes, ancestors, inclusive_ancestors, inclusive_descendants}
-use Rattle.dom_model.specs.Tree.{times_in}
-use Rattle.dom_model.specs.Validity.{first_refusal, has_parent, may_be_parent, placing_tests, pre_insert_refusal, replace_refusal}
-use Rattle.dom_worlds.specs.Worlds.{IsPart}
-use Rattle.dom_worlds.specs.Tables.{IsNodeIn, HasEnds, EndsIn, HasTables, IsIteratorIn, IsWalkerIn}
+use Rattle.dom_base.proofs.Std.{◌≡◌, ℕ, Bool, true, false, not, ◌&&◌, List, filter, drop, Option, Some, None, option_map, refl, sym, ◌≤◌, [], ◌∷◌, ◌++◌, find}
+use Rattle.dom_base.proofs.Std.{option_map_or, and_parts, AllByRecursion}
+use Rattle.dom_model.proofs.Model.{NodeName, Hierarchy, NodeWord, named, answers, Effect, tables, changes, with_range, collapsed_to, moves_iterator}
+use Rattle.dom_model.proofs.Model.{sets_walker, name_eq, first_of, last_of, items_before, items_after, Part, Boundary, same_root, is_before, Range, from_to}
+use Rattle.dom_model.proofs.Model.{with_start, with_end, Trees, Node, has_node, kind_of, is_inclusive_ancestor, child_nodes, ancestors, inclusive_ancestors}
+use Rattle.dom_model.proofs.Model.{inclusive_descendants, times_in, first_refusal, has_parent, may_be_parent, placing_tests, pre_insert_refusal}
+use Rattle.dom_model.proofs.Model.{replace_refusal, Move, Parent, First, Last, Next, Previous, NextSibling, PreviousSibling, Value, nothing, Iterator, Walker}
+use Rattle.dom_model.proofs.Model.{iterator_next_node, iterator_previous_node, nodes_ahead, nodes_passed, accepts, walker_move, walker_step, walker_children}
+use Rattle.dom_model.proofs.Model.{walker_nodes, walker_siblings}
+use Rattle.dom_worlds.specs.Definitions.{IsPart, IsNodeIn, HasEnds, EndsIn, HasTables, IsIteratorIn, IsWalkerIn}
 use Rattle.dom_worlds.proofs.Effects.{next-test}
 use Rattle.dom_worlds.proofs.InsideAncestors.{inside-no_ancestor, times-has_node}
 use Rattle.dom_worlds.proofs.KindLines.{has_node-times}
@@ -25,13 +18,7 @@ use Rattle.dom_worlds.proofs.TableSteps.{HasNode, MadeIn, tables-iterators, tabl
 use Rattle.dom_worlds.proofs.TableRecords.{IfSome, StandsIn, all-stand, first-all, last-all, before-all, after-all, all-descend, iterator-moved}
 use Rattle.dom_worlds.proofs.Roots.{roots-equal, roots-same}
 use Rattle.dom_worlds.proofs.Lists.{which_way, all-set, all-dropped, all-append, all-then, all-filter, either_way}
-use Rattle.std.specs.List.{AllByRecursion}
-use Rattle.dom_base.specs.declared.Move.{Move}
-use Rattle.dom_base.specs.declared.Move.TheVariants.{Parent, First, Last, Next, Previous, NextSibling, PreviousSibling}
-use Rattle.dom_model.specs.Output.{Value, nothing}
-use Rattle.dom_model.specs.Traversal.{Iterator, Walker, iterator_next_node, iterator_previous_node, nodes_ahead, nodes_passed, accepts, walker_move}
-use Rattle.dom_model.specs.Traversal.{walker_step, walker_children, walker_nodes, walker_siblings}
-use Rattle.dom_laws.proofs.Counts.{Once}
+use Rattle.dom_laws.proofs.Laws.{Once}
 use Rattle.dom_worlds.proofs.Trees.{ancestors-there}
 
 -- the tables after an effect, or its steps

@@ -1,22 +1,15 @@
 -- Every line keeps the tables and the records of all parts.
-use Rattle.std.proofs.Common.{◌≡◌, ℕ, true, false, ◌&&◌, List, [], ◌∷◌, Option, Some, None, refl, sym, subst, Bool, not, ◌++◌, map, filter, fold, length, ◌∙◌}
-use Rattle.std.specs.Option.{option_map_or}
-use Rattle.std.proofs.Common.{arith, true≢false}
-use Rattle.std.specs.Prelude.{nat_eq}
-use Rattle.std.specs.List.{AllByRecursion}
-use Rattle.dom_base.specs.declared.NodeName.{NodeName}
-use Rattle.dom_model.specs.Changes.{observed, reference_child}
-use Rattle.dom_model.specs.Command.{Command, Line, EventWords, part_refusal, effect}
-use Rattle.dom_model.specs.CommandNames.{named}
-use Rattle.dom_model.specs.Effects.{Effect, tables, changes, answers, sets_walker}
-use Rattle.dom_model.specs.Extract.{extracting}
-use Rattle.dom_model.specs.Output.{Value, nothing}
-use Rattle.dom_model.specs.Part.{Part, first_node}
-use Rattle.dom_model.specs.RangeOps.{deleting, inserting_into_range}
-use Rattle.dom_model.specs.Traversal.{Walker}
-use Rattle.dom_model.specs.Tree.{has_node, length_of, node_in}
-use Rattle.dom_worlds.specs.Worlds.{IsPart, IsThere}
-use Rattle.dom_worlds.specs.Tables.{IsRecordIn, HasTables, HasRecords, IsNodeIn, IsRegistrationIn, IsListenerIn, IsNodeAt, IsWhole}
+use Rattle.dom_base.proofs.Std.{◌≡◌, ℕ, true, false, ◌&&◌, List, [], ◌∷◌, Option, Some, None, refl, sym, subst, Bool, not, ◌++◌, map, filter, fold, length, ◌∙◌}
+use Rattle.dom_base.proofs.Std.{option_map_or, arith, true≢false, nat_eq, AllByRecursion}
+use Rattle.dom_model.proofs.Model.{NodeName, observed, reference_child, Command, Line, EventWords, part_refusal, effect, named, Effect, tables, changes}
+use Rattle.dom_model.proofs.Model.{answers, sets_walker, extracting, Value, nothing, Part, first_node, deleting, inserting_into_range, Walker, has_node}
+use Rattle.dom_model.proofs.Model.{length_of, node_in, Action, Log, Stop, StopNow, Cancel, Shadow, Owner, Page, Component, dispatch_in, world_visit, visits_of}
+use Rattle.dom_model.proofs.Model.{first_world, part_with_root, effect_in, attaching, step, run_lines, finish, Listener, Visit, Dispatching, begun}
+use Rattle.dom_model.proofs.Model.{after_action, may_cancel, line_of, is_listener, kept_after, after_inner_invoke, hears, after_invoke, name_eq, node_of, is_in}
+use Rattle.dom_model.proofs.Model.{Registration, is_transient, views, is_owned_by, without_signals, notified, ending_turn, ending_other_turn, World, part_of}
+use Rattle.dom_model.proofs.Model.{with_part, component_made, MayAttach, component_made-other, part_of-with_part-other, owner-part_of, Component-IsNoPage}
+use Rattle.dom_worlds.specs.Definitions.{IsPart, IsThere, IsRecordIn, HasTables, HasRecords, IsNodeIn, IsRegistrationIn, IsListenerIn, IsNodeAt, IsWhole}
+use Rattle.dom_worlds.specs.Definitions.{IsReached, FirstHas, StepLeaves, EndingLeaves, FinishLeaves, ScriptsLeave}
 use Rattle.dom_worlds.proofs.Effects.{part-accepted, attach-may, KeepsBase, base-effect, some-effect, range-steps}
 use Rattle.dom_worlds.proofs.Lists.{all-append, all-set, all-filter, either_way}
 use Rattle.dom_worlds.proofs.PlanContents.{range-ends}
@@ -26,25 +19,6 @@ use Rattle.dom_worlds.proofs.RecordedPlans.{tells-splitting, tells-normalizing, 
 use Rattle.dom_worlds.proofs.RecordedPlans.{tells-inserting_into_range}
 use Rattle.dom_worlds.proofs.TableCommands.{named-may, insertion-apart, replacement-apart, exists-first, exists-second, exists-third, Holds}
 use Rattle.dom_worlds.proofs.TableRegisters.{insert_node-may, holds-effect, more-registered, tables-listeners}
-use Rattle.dom_base.specs.declared.Action.{Action}
-use Rattle.dom_base.specs.declared.Action.TheVariants.{Log, Stop, StopNow, Cancel}
-use Rattle.dom_base.specs.declared.Kind.TheVariants.{Shadow}
-use Rattle.dom_base.specs.declared.Owner.{Owner}
-use Rattle.dom_base.specs.declared.Owner.TheVariants.{Page, Component}
-use Rattle.dom_model.specs.Dispatch.{dispatch_in, world_visit, visits_of}
-use Rattle.dom_model.specs.DocumentMachine.{first_world, part_with_root, effect_in, attaching, step, run_lines, finish}
-use Rattle.dom_model.specs.Listeners.{Listener, Visit, Dispatching, begun, after_action, may_cancel, line_of, is_listener, kept_after, after_inner_invoke}
-use Rattle.dom_model.specs.Listeners.{hears, after_invoke}
-use Rattle.dom_model.specs.Names.{name_eq, node_of, is_in}
-use Rattle.dom_model.specs.Observers.{Registration, is_transient}
-use Rattle.dom_model.specs.Paths.{views}
-use Rattle.dom_model.specs.Turns.{is_owned_by, without_signals, notified, ending_turn, ending_other_turn}
-use Rattle.dom_model.specs.World.{World, part_of, with_part, component_made, MayAttach}
-use Rattle.dom_model.proofs.OwnerLaws.{component_made-other}
-use Rattle.dom_model.proofs.PartLaws.{part_of-with_part-other, owner-part_of}
-use Rattle.dom_model.proofs.StepLaws.{Component-IsNoPage}
-use Rattle.dom_worlds.specs.Reached.{IsReached}
-use Rattle.dom_worlds.specs.Keeping.{FirstHas, StepLeaves, EndingLeaves, FinishLeaves, ScriptsLeave}
 use Rattle.dom_worlds.proofs.InsideAncestors.{times-has_node}
 use Rattle.dom_worlds.proofs.KindLines.{attach-free}
 use Rattle.dom_worlds.proofs.Owners.{absent-part, next-absent, there-hosted}

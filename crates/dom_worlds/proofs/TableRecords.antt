@@ -1,30 +1,19 @@
 -- Steps with removals, records and iterators keep the tables of their part; and so does every step that fits.
-use Rattle.std.proofs.Common.{zero, suc, ◌≡◌, ◌≤◌, ◌<◌, ℕ, Bool, true, false, not, ◌||◌, List, [], ◌∷◌, ◌++◌, map, filter, fold, length, Option, Some, None}
-use Rattle.std.proofs.Common.{option_map, refl, sym, ap, ◌∙◌, arith, subst}
-use Rattle.std.specs.Prelude.{if◌then◌else◌, IsTrue, ⊤, slice_get, slice_set, nat_eq}
-use Rattle.std.specs.List.{AllByRecursion, last_or}
-use Rattle.std.specs.Option.{option_map_or}
-use Rattle.std.proofs.lemmas.Bool.{cond-true, cond-false, not-true}
-use Rattle.std.proofs.lemmas.List.{length-set}
-use Rattle.dom_base.specs.declared.NodeName.{NodeName}
-use Rattle.dom_model.specs.Tree.{times_in, Trees, Node, nodes, subtree, parent_of, index_of, inclusive_descendants, inclusive_ancestors, is_inclusive_ancestor}
-use Rattle.dom_model.specs.Names.{name_eq, is_in, first_of, last_of, items_after, items_before, append_once}
-use Rattle.dom_model.specs.TreeChanges.{without, taken_out}
-use Rattle.dom_model.specs.Ranges.{Range, map_ends, after_insert, after_removal, after_replace_data, after_split, after_join}
-use Rattle.dom_model.specs.Traversal.{Iterator, moved_to, adjusted_iterator}
-use Rattle.dom_model.specs.Observers.{target_of, fits, fitting, interested, Registration, copied_from, copied_from_transient, transients_for, registrations_on}
-use Rattle.dom_model.specs.Observers.{copied_source, is_transient}
-use Rattle.dom_model.specs.Output.{Change}
-use Rattle.dom_model.specs.Part.{Part, queue_of}
-use Rattle.dom_model.specs.Steps.{Step, make, make_room, place, take_out, set_document, set_attribute, replace_data, split_at, join_at, set_range, queue_record}
-use Rattle.dom_model.specs.Steps.{part_step, leave, told, interested_in, record_in, after}
-use Rattle.dom_model.proofs.OwnerLaws.{name_eq-true}
-use Rattle.dom_worlds.specs.Worlds.{IsPart}
-use Rattle.dom_worlds.specs.Tables.{IsNodeIn, EndsIn, IsIteratorIn, IsWalkerIn, IsSourceIn, IsRegistrationIn, IsListenerIn, HasTables}
+use Rattle.dom_base.proofs.Std.{zero, suc, ◌≡◌, ◌≤◌, ◌<◌, ℕ, Bool, true, false, not, ◌||◌, List, [], ◌∷◌, ◌++◌, map, filter, fold, length, Option, Some, None}
+use Rattle.dom_base.proofs.Std.{option_map, refl, sym, ap, ◌∙◌, arith, subst, if◌then◌else◌, IsTrue, ⊤, slice_get, slice_set, nat_eq, AllByRecursion, last_or}
+use Rattle.dom_base.proofs.Std.{option_map_or, cond-true, cond-false, not-true, length-set}
+use Rattle.dom_model.proofs.Model.{NodeName, times_in, Trees, Node, nodes, subtree, parent_of, index_of, inclusive_descendants, inclusive_ancestors}
+use Rattle.dom_model.proofs.Model.{is_inclusive_ancestor, name_eq, is_in, first_of, last_of, items_after, items_before, append_once, without, taken_out, Range}
+use Rattle.dom_model.proofs.Model.{map_ends, after_insert, after_removal, after_replace_data, after_split, after_join, Iterator, moved_to, adjusted_iterator}
+use Rattle.dom_model.proofs.Model.{target_of, fits, fitting, interested, Registration, copied_from, copied_from_transient, transients_for, registrations_on}
+use Rattle.dom_model.proofs.Model.{copied_source, is_transient, Change, Part, queue_of, Step, make, make_room, place, take_out, set_document, set_attribute}
+use Rattle.dom_model.proofs.Model.{replace_data, split_at, join_at, set_range, queue_record, part_step, leave, told, interested_in, record_in, after}
+use Rattle.dom_model.proofs.Model.{name_eq-true}
+use Rattle.dom_worlds.specs.Definitions.{IsPart, IsNodeIn, EndsIn, IsIteratorIn, IsWalkerIn, IsSourceIn, IsRegistrationIn, IsListenerIn, HasTables}
 use Rattle.dom_worlds.proofs.Lists.{all-distinct, all-append, all-then, all-filter, all-from, all-flat_map, all-map, all-set, by_cases, either_way, or-second}
 use Rattle.dom_worlds.proofs.Lists.{by_some_is, or-neither, or-first}
 use Rattle.dom_worlds.proofs.Roots.{roots-equal, roots-same, roots-left}
-use Rattle.dom_laws.proofs.Counts.{Once, by_times, times_subtree}
+use Rattle.dom_laws.proofs.Laws.{Once, by_times, times_subtree}
 use Rattle.dom_worlds.proofs.Trees.{nodes-there, root-there}
 use Rattle.dom_worlds.proofs.TreeChangeLaws.{root-subtree}
 use Rattle.dom_worlds.proofs.PartSteps.{part-step}

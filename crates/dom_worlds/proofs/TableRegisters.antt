@@ -1,30 +1,15 @@
 -- Listeners and observers keep to nodes that are there, and so does what an accepted command does to tables.
-use Rattle.std.proofs.Common.{◌≡◌, ◌≤◌, ◌<◌, ℕ, true, false, not, ◌&&◌, List, [], ◌∷◌, ◌++◌, map, filter, length, Option, Some, None, refl, sym, ap, ◌∙◌, arith}
-use Rattle.std.proofs.Common.{length-append}
-use Rattle.std.specs.Prelude.{⊤, slice_get, slice_set, is_some, ◌==◌}
-use Rattle.std.specs.List.{AllByRecursion, list_any}
-use Rattle.std.specs.Option.{option_map_or, option_or}
-use Rattle.std.proofs.lemmas.Bool.{and_parts}
-use Rattle.std.proofs.lemmas.List.{length-set}
-use Rattle.dom_base.specs.declared.NodeName.{NodeName}
-use Rattle.dom_model.specs.Changes.{observed}
-use Rattle.dom_model.specs.Command.{Command, NodeWord, ObserveWords, ListenerWords, part_refusal, own_refusal, effect}
-use Rattle.dom_model.specs.CommandNames.{named, has_range}
-use Rattle.dom_model.specs.CommandRefusals.{limit_on, made_by_insert_node}
-use Rattle.dom_model.specs.Effects.{answers, moves_iterator, sets_walker, node_or_null, collapsed_to, new_iterator, new_walker}
-use Rattle.dom_model.specs.Extract.{both_at, extracting}
-use Rattle.dom_model.specs.Listeners.{Listener, with_listener_added, is_listener}
-use Rattle.dom_model.specs.Names.{name_eq}
-use Rattle.dom_model.specs.Observers.{Registration, asked_for, with_registration, with_options, is_asked_for, stems_from, options_of}
-use Rattle.dom_model.specs.Output.{nothing, a_node, a_string, boundaries, reference}
-use Rattle.dom_model.specs.Part.{Part, first_node, range_at}
-use Rattle.dom_model.specs.RangeOps.{cannot_take_node, insert_node_refusal, insertion_parent, start_reference, range_text_of, inserting_into_range, deleting}
-use Rattle.dom_model.specs.Ranges.{Range, at, with_start, with_end}
-use Rattle.dom_model.specs.Traversal.{Iterator, Walker, iterator_next_node, iterator_previous_node, walker_move}
-use Rattle.dom_model.specs.Tree.{Trees, has_node, parent_of, length_of}
-use Rattle.dom_model.specs.Validity.{pre_insert_refusal}
-use Rattle.dom_worlds.specs.Worlds.{IsPart}
-use Rattle.dom_worlds.specs.Tables.{IsNodeIn, EndsIn, IsIteratorIn, IsWalkerIn, IsRegistrationIn, IsListenerIn, HasTables}
+use Rattle.dom_base.proofs.Std.{◌≡◌, ◌≤◌, ◌<◌, ℕ, true, false, not, ◌&&◌, List, [], ◌∷◌, ◌++◌, map, filter, length, Option, Some, None, refl, sym, ap, ◌∙◌}
+use Rattle.dom_base.proofs.Std.{arith, length-append, ⊤, slice_get, slice_set, is_some, ◌==◌, AllByRecursion, list_any, option_map_or, option_or, and_parts}
+use Rattle.dom_base.proofs.Std.{length-set}
+use Rattle.dom_model.proofs.Model.{NodeName, observed, Command, NodeWord, ObserveWords, ListenerWords, part_refusal, own_refusal, effect, named, has_range}
+use Rattle.dom_model.proofs.Model.{limit_on, made_by_insert_node, answers, moves_iterator, sets_walker, node_or_null, collapsed_to, new_iterator, new_walker}
+use Rattle.dom_model.proofs.Model.{both_at, extracting, Listener, with_listener_added, is_listener, name_eq, Registration, asked_for, with_registration}
+use Rattle.dom_model.proofs.Model.{with_options, is_asked_for, stems_from, options_of, nothing, a_node, a_string, boundaries, reference, Part, first_node}
+use Rattle.dom_model.proofs.Model.{range_at, cannot_take_node, insert_node_refusal, insertion_parent, start_reference, range_text_of, inserting_into_range}
+use Rattle.dom_model.proofs.Model.{deleting, Range, at, with_start, with_end, Iterator, Walker, iterator_next_node, iterator_previous_node, walker_move, Trees}
+use Rattle.dom_model.proofs.Model.{has_node, parent_of, length_of, pre_insert_refusal}
+use Rattle.dom_worlds.specs.Definitions.{IsPart, IsNodeIn, EndsIn, IsIteratorIn, IsWalkerIn, IsRegistrationIn, IsListenerIn, HasTables}
 use Rattle.dom_worlds.proofs.Effects.{IsPartAccepted, or-none, part-accepted, range-steps}
 use Rattle.dom_worlds.proofs.Descents.{inside-ancestor}
 use Rattle.dom_worlds.proofs.Insides.{inside-itself}

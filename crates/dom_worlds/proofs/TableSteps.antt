@@ -1,29 +1,15 @@
 -- A step that loses no node keeps the tables of its part, where what it names is there.
-use Rattle.std.proofs.Common.{◌≡◌, ◌≤◌, ℕ, Bool, true, false, not, ◌&&◌, ◌||◌, List, [], ◌∷◌, map, length, Option, Some, None, option_map, refl, sym, ap, ◌∙◌}
-use Rattle.std.proofs.Common.{arith, subst, ◌<◌}
-use Rattle.std.specs.Prelude.{if◌then◌else◌, IsTrue, ⊤, nat_eq, nat_lt, nat_le, ◌+◌, ◌-◌}
-use Rattle.std.specs.List.{AllByRecursion}
-use Rattle.std.specs.Option.{option_map_or}
-use Rattle.std.proofs.lemmas.Bool.{and_parts}
-use Rattle.dom_base.specs.declared.NodeName.{NodeName}
-use Rattle.dom_model.specs.Names.{name_eq}
-use Rattle.dom_model.specs.Tree.{Trees, Node, parent_of, root_of, index_of, is_inclusive_ancestor, times_in}
-use Rattle.dom_model.specs.TreeChanges.{map_nodes, with_name}
-use Rattle.dom_model.specs.Place.{Boundary}
-use Rattle.dom_model.specs.Ranges.{Range, at, map_ends, boundary_eq, after_insert, after_removal, after_replace_data, after_split, after_join}
-use Rattle.dom_model.specs.Traversal.{Iterator, Walker}
-use Rattle.dom_model.specs.Output.{Change}
-use Rattle.dom_model.specs.Listeners.{Listener}
-use Rattle.dom_model.specs.Observers.{Registration, Source, asked_for, copied_from, copied_from_transient}
-use Rattle.dom_model.specs.Part.{Part, next_name}
-use Rattle.dom_model.specs.Steps.{Step, make, place, take_out, set_document, set_attribute, replace_data, split_at, join_at, set_range, part_step, leave}
-use Rattle.dom_model.specs.Steps.{with_ends}
-use Rattle.dom_model.proofs.OwnerLaws.{name_eq-true}
-use Rattle.dom_worlds.specs.Worlds.{IsPart}
-use Rattle.dom_worlds.specs.Tables.{IsNodeIn, EndsIn, IsIteratorIn, IsWalkerIn, IsSourceIn, IsRegistrationIn, IsListenerIn, HasTables}
+use Rattle.dom_base.proofs.Std.{◌≡◌, ◌≤◌, ℕ, Bool, true, false, not, ◌&&◌, ◌||◌, List, [], ◌∷◌, map, length, Option, Some, None, option_map, refl, sym, ap, ◌∙◌}
+use Rattle.dom_base.proofs.Std.{arith, subst, ◌<◌, if◌then◌else◌, IsTrue, ⊤, nat_eq, nat_lt, nat_le, ◌+◌, ◌-◌, AllByRecursion, option_map_or, and_parts}
+use Rattle.dom_model.proofs.Model.{NodeName, name_eq, Trees, Node, parent_of, root_of, index_of, is_inclusive_ancestor, times_in, map_nodes, with_name}
+use Rattle.dom_model.proofs.Model.{Boundary, Range, at, map_ends, boundary_eq, after_insert, after_removal, after_replace_data, after_split, after_join}
+use Rattle.dom_model.proofs.Model.{Iterator, Walker, Change, Listener, Registration, Source, asked_for, copied_from, copied_from_transient, Part, next_name}
+use Rattle.dom_model.proofs.Model.{Step, make, place, take_out, set_document, set_attribute, replace_data, split_at, join_at, set_range, part_step, leave}
+use Rattle.dom_model.proofs.Model.{with_ends, name_eq-true}
+use Rattle.dom_worlds.specs.Definitions.{IsPart, IsNodeIn, EndsIn, IsIteratorIn, IsWalkerIn, IsSourceIn, IsRegistrationIn, IsListenerIn, HasTables}
 use Rattle.dom_worlds.proofs.Lists.{all-then, all-map, either_way, which_way, by_some}
 use Rattle.dom_worlds.proofs.Roots.{KeepsRoots, parent-apart, root-one, root-parent_of, roots-equal, roots-same, roots-stay}
-use Rattle.dom_laws.proofs.Counts.{Once}
+use Rattle.dom_laws.proofs.Laws.{Once}
 use Rattle.dom_worlds.proofs.TreeChangeLaws.{times-with_node, times-map_nodes, HasRoot}
 use Rattle.dom_worlds.proofs.PartSteps.{KeepsNames, part-step, attribute_put, attribute_put-keeps, data_put, data_put-keeps, document_put, document_put-keeps}
 use Rattle.dom_worlds.proofs.KindLines.{has_node-times}

@@ -1,28 +1,14 @@
 -- Steps in the world keep the tables of all parts, and each signalled slot a node.
-use Rattle.std.proofs.Common.{◌≡◌, ℕ, zero, suc, ◌≤◌, ◌<◌, Bool, true, ◌&&◌, List, [], ◌∷◌, ◌++◌, filter, filter_map, find, fold, Option, Some, None}
-use Rattle.std.proofs.Common.{option_map, refl, sym, ap, ◌∙◌, arith, true≢false, subst}
-use Rattle.std.specs.Prelude.{if◌then◌else◌, option_to_list, unwrap_or}
-use Rattle.std.specs.List.{AllByRecursion, cons_option}
-use Rattle.std.specs.Option.{option_and_then}
-use Rattle.std.proofs.lemmas.Bool.{and_parts}
-use Rattle.dom_base.specs.declared.NodeName.{NodeName}
-use Rattle.dom_base.specs.declared.Owner.{Owner}
-use Rattle.dom_base.specs.declared.Owner.TheVariants.{Page}
-use Rattle.dom_model.specs.Names.{DomString, name_eq, owner_eq, owner_depth, node_of, max_depth, is_empty, is_in}
-use Rattle.dom_model.specs.Tree.{Trees, Node, nodes, node_in, no_node, subtree, inclusive_descendants, is_element, times_in}
-use Rattle.dom_model.specs.Part.{Part}
-use Rattle.dom_model.specs.Slots.{is_slot_element, slottable_name, slot_in, slot_of, has_slot_name, assigned_nodes, assigned_nodes_changed, is_bare_slot}
-use Rattle.dom_model.specs.Slots.{own_slots, slots_among}
-use Rattle.dom_model.specs.Slots.{other_slots, signals, with_signal}
-use Rattle.dom_model.specs.Steps.{Step, set_document, part_step}
-use Rattle.dom_model.specs.World.{World, part_of, with_part, trees_with, node_at, root_at, parent_at, component_at, components_below, shadow_root_of}
-use Rattle.dom_model.specs.World.{shadow_tree, is_in_shadow_tree}
-use Rattle.dom_model.specs.WorldSteps.{world_step, world_after, stepped, with_shadow_document}
-use Rattle.dom_model.proofs.OwnerLaws.{owner_eq-true, owner_eq-false}
-use Rattle.dom_model.proofs.PartLaws.{part_of-with_part, part_of-with_part-other, owner-part_of}
-use Rattle.dom_model.proofs.StepLaws.{IsOther, IsApart, part_of-own_step}
-use Rattle.dom_worlds.specs.Worlds.{IsPart, IsWorld, HasMakers}
-use Rattle.dom_worlds.specs.Tables.{IsNodeIn, HasTables, HasRecords, IsNodeAt}
+use Rattle.dom_base.proofs.Std.{◌≡◌, ℕ, zero, suc, ◌≤◌, ◌<◌, Bool, true, ◌&&◌, List, [], ◌∷◌, ◌++◌, filter, filter_map, find, fold, Option, Some, None}
+use Rattle.dom_base.proofs.Std.{option_map, refl, sym, ap, ◌∙◌, arith, true≢false, subst, if◌then◌else◌, option_to_list, unwrap_or, AllByRecursion, cons_option}
+use Rattle.dom_base.proofs.Std.{option_and_then, and_parts}
+use Rattle.dom_model.proofs.Model.{NodeName, Owner, Page, DomString, name_eq, owner_eq, owner_depth, node_of, max_depth, is_empty, is_in, Trees, Node, nodes}
+use Rattle.dom_model.proofs.Model.{node_in, no_node, subtree, inclusive_descendants, is_element, times_in, Part, is_slot_element, slottable_name, slot_in}
+use Rattle.dom_model.proofs.Model.{slot_of, has_slot_name, assigned_nodes, assigned_nodes_changed, is_bare_slot, own_slots, slots_among, other_slots, signals}
+use Rattle.dom_model.proofs.Model.{with_signal, Step, set_document, part_step, World, part_of, with_part, trees_with, node_at, root_at, parent_at, component_at}
+use Rattle.dom_model.proofs.Model.{components_below, shadow_root_of, shadow_tree, is_in_shadow_tree, world_step, world_after, stepped, with_shadow_document}
+use Rattle.dom_model.proofs.Model.{owner_eq-true, owner_eq-false, part_of-with_part, part_of-with_part-other, owner-part_of, IsOther, IsApart, part_of-own_step}
+use Rattle.dom_worlds.specs.Definitions.{IsPart, IsWorld, HasMakers, IsNodeIn, HasTables, HasRecords, IsNodeAt}
 use Rattle.dom_worlds.proofs.InsideAncestors.{times-has_node}
 use Rattle.dom_worlds.proofs.Lists.{all-append, all-filter, all-then, all-map, all-flat_map, all-distinct, by_cases, either_way, kept-fold}
 use Rattle.dom_worlds.proofs.Owners.{makers-same, component-deeper}
@@ -31,7 +17,7 @@ use Rattle.dom_worlds.proofs.Recorded.{Tells, TellsIn, records-step}
 use Rattle.dom_worlds.proofs.ShadowRoots.{found-absent}
 use Rattle.dom_worlds.proofs.TableSteps.{Fits, MadeIn, Grows, grows-step}
 use Rattle.dom_worlds.proofs.TableRecords.{tables-step, IfSome}
-use Rattle.dom_laws.proofs.Counts.{by_times, times_subtree}
+use Rattle.dom_laws.proofs.Laws.{by_times, times_subtree}
 use Rattle.dom_worlds.proofs.Trees.{nodes-there}
 use Rattle.dom_worlds.proofs.WorldSteps.{attached-with_part, stepped_owner, kept-world_step}
 

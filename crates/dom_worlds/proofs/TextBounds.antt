@@ -1,25 +1,15 @@
 -- The plans of texts keep the ends of ranges within their nodes.
-use Rattle.std.proofs.Common.{◌≡◌, ◌≤◌, ℕ, ◌+◌, ◌-◌, Bool, true, false, not, ◌&&◌, List, [], ◌∷◌, ◌++◌, map, filter, flat_map, drop, length, take_while, Option}
-use Rattle.std.proofs.Common.{Some, None, refl, sym, ap, ◌∙◌, arith, subst, length-append, length-drop}
-use Rattle.std.specs.Prelude.{if◌then◌else◌, ◌==◌, min}
-use Rattle.std.specs.List.{AllByRecursion}
-use Rattle.std.specs.Option.{option_map_or}
-use Rattle.std.proofs.lemmas.Bool.{cond-true, cond-false}
-use Rattle.dom_base.specs.declared.NodeName.{NodeName}
-use Rattle.dom_base.specs.declared.Kind.{Kind}
-use Rattle.dom_model.specs.Names.{DomString, name_eq, is_empty, items_after, first_of}
-use Rattle.dom_model.specs.Tree.{Trees, none, tree, Node, node_in, kind_of, is_text, is_document, is_fragment, has_data, subtree, trees_below, times_in}
-use Rattle.dom_model.specs.Tree.{children_of, parent_of, siblings, next_sibling, index_of, length_of, descendants, inclusive_descendants, inclusive_ancestors}
-use Rattle.dom_model.specs.Tree.{on_top, names_of, roots}
-use Rattle.dom_model.specs.TreeChanges.{followed_by, with_name, with_node, with_data_replaced}
-use Rattle.dom_model.specs.Output.{child_list, character_data}
-use Rattle.dom_model.specs.Part.{Part, next_name}
-use Rattle.dom_model.specs.Steps.{Step, make, split_at, replace_data, queue_record, part_step, after}
-use Rattle.dom_model.specs.Changes.{Plan, ◌and_then◌, in_turn, doing, steps_of, only_if, observed, suppressed, remove_plan, document_below, insert_plan}
-use Rattle.dom_model.specs.TextChanges.{replacing_data, new_text_node, replacing_all_data, placing_tail, splitting, contiguous_texts_after, joins, joining}
-use Rattle.dom_model.specs.TextChanges.{normalizing_text, normalizing, replacing_children, setting_text}
-use Rattle.dom_model.proofs.OwnerLaws.{name_eq-same, name_eq-turned}
-use Rattle.dom_worlds.specs.Worlds.{times_among, IsPart}
+use Rattle.dom_base.proofs.Std.{◌≡◌, ◌≤◌, ℕ, ◌+◌, ◌-◌, Bool, true, false, not, ◌&&◌, List, [], ◌∷◌, ◌++◌, map, filter, flat_map, drop, length, take_while}
+use Rattle.dom_base.proofs.Std.{Option, Some, None, refl, sym, ap, ◌∙◌, arith, subst, length-append, length-drop, if◌then◌else◌, ◌==◌, min, AllByRecursion}
+use Rattle.dom_base.proofs.Std.{option_map_or, cond-true, cond-false}
+use Rattle.dom_model.proofs.Model.{NodeName, Kind, DomString, name_eq, is_empty, items_after, first_of, Trees, none, tree, Node, node_in, kind_of, is_text}
+use Rattle.dom_model.proofs.Model.{is_document, is_fragment, has_data, subtree, trees_below, times_in, children_of, parent_of, siblings, next_sibling, index_of}
+use Rattle.dom_model.proofs.Model.{length_of, descendants, inclusive_descendants, inclusive_ancestors, on_top, names_of, roots, followed_by, with_name}
+use Rattle.dom_model.proofs.Model.{with_node, with_data_replaced, child_list, character_data, Part, next_name, Step, make, split_at, replace_data, queue_record}
+use Rattle.dom_model.proofs.Model.{part_step, after, Plan, ◌and_then◌, in_turn, doing, steps_of, only_if, observed, suppressed, remove_plan, document_below}
+use Rattle.dom_model.proofs.Model.{insert_plan, replacing_data, new_text_node, replacing_all_data, placing_tail, splitting, contiguous_texts_after, joins}
+use Rattle.dom_model.proofs.Model.{joining, normalizing_text, normalizing, replacing_children, setting_text, name_eq-same, name_eq-turned}
+use Rattle.dom_worlds.specs.Definitions.{times_among, IsPart}
 use Rattle.dom_worlds.proofs.Bounds.{IsRoomy, nowhere, HasRoom, room-make, room-record, room-split, room-join, length-replaced}
 use Rattle.dom_worlds.proofs.ChildCounts.{kids, index-below}
 use Rattle.dom_worlds.proofs.Roots.{node-with_node, node-new, node-map_nodes, length-data, length-kids}
@@ -33,8 +23,7 @@ use Rattle.dom_worlds.proofs.PlanTexts.{leads-tail, leads-joins, leads-replacing
 use Rattle.dom_worlds.proofs.TableSteps.{HasNode}
 use Rattle.dom_worlds.proofs.TableRecords.{all-kept}
 use Rattle.dom_worlds.proofs.TreeChangeLaws.{HasRoot, root-put_root_new, root-first, times-below}
-use Rattle.dom_laws.proofs.Counts.{times-here, times-elsewhere, times-more, times_subtree}
-use Rattle.dom_laws.proofs.Paths.{path_none}
+use Rattle.dom_laws.proofs.Laws.{times-here, times-elsewhere, times-more, times_subtree, path_none}
 use Rattle.dom_worlds.proofs.Trees.{all-both, where-here, where-later, put_root-where, put_where}
 use Rattle.dom_worlds.proofs.KindCases.{failing, of_kinds}
 

@@ -1,17 +1,12 @@
 -- What the elementary changes do to how often a name is there, to all nodes, and to the roots.
-use Rattle.std.proofs.Common.{◌≡◌, ◌+◌, ◌≤◌, Bool, true, false, Option, refl, sym, ap, ◌∙◌, arith, true≢false, subst, ℕ}
-use Rattle.std.specs.Prelude.{if◌then◌else◌}
-use Rattle.std.specs.List.{AllByRecursion}
-use Rattle.std.proofs.lemmas.Bool.{cond-true, cond-false}
-use Rattle.dom_base.specs.declared.NodeName.{NodeName}
-use Rattle.dom_model.specs.Names.{name_eq, name_before, is_in}
-use Rattle.dom_model.specs.Tree.{Trees, none, tree, Node, nodes, names_of, roots, subtree, or_else, trees_below, times_in}
-use Rattle.dom_model.specs.TreeChanges.{followed_by, without, is_given, put_before, put_below, put_root, taken_out, placed, with_node, map_nodes}
-use Rattle.dom_model.proofs.OwnerLaws.{name_eq-same, name_eq-turned, name_eq-true}
-use Rattle.dom_worlds.specs.Worlds.{AllNodes}
+use Rattle.dom_base.proofs.Std.{◌≡◌, ◌+◌, ◌≤◌, Bool, true, false, Option, refl, sym, ap, ◌∙◌, arith, true≢false, subst, ℕ, if◌then◌else◌, AllByRecursion}
+use Rattle.dom_base.proofs.Std.{cond-true, cond-false}
+use Rattle.dom_model.proofs.Model.{NodeName, name_eq, name_before, is_in, Trees, none, tree, Node, nodes, names_of, roots, subtree, or_else, trees_below}
+use Rattle.dom_model.proofs.Model.{times_in, followed_by, without, is_given, put_before, put_below, put_root, taken_out, placed, with_node, map_nodes}
+use Rattle.dom_model.proofs.Model.{name_eq-same, name_eq-turned, name_eq-true}
+use Rattle.dom_worlds.specs.Definitions.{AllNodes}
 use Rattle.dom_worlds.proofs.Lists.{all-append, by_cases, or-later, or-first, or-second}
-use Rattle.dom_laws.proofs.Counts.{Once, by_times, times-here, times-elsewhere, times-more, times-parts, times_subtree, times_or_else}
-use Rattle.dom_laws.proofs.Paths.{subtree_gone}
+use Rattle.dom_laws.proofs.Laws.{Once, by_times, times-here, times-elsewhere, times-more, times-parts, times_subtree, times_or_else, subtree_gone}
 use Rattle.dom_worlds.proofs.Trees.{root-there, IsSum, put_before-where, put_root-where, sum-put_before, sum-put_root, where-here, where-later, put_where}
 
 -- a tree at hand, by whether its first root is the one

@@ -1,17 +1,11 @@
 -- Where the nodes of a list of trees stand, by how often their names are there.
-use Rattle.std.proofs.Common.{◌≡◌, ◌≤◌, ◌||◌, Bool, true, false, List, [], ◌∷◌, ◌++◌, Option, Some, unwrap_or, refl, sym, ap, ◌∙◌, arith, true≢false, subst}
-use Rattle.std.proofs.Common.{◌+◌, ℕ}
-use Rattle.std.specs.List.{AllByRecursion, last_or}
-use Rattle.std.proofs.lemmas.Bool.{cond-true, cond-false}
-use Rattle.dom_base.specs.declared.NodeName.{NodeName}
-use Rattle.dom_model.specs.Names.{name_eq, is_in, last_of, name_before}
-use Rattle.dom_model.specs.Tree.{Trees, none, tree, Node, nodes, names_of, roots, subtree, or_else, inclusive_ancestors, on_top, root_of, times_in}
-use Rattle.dom_model.proofs.OwnerLaws.{name_eq-same, name_eq-true, name_eq-turned}
-use Rattle.dom_laws.proofs.Counts.{Once, once_parts, by_times, times-here, times-elsewhere, times-more, times-parts, times_subtree}
-use Rattle.dom_laws.proofs.Paths.{path_none, subtree_gone}
+use Rattle.dom_base.proofs.Std.{◌≡◌, ◌≤◌, ◌||◌, Bool, true, false, List, [], ◌∷◌, ◌++◌, Option, Some, unwrap_or, refl, sym, ap, ◌∙◌, arith, true≢false, subst}
+use Rattle.dom_base.proofs.Std.{◌+◌, ℕ, AllByRecursion, last_or, cond-true, cond-false, if◌then◌else◌}
+use Rattle.dom_model.proofs.Model.{NodeName, name_eq, is_in, last_of, name_before, Trees, none, tree, Node, nodes, names_of, roots, subtree, or_else}
+use Rattle.dom_model.proofs.Model.{inclusive_ancestors, on_top, root_of, times_in, name_eq-same, name_eq-true, name_eq-turned, followed_by, is_given}
+use Rattle.dom_model.proofs.Model.{put_before, put_root}
+use Rattle.dom_laws.proofs.Laws.{Once, once_parts, by_times, times-here, times-elsewhere, times-more, times-parts, times_subtree, path_none, subtree_gone}
 use Rattle.dom_worlds.proofs.Lists.{all-append, all-then, by_cases, or-first, or-later}
-use Rattle.std.specs.Prelude.{if◌then◌else◌}
-use Rattle.dom_model.specs.TreeChanges.{followed_by, is_given, put_before, put_root}
 
 -- What holds of all nodes of a list holds of one of them.
 pub all-in : (P : NodeName → Type 0) (x : NodeName) (ys : List NodeName) → AllByRecursion P ys → is_in name_eq x ys ≡ true → P x

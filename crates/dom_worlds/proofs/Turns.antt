@@ -1,36 +1,16 @@
 -- Visits, notifications and the ends of turns, and what comes before a line: they keep what holds of the world.
-use Rattle.std.proofs.Common.{◌≡◌, ℕ, ◌≤◌, ◌<◌, true, false, [], filter, Option, Some, None, refl, sym, ap, ◌∙◌, subst, Bool, not, List, ◌∷◌, ◌++◌, fold}
-use Rattle.std.proofs.Common.{true≢false}
-use Rattle.std.specs.Prelude.{is_some, slice_get, if◌then◌else◌}
-use Rattle.std.specs.List.{AllByRecursion}
-use Rattle.std.specs.Option.{option_and_then, option_map_or}
-use Rattle.dom_base.specs.declared.Owner.{Owner}
-use Rattle.dom_base.specs.declared.Owner.TheVariants.{Page, Component}
-use Rattle.dom_model.specs.Tree.{times_in}
-use Rattle.dom_model.specs.Names.{owner_eq, name_eq}
-use Rattle.dom_model.specs.Part.{Part}
-use Rattle.dom_model.specs.World.{World, part_of, with_part, is_there, host_of, made_by, shadow_root_of, Task, micro_task, notify_task}
-use Rattle.dom_model.specs.Turns.{is_page_turn, notified, slotchange, firing_slotchange, is_owned_by, without_signals, running_task, ending_turn}
-use Rattle.dom_model.specs.Turns.{is_other_component, has_other_turn, ending_other_turn, opening_turn}
-use Rattle.dom_model.specs.PageMachine.{is_page_task, page_of}
-use Rattle.dom_model.proofs.OwnerLaws.{owner_eq-true, owner_eq-false}
-use Rattle.dom_model.proofs.PartLaws.{part_of-with_part, part_of-with_part-other, owner-part_of, find-put, find-put-other}
-use Rattle.dom_worlds.specs.Worlds.{IsPart, IsRoot, IsWorld, IsOf, IsForeignTo, OnlyLogs, ComponentsOnlyLog}
+use Rattle.dom_base.proofs.Std.{◌≡◌, ℕ, ◌≤◌, ◌<◌, true, false, [], filter, Option, Some, None, refl, sym, ap, ◌∙◌, subst, Bool, not, List, ◌∷◌, ◌++◌, fold}
+use Rattle.dom_base.proofs.Std.{true≢false, is_some, slice_get, if◌then◌else◌, AllByRecursion, option_and_then, option_map_or, cond-true, cond-false}
+use Rattle.dom_model.proofs.Model.{Owner, Page, Component, times_in, owner_eq, name_eq, Part, World, part_of, with_part, is_there, host_of, made_by}
+use Rattle.dom_model.proofs.Model.{shadow_root_of, Task, micro_task, notify_task, is_page_turn, notified, slotchange, firing_slotchange, is_owned_by}
+use Rattle.dom_model.proofs.Model.{without_signals, running_task, ending_turn, is_other_component, has_other_turn, ending_other_turn, opening_turn}
+use Rattle.dom_model.proofs.Model.{is_page_task, page_of, owner_eq-true, owner_eq-false, part_of-with_part, part_of-with_part-other, owner-part_of, find-put}
+use Rattle.dom_model.proofs.Model.{find-put-other, Action, Log, Stop, StopNow, Cancel, NodeName, EventLine, EventWords, Listener, Visit, Dispatching}
+use Rattle.dom_model.proofs.Model.{after_invoke, after_inner_invoke, hears, is_listener, kept_after, after_action, may_cancel, line_of, begun, world_visit}
+use Rattle.dom_model.proofs.Model.{dispatch_in, visits_of, run_each, Run, quiet, views, turn-ending_turn}
+use Rattle.dom_worlds.specs.Definitions.{IsPart, IsRoot, IsWorld, IsOf, IsForeignTo, OnlyLogs, ComponentsOnlyLog, Invariant}
 use Rattle.dom_worlds.proofs.Owners.{makers-same}
 use Rattle.dom_worlds.proofs.Lists.{by_cases, all-filter}
-use Rattle.std.proofs.lemmas.Bool.{cond-true, cond-false}
-use Rattle.dom_base.specs.declared.Action.{Action}
-use Rattle.dom_base.specs.declared.Action.TheVariants.{Log, Stop, StopNow, Cancel}
-use Rattle.dom_base.specs.declared.NodeName.{NodeName}
-use Rattle.dom_model.specs.Output.{EventLine}
-use Rattle.dom_model.specs.Command.{EventWords}
-use Rattle.dom_model.specs.Listeners.{Listener, Visit, Dispatching, after_invoke, after_inner_invoke, hears, is_listener, kept_after, after_action, may_cancel}
-use Rattle.dom_model.specs.Listeners.{line_of, begun}
-use Rattle.dom_model.specs.Dispatch.{world_visit, dispatch_in, visits_of}
-use Rattle.dom_model.specs.Runs.{run_each, Run, quiet}
-use Rattle.dom_model.specs.Paths.{views}
-use Rattle.dom_worlds.specs.Reached.{Invariant}
-use Rattle.dom_model.proofs.TurnLaws.{turn-ending_turn}
 
 -- parts with the same trees, count and hosts
 pub record IsAlike (q p : Part) : Type 0 where

@@ -1,27 +1,13 @@
 -- Steps in the world: they keep what holds of it, and of each of its parts and tasks.
-use Rattle.std.proofs.Common.{Bool, true, false, List, [], ◌∷◌, ◌++◌, fold, Option, sym, subst, ◌≡◌, filter, refl, ap, ◌∙◌, true≢false}
-use Rattle.std.specs.List.{AllByRecursion, list_any}
-use Rattle.dom_base.specs.declared.Owner.{Owner}
-use Rattle.dom_base.specs.declared.NodeName.{NodeName}
-use Rattle.dom_model.specs.Names.{owner_eq, max_depth, name_eq, is_in}
-use Rattle.dom_model.specs.Tree.{parent_of}
-use Rattle.dom_model.specs.Part.{Part}
-use Rattle.dom_model.specs.Slots.{signals, with_signal}
-use Rattle.dom_model.specs.Steps.{Step, place, take_out, set_document, set_attribute, queue_record, part_step, is_taken}
-use Rattle.dom_model.specs.World.{World, Task, notify_task, part_of, with_part, is_notify_of, with_notify, components_below, shadow_root_of, host_of}
-use Rattle.dom_model.specs.World.{queued_notify}
-use Rattle.dom_model.specs.WorldSteps.{world_step, world_after, stepped, with_removal_signals, with_notify_if, with_shadow_document, with_signals}
-use Rattle.dom_model.proofs.OwnerLaws.{owner_eq-true, owner_eq-false}
-use Rattle.dom_model.proofs.PartLaws.{part_of-with_part, part_of-with_part-other, owner-part_of}
+use Rattle.dom_base.proofs.Std.{Bool, true, false, List, [], ◌∷◌, ◌++◌, fold, Option, sym, subst, ◌≡◌, filter, refl, ap, ◌∙◌, true≢false, AllByRecursion}
+use Rattle.dom_base.proofs.Std.{list_any, cond-true, cond-false, IsTrue, is_some}
+use Rattle.dom_model.proofs.Model.{Owner, NodeName, owner_eq, max_depth, name_eq, is_in, parent_of, Part, signals, with_signal, Step, place, take_out}
+use Rattle.dom_model.proofs.Model.{set_document, set_attribute, queue_record, part_step, is_taken, World, Task, notify_task, part_of, with_part, is_notify_of}
+use Rattle.dom_model.proofs.Model.{with_notify, components_below, shadow_root_of, host_of, queued_notify, world_step, world_after, stepped}
+use Rattle.dom_model.proofs.Model.{with_removal_signals, with_notify_if, with_shadow_document, with_signals, owner_eq-true, owner_eq-false, part_of-with_part}
+use Rattle.dom_model.proofs.Model.{part_of-with_part-other, owner-part_of, Page, Component, is_page_turn, is_page_task, owner-part_step, Component-IsNoPage}
 use Rattle.dom_worlds.proofs.Lists.{all-append, by_cases, either_way, kept-fold, by_some}
-use Rattle.std.proofs.lemmas.Bool.{cond-true, cond-false}
-use Rattle.std.specs.Prelude.{IsTrue, is_some}
-use Rattle.dom_base.specs.declared.Owner.TheVariants.{Page, Component}
-use Rattle.dom_model.specs.Turns.{is_page_turn}
-use Rattle.dom_model.specs.PageMachine.{is_page_task}
-use Rattle.dom_model.proofs.StepLaws.{owner-part_step, Component-IsNoPage}
-use Rattle.dom_worlds.specs.Reached.{Invariant}
-use Rattle.dom_worlds.specs.Worlds.{IsPart, IsRoot, IsWorld, IsOf, IsForeignTo}
+use Rattle.dom_worlds.specs.Definitions.{Invariant, IsPart, IsRoot, IsWorld, IsOf, IsForeignTo}
 use Rattle.dom_worlds.proofs.Owners.{makers-same}
 use Rattle.dom_worlds.proofs.Turns.{host_of-same, world-alike, there-with_part, logs-same, listeners-with_part}
 use Rattle.dom_worlds.proofs.ShadowTrees.{signals-foreign, page_tasks-queued_other}

@@ -7,3 +7,4 @@ pub mod Wholes
 pub mod Follows
 pub mod Sights
 pub mod Bounds
+pub mod Definitions

@@ -1,8 +1,6 @@
 -- What a run has written stays written where it is handed on.
-use Rattle.std.proofs.Common.{◌≡◌, ℕ, ◌<◌, Bool, true, false, List, Option, Result, Ok, Err, OnOk, IfErr, refl, sym, subst, ◌∙◌, arith}
-use Rattle.std.specs.Result.{is_ok}
-use Rattle.std.specs.Io.KnownBytes.{Keeps}
-use Rattle.std.proofs.KnownBytes.{Appends-kept}
+use Rattle.dom_base.proofs.Std.{◌≡◌, ℕ, ◌<◌, Bool, true, false, List, Option, Result, Ok, Err, OnOk, IfErr, refl, sym, subst, ◌∙◌, arith, is_ok, Keeps}
+use Rattle.dom_base.proofs.Std.{Appends-kept}
 use Rattle.dom_base.specs.declared.Owner.{Owner}
 use Rattle.dom_streams.specs.declared.fault.RunFault.{RunFault}
 use Rattle.dom_streams.specs.declared.fault.RunFault.TheVariants.{Read, Write, Memory, InputLimit}

@@ -1,5 +1,4 @@
-use Rattle.std.specs.Prelude.{refl}
-use Rattle.std.specs.Fmt.{digits}
+use Rattle.dom_base.proofs.Std.{refl, digits}
 use Rattle.dom_text.specs.Decode.{keyword_of}
 use Rattle.dom_examples.proofs.observers.Goals as goal
 

@@ -1,6 +1,5 @@
-use Rattle.std.specs.Prelude.{refl}
-use Rattle.std.specs.Fmt.{digits}
-use Rattle.dom_model.specs.Names.{max_depth}
+use Rattle.dom_base.proofs.Std.{refl, digits}
+use Rattle.dom_model.proofs.Model.{max_depth}
 use Rattle.dom_text.specs.Decode.{keyword_of}
 use Rattle.dom_examples.proofs.protocol.Goals as goal
 

@@ -1,4 +1,4 @@
-use Rattle.std.specs.Prelude.{refl}
+use Rattle.dom_base.proofs.Std.{refl}
 use Rattle.dom_text.specs.Decode.{keyword_of}
 use Rattle.dom_examples.proofs.said.Goals as goal
 

@@ -1,5 +1,5 @@
 -- What the run has written is handed on, or the program ends with a failed write.
-use Rattle.std.proofs.Common.{refl, arith}
+use Rattle.dom_base.proofs.Std.{refl, arith}
 use Rattle.domrun.proofs.Handed.{ending-by, keeps-at, ok-handed, err-handed, failed-handed}
 use Rattle.domrun.proofs.run_between.Goals as goal
 

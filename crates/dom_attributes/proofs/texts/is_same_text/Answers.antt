@@ -1,9 +1,5 @@
-use Rattle.std.proofs.Common.{◌≡◌, ℕ, List, false, length, slice_index_or, ap, sym, ◌∙◌, arith}
-use Rattle.std.proofs.lemmas.Bool.{false_from_ne_true}
-use Rattle.std.proofs.lemmas.List.{ext_get_or}
-use Rattle.std.proofs.lemmas.Slice.Eq.{bytes_eq-Decides}
-use Rattle.std.specs.Str.{bytes_eq}
-use Rattle.dom_model.specs.Names.{text_eq}
+use Rattle.dom_base.proofs.Std.{◌≡◌, ℕ, List, false, length, slice_index_or, ap, sym, ◌∙◌, arith, false_from_ne_true, ext_get_or, bytes_eq-Decides, bytes_eq}
+use Rattle.dom_model.proofs.Model.{text_eq}
 use Rattle.dom_attributes.proofs.Attributes.{text_test}
 use Rattle.dom_attributes.proofs.texts.is_same_text.Goals as goal
 

@@ -1,6 +1,5 @@
 -- The bytes so far are the same.
-use Rattle.std.proofs.Common.{◌≡◌, ◌<◌, ℕ}
-use Rattle.std.specs.Prelude.{slice_index_or}
+use Rattle.dom_base.proofs.Std.{◌≡◌, ◌<◌, ℕ, slice_index_or}
 use Rattle.dom_attributes.proofs.texts.is_same_text.Given as goal
 
 abbrev pub invariant-loop-index : goal.invariant-loop-index

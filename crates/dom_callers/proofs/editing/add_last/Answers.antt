@@ -5,9 +5,8 @@ use Rattle.dom_model.specs.Changes.{doing, pre_insert_plan}
 use Rattle.dom_model.specs.Part.{next_name}
 use Rattle.dom_model.specs.Steps.{make}
 use Rattle.dom_model.specs.World.{part_of}
-use Rattle.dom_mutation.specs.Doc.{name_in, owner_in}
-use Rattle.dom_mutation.specs.Still.{HasNodes, HasStillAll}
-use Rattle.dom_tree.specs.Forest.{node_from}
+use Rattle.dom_mutation.specs.Definitions.{name_in, owner_in, HasNodes, HasStillAll}
+use Rattle.dom_tree.specs.Definitions.{node_from}
 use Rattle.dom_callers.proofs.editing.add_last.Goals as goal
 
 pub returns : goal.returns

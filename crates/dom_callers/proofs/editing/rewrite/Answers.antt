@@ -1,8 +1,7 @@
 use Rattle.std.proofs.Common.{sym, ◌∙◌}
 use Rattle.dom_callers.proofs.InHand.{node-still, text-still, range-still, still-same}
 use Rattle.dom_model.specs.Changes.{replace_plan}
-use Rattle.dom_mutation.specs.Doc.{name_in, owner_in}
-use Rattle.dom_mutation.specs.Still.{HasStillAll}
+use Rattle.dom_mutation.specs.Definitions.{name_in, owner_in, HasStillAll}
 use Rattle.dom_callers.proofs.editing.rewrite.Goals as goal
 
 pub select-requires : goal.select-requires

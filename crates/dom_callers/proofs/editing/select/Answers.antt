@@ -2,8 +2,7 @@ use Rattle.std.proofs.Common.{[]}
 use Rattle.dom_callers.proofs.InHand.{range-still}
 use Rattle.dom_model.specs.Command.{Command, own}
 use Rattle.dom_model.specs.Output.{nothing, a_range}
-use Rattle.dom_mutation.specs.Doc.{name_in}
-use Rattle.dom_mutation.specs.Still.{HasStillAll}
+use Rattle.dom_mutation.specs.Definitions.{name_in, HasStillAll}
 use Rattle.dom_callers.proofs.editing.select.Goals as goal
 
 pub returns : goal.returns

@@ -5,9 +5,8 @@ use Rattle.dom_model.specs.Extract.{extracting}
 use Rattle.dom_model.specs.Names.{node_of}
 use Rattle.dom_model.specs.Part.{range_at}
 use Rattle.dom_model.specs.World.{part_of}
-use Rattle.dom_mutation.specs.Doc.{name_in, owner_in}
-use Rattle.dom_mutation.specs.Still.{HasNodes, HasStillAll}
-use Rattle.dom_range_ops.specs.Insertions.{inserting_node}
+use Rattle.dom_mutation.specs.Definitions.{name_in, owner_in, HasNodes, HasStillAll}
+use Rattle.dom_range_ops.specs.Definitions.{inserting_node}
 use Rattle.dom_callers.proofs.editing.take_and_put_back.Goals as goal
 use Rattle.dom_callers.proofs.InHand.{the_value}
 

@@ -2,8 +2,7 @@ use Rattle.dom_callers.proofs.InHand.{still-same}
 use Rattle.dom_model.specs.Effects.{plan_of_range}
 use Rattle.dom_model.specs.RangeOps.{deleting}
 use Rattle.dom_model.specs.TextChanges.{normalizing}
-use Rattle.dom_mutation.specs.Doc.{name_in, owner_in}
-use Rattle.dom_mutation.specs.Still.{HasNodes, HasStillAll}
+use Rattle.dom_mutation.specs.Definitions.{name_in, owner_in, HasNodes, HasStillAll}
 use Rattle.dom_callers.proofs.editing.tidy.Goals as goal
 
 pub returns : goal.returns

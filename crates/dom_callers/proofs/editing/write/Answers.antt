@@ -4,8 +4,7 @@ use Rattle.dom_model.specs.Part.{next_name}
 use Rattle.dom_model.specs.TextChanges.{splitting, new_text_node}
 use Rattle.dom_model.specs.Tree.{is_text, node_in}
 use Rattle.dom_model.specs.World.{part_of}
-use Rattle.dom_mutation.specs.Doc.{name_in, owner_in}
-use Rattle.dom_mutation.specs.Still.{HasNodes, HasStillAll}
+use Rattle.dom_mutation.specs.Definitions.{name_in, owner_in, HasNodes, HasStillAll}
 use Rattle.dom_callers.proofs.editing.write.Goals as goal
 
 pub split-requires-clause-text : goal.split-requires-clause-text

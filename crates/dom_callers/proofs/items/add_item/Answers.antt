@@ -2,7 +2,7 @@ use Rattle.std.proofs.Common.{ℕ, length, ap, sym, ◌∙◌, arith}
 use Rattle.std.proofs.lemmas.List.{length_push}
 use Rattle.dom_base.specs.declared.NodeName.{NodeName}
 use Rattle.dom_model.specs.Tree.{children_of, node_in}
-use Rattle.dom_tree.specs.Forest.{IsNode}
+use Rattle.dom_tree.specs.Definitions.{IsNode}
 use Rattle.dom_callers.proofs.items.add_item.Goals as goal
 
 -- a node is one still

@@ -1,8 +1,8 @@
-use Rattle.std.proofs.Common.{◌≡◌, ◌+◌, ◌<◌, length}
-use Rattle.std.specs.Option.{option_map, ForSome}
+use Rattle.std.proofs.Common.{◌≡◌, ◌+◌, ◌<◌, length, option_map}
+use Rattle.std.specs.Option.{ForSome}
 use Rattle.dom_model.specs.Tree.{children_of}
 use Rattle.dom_laws.specs.Siblings.{from_sibling}
-use Rattle.dom_tree.specs.Forest.{name_at}
+use Rattle.dom_tree.specs.Definitions.{name_at}
 use Rattle.dom_callers.proofs.items.count_items.Given as goal
 
 abbrev pub invariant-loop-at : goal.invariant-loop-at

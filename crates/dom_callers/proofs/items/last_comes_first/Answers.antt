@@ -2,7 +2,7 @@ use Rattle.std.proofs.Common.{ℕ, ◌∷◌, sym, ap, subst, ◌∙◌}
 use Rattle.std.proofs.lemmas.Option.{same_Some}
 use Rattle.dom_model.specs.Tree.{children_of}
 use Rattle.dom_laws.specs.Siblings.{without_name}
-use Rattle.dom_tree.specs.Forest.{name_at}
+use Rattle.dom_tree.specs.Definitions.{name_at}
 use Rattle.dom_callers.specs.Items.{HasTurned}
 use Rattle.dom_callers.proofs.items.last_comes_first.Goals as goal
 

@@ -1,6 +1,6 @@
 use Rattle.std.proofs.Common.{ap, ◌∙◌}
 use Rattle.dom_model.specs.TreeChanges.{taken_out}
-use Rattle.dom_tree.specs.Forest.{name_at}
+use Rattle.dom_tree.specs.Definitions.{name_at}
 use Rattle.dom_callers.specs.Moving.{shown_ranges, with_coming}
 use Rattle.dom_callers.proofs.moving.move_before.Goals as goal
 

@@ -1,6 +1,5 @@
 use Rattle.std.proofs.Common.{ap, ◌∙◌}
-use Rattle.dom_ranges.specs.Settings.{named_ranges}
-use Rattle.dom_ranges.specs.Tables.{ranges_of}
+use Rattle.dom_ranges.specs.Definitions.{named_ranges, ranges_of}
 use Rattle.dom_callers.proofs.Rooms.{NodeLeaves, out-room}
 use Rattle.dom_callers.proofs.moving.take_out.Goals as goal
 

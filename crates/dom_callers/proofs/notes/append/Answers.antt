@@ -1,6 +1,5 @@
-use Rattle.dom_tree.specs.Forest.{next_name}
+use Rattle.dom_tree.specs.Definitions.{next_name, node_from}
 use Rattle.dom_base.specs.declared.Owner.TheVariants.{Page}
-use Rattle.dom_tree.specs.Forest.{node_from}
 use Rattle.dom_callers.proofs.Written.{appended-is}
 use Rattle.dom_callers.proofs.notes.append.Goals as goal
 

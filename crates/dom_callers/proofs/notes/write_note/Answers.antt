@@ -1,5 +1,5 @@
 use Rattle.dom_base.specs.declared.Owner.TheVariants.{Page}
-use Rattle.dom_tree.specs.Forest.{next_name, node_from}
+use Rattle.dom_tree.specs.Definitions.{next_name, node_from}
 use Rattle.dom_callers.proofs.Written.{note-is}
 use Rattle.dom_callers.proofs.notes.write_note.Goals as goal
 

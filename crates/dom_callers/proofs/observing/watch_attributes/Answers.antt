@@ -1,10 +1,8 @@
-use Rattle.std.proofs.Common.{rules, ◌≡◌, ◌∙◌, ◌⊎◌, inl, inr, ℕ, ◌<◌, true, ltb, [], ◌∷◌, length, Err, ap, sym, arith}
-use Rattle.std.proofs.lemmas.Bool.{true≢false, lt-ltb}
-use Rattle.std.proofs.lemmas.List.{length-append}
+use Rattle.std.proofs.Common.{rules, ◌≡◌, ◌∙◌, ◌⊎◌, inl, inr, ℕ, ◌<◌, true, ltb, [], ◌∷◌, length, Err, ap, sym, arith, true≢false, length-append}
+use Rattle.std.proofs.lemmas.Bool.{lt-ltb}
 use Rattle.dom_base.specs.declared.Fault.TheVariants.{Refused, Memory}
 use Rattle.dom_base.specs.declared.Refusal.TheVariants.{Limit}
-use Rattle.dom_observers.specs.Owners.{tables_of}
-use Rattle.dom_observers.specs.Tables.{TablesOf, with_observer}
+use Rattle.dom_observers.specs.Definitions.{tables_of, TablesOf, with_observer}
 use Rattle.dom_callers.specs.Words.{attribute_words}
 use Rattle.dom_callers.proofs.observing.watch_attributes.Goals as goal
 

@@ -1,4 +1,4 @@
-use Rattle.dom_traversal.specs.Walkers.{walker_left}
+use Rattle.dom_traversal.specs.Definitions.{walker_left}
 use Rattle.dom_callers.proofs.Outlines.{IsSearch}
 use Rattle.dom_callers.proofs.outline.headings.Given as goal
 

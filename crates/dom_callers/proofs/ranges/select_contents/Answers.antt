@@ -1,8 +1,8 @@
 use Rattle.std.proofs.Common.{◌∙◌, ◌+◌, inl, inr, Err, ap, arith}
 use Rattle.dom_model.specs.Tree.{length_of}
-use Rattle.dom_tree.specs.Forest.{name_at}
+use Rattle.dom_tree.specs.Definitions.{name_at}
 use Rattle.dom_callers.proofs.Selections.{all-ended, range-made}
-use Rattle.dom_ranges.specs.Tables.{range_in, ranges_of}
+use Rattle.dom_ranges.specs.Definitions.{range_in, ranges_of}
 use Rattle.dom_callers.proofs.ranges.select_contents.Goals as goal
 
 -- src/ranges.rt:19:1

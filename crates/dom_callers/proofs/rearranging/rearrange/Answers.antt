@@ -1,6 +1,6 @@
 use Rattle.std.proofs.Common.{Some, ap, ◌∙◌}
 use Rattle.dom_model.specs.TreeChanges.{placed, taken_out}
-use Rattle.dom_tree.specs.Forest.{name_at}
+use Rattle.dom_tree.specs.Definitions.{name_at}
 use Rattle.dom_callers.specs.declared.notes.Note.{Note}
 use Rattle.dom_callers.proofs.Rearranged.{children-turned}
 use Rattle.dom_callers.proofs.rearranging.rearrange.Goals as goal

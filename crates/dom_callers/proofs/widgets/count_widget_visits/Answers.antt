@@ -1,8 +1,8 @@
 use Rattle.std.proofs.Common.{None, length, sym, ap, ◌∙◌}
 use Rattle.std.proofs.lemmas.List.{length-map}
-use Rattle.dom_tree.specs.Forest.{name_at}
-use Rattle.dom_slots.specs.Shadows.{shadows}
-use Rattle.dom_path.specs.Items.{item_named}
+use Rattle.dom_tree.specs.Definitions.{name_at}
+use Rattle.dom_slots.specs.Definitions.{shadows}
+use Rattle.dom_path.specs.Definitions.{item_named}
 use Rattle.dom_callers.proofs.Hosting.{widgets-attached, items-long}
 use Rattle.dom_callers.proofs.widgets.count_widget_visits.Goals as goal
 

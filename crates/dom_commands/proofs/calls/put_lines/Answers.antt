@@ -1,7 +1,6 @@
 -- Each line has the path of its number, and so has the one that the text was made for.
-use Rattle.std.proofs.Common.{arith, sym, ap, subst, ◌∙◌}
-use Rattle.std.proofs.lemmas.Grind.{common_steps}
-use Rattle.dom_dispatch.specs.Dispatches.{HasPathOf}
+use Rattle.dom_base.proofs.Std.{arith, sym, ap, subst, ◌∙◌, common_steps}
+use Rattle.dom_dispatch.specs.Definitions.{HasPathOf}
 use Rattle.dom_commands.specs.Machine.{path_shown}
 use Rattle.dom_commands.proofs.EventLines.{every}
 use Rattle.dom_commands.proofs.calls.put_lines.Goals as goal

@@ -1,5 +1,4 @@
-use Rattle.std.proofs.Common.{None, Some, sym, ◌∙◌}
-use Rattle.std.proofs.lemmas.Result.{err_from_is_err_and}
+use Rattle.dom_base.proofs.Std.{None, Some, sym, ◌∙◌, err_from_is_err_and}
 use Rattle.dom_commands.proofs.Admitting.{related_passes, related_stops}
 use Rattle.dom_commands.proofs.events.admit_related.Goals as goal
 

@@ -1,12 +1,8 @@
-use Rattle.std.proofs.Common.{◌≡◌, List, not, ap, ◌∙◌}
-use Rattle.dom_base.specs.declared.NodeName.{NodeName}
-use Rattle.dom_model.specs.Names.{name_eq}
-use Rattle.dom_model.specs.Tree.{root_of}
-use Rattle.dom_model.specs.CommandNames.{named}
-use Rattle.dom_model.specs.World.{part_of}
+use Rattle.dom_base.proofs.Std.{◌≡◌, List, not, ap, ◌∙◌}
+use Rattle.dom_model.proofs.Model.{NodeName, name_eq, root_of, named, part_of}
 use Rattle.dom_reader.specs.declared.line.NodeWord.{NodeWord}
 use Rattle.dom_reader.specs.Views.{word_view}
-use Rattle.dom_tree.specs.Forest.{name_at}
+use Rattle.dom_tree.specs.Definitions.{name_at}
 use Rattle.dom_tree.proofs.Owned.{read_own}
 use Rattle.dom_slots.proofs.Hosted.{key-test}
 use Rattle.dom_admission.proofs.Finding.{owner-named, read_at}

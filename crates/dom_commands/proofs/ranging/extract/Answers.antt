@@ -1,8 +1,5 @@
-use Rattle.std.proofs.Common.{◌∙◌, ap, refl, sym}
-use Rattle.dom_model.specs.Effects.{changes, plan_of_range}
-use Rattle.dom_model.specs.Extract.{extracting}
-use Rattle.dom_model.specs.Output.{a_node}
-use Rattle.dom_model.specs.World.{part_of}
+use Rattle.dom_base.proofs.Std.{◌∙◌, ap, refl, sym}
+use Rattle.dom_model.proofs.Model.{changes, plan_of_range, extracting, a_node, part_of}
 use Rattle.dom_admission.specs.declared.admission.Operand.TheVariants.{Range}
 use Rattle.dom_admission.proofs.Handling.{may_act, plans, refused, thing_there}
 use Rattle.dom_admission.proofs.OwnRefusals.{none_stopped}

@@ -1,8 +1,8 @@
-use Rattle.std.proofs.Common.{◌∷◌, ◌∙◌, [], Err, ap, refl}
-use Rattle.dom_model.specs.World.{part_of}
+use Rattle.dom_base.proofs.Std.{◌∷◌, ◌∙◌, [], Err, ap, refl}
+use Rattle.dom_model.proofs.Model.{part_of}
 use Rattle.dom_admission.specs.declared.admission.Operand.TheVariants.{Any, Range}
-use Rattle.dom_mutation.specs.Doc.{made}
-use Rattle.dom_range_ops.specs.Insertions.{inserting_node, inserting_refusal}
+use Rattle.dom_mutation.specs.Definitions.{made}
+use Rattle.dom_range_ops.specs.Definitions.{inserting_node, inserting_refusal}
 use Rattle.dom_admission.proofs.Finding.{key_of}
 use Rattle.dom_admission.proofs.Handling.{faults, may_act, plans, refused}
 use Rattle.dom_admission.proofs.OwnRefusals.{none_stopped, refuses}

@@ -1,8 +1,5 @@
-use Rattle.std.proofs.Common.{◌∙◌, [], ap, refl}
-use Rattle.dom_base.specs.declared.Owner.{Owner}
-use Rattle.dom_model.proofs.PartLaws.{owner-part_of}
-use Rattle.dom_model.specs.Command.{Command, own}
-use Rattle.dom_model.specs.Names.{node_of}
+use Rattle.dom_base.proofs.Std.{◌∙◌, [], ap, refl}
+use Rattle.dom_model.proofs.Model.{Owner, owner-part_of, Command, own, node_of}
 use Rattle.dom_admission.proofs.Finding.{key_of}
 use Rattle.dom_admission.proofs.Handling.{faults, keeps, may_act, refused}
 use Rattle.dom_admission.proofs.OwnRefusals.{lone_passes, lone_refuses}

@@ -1,7 +1,5 @@
-use Rattle.std.proofs.Common.{◌∷◌, [], ℕ, Bool, true, false}
-use Rattle.std.specs.Prelude.{if◌then◌else◌}
-use Rattle.dom_base.specs.declared.Owner.{Owner}
-use Rattle.dom_model.specs.Command.{Command}
+use Rattle.dom_base.proofs.Std.{◌∷◌, [], ℕ, Bool, true, false, if◌then◌else◌}
+use Rattle.dom_model.proofs.Model.{Owner, Command}
 use Rattle.dom_admission.specs.declared.admission.Operand.TheVariants.{Any, Range}
 use Rattle.dom_reader.specs.Views.{word_view}
 use Rattle.dom_reader.specs.declared.line.NodeWord.{NodeWord}

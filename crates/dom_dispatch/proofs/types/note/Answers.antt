@@ -1,6 +1,4 @@
-use Rattle.std.proofs.Common.{true, bytes_eq, string_bytes}
-use Rattle.std.specs.HashSet.{contains_text}
-use Rattle.std.proofs.lemmas.Map.Text.{hash_set_updates_text}
+use Rattle.dom_base.proofs.Std.{true, bytes_eq, string_bytes, contains_text, hash_set_updates_text}
 use Rattle.dom_dispatch.proofs.Typed.{type-kept}
 use Rattle.dom_dispatch.proofs.types.note.Goals as goal
 

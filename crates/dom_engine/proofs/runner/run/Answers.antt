@@ -1,6 +1,5 @@
 -- Where memory is refused at the start, nothing is read or written.
-use Rattle.std.proofs.Common.{sym}
-use Rattle.std.proofs.lemmas.Result.{err_from_is_err_and, MatchResult-weaker}
+use Rattle.dom_base.proofs.Std.{sym, err_from_is_err_and, MatchResult-weaker}
 use Rattle.dom_engine.proofs.ReadLaws.{stops-before}
 use Rattle.dom_engine.proofs.PagePrefixes.{page-at_end, page-at_end_in_full}
 use Rattle.dom_engine.proofs.runner.run.Goals as goal

@@ -1,5 +1,5 @@
-use Rattle.std.proofs.Common.{ap, ◌∙◌}
-use Rattle.dom_model.specs.World.{World}
+use Rattle.dom_base.proofs.Std.{ap, ◌∙◌}
+use Rattle.dom_model.proofs.Model.{World}
 use Rattle.dom_engine.proofs.ForeignLines.{turn-finish}
 use Rattle.dom_engine.proofs.session.end.Goals as goal
 

@@ -1,7 +1,4 @@
-use Rattle.std.proofs.Common.{◌≡◌, ◌+◌, ◌<◌, ℕ, length, ap, ◌∙◌, arith}
-use Rattle.std.proofs.lemmas.List.{length_push}
-use Rattle.std.proofs.lemmas.List.Elements.{All-push, All-weaker}
-use Rattle.std.proofs.lemmas.Option.{same_Some}
+use Rattle.dom_base.proofs.Std.{◌≡◌, ◌+◌, ◌<◌, ℕ, length, ap, ◌∙◌, arith, length_push, All-push, All-weaker, same_Some}
 use Rattle.node_arena.specs.Nodes.{Nodes}
 use Rattle.dom_layer_tests.proofs.arena.add_numbers.Goals as goal
 

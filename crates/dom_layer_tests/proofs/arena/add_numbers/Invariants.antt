@@ -1,6 +1,4 @@
-use Rattle.std.proofs.Common.{◌<◌, length}
-use Rattle.std.specs.List.{All}
-use Rattle.std.specs.Option.{ForSome}
+use Rattle.dom_base.proofs.Std.{◌<◌, length, All, ForSome}
 use Rattle.dom_layer_tests.proofs.arena.add_numbers.Given as goal
 
 abbrev pub invariant-loop-number : goal.invariant-loop-number

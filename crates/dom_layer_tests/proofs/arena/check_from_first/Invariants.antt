@@ -1,5 +1,4 @@
-use Rattle.std.proofs.Common.{◌<◌, length}
-use Rattle.std.specs.Option.{ForSome}
+use Rattle.dom_base.proofs.Std.{◌<◌, length, ForSome}
 use Rattle.dom_layer_tests.proofs.arena.check_from_first.Given as goal
 
 abbrev pub invariant-loop-payload : goal.invariant-loop-payload

@@ -1,4 +1,4 @@
-use Rattle.std.proofs.Common.{◌≡◌, length}
+use Rattle.dom_base.proofs.Std.{◌≡◌, length}
 use Rattle.dom_layer_tests.proofs.arena.reorder.Given as goal
 
 abbrev pub invariant-loop-turn : goal.invariant-loop-turn

@@ -1,4 +1,4 @@
-use Rattle.std.proofs.Common.{◌≡◌, length}
+use Rattle.dom_base.proofs.Std.{◌≡◌, length}
 use Rattle.dom_layer_tests.proofs.arena.unlink_even.Given as goal
 
 abbrev pub invariant-loop-child : goal.invariant-loop-child

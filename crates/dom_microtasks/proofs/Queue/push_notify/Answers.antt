@@ -1,13 +1,6 @@
-use Rattle.std.proofs.Common.{◌≡◌, ◌≢◌, ◌≤◌, ◌+◌, ◌++◌, ◌∷◌, [], ℕ, Bool, true, false, cond, List, inl, inr, refl, sym, ap, ◌∙◌, subst, arith}
-use Rattle.std.specs.Prelude.{count_by, map, if◌then◌else◌}
-use Rattle.std.proofs.lemmas.Grind.{common_steps}
-use Rattle.std.specs.List.{list_any}
-use Rattle.std.proofs.lemmas.Bool.{cases_Bool, cond-true, cond-false, or_from, or_parts}
-use Rattle.std.proofs.lemmas.List.Sums.{sum_by-cons, sum_by-append}
-use Rattle.dom_base.specs.declared.Owner.{Owner}
-use Rattle.dom_model.specs.Names.{owner_eq}
-use Rattle.dom_model.proofs.OwnerLaws.{owner_eq-true}
-use Rattle.dom_model.specs.World.{Task, notify_task, is_notify_of, queued_notify}
+use Rattle.dom_base.proofs.Std.{◌≡◌, ◌≢◌, ◌≤◌, ◌+◌, ◌++◌, ◌∷◌, [], ℕ, Bool, true, false, cond, List, inl, inr, refl, sym, ap, ◌∙◌, subst, arith, count_by, map}
+use Rattle.dom_base.proofs.Std.{if◌then◌else◌, common_steps, list_any, cases_Bool, cond-true, cond-false, or_from, or_parts, sum_by-cons, sum_by-append}
+use Rattle.dom_model.proofs.Model.{Owner, owner_eq, owner_eq-true, Task, notify_task, is_notify_of, queued_notify}
 use Rattle.dom_microtasks.specs.declared.Queue.TheInside.{Inside}
 use Rattle.dom_microtasks.specs.OwnerNumbers.{number_at}
 use Rattle.dom_microtasks.specs.Tasks.{task_of, tasks_of, WaitsOnce}

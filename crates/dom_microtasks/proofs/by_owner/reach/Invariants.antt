@@ -1,4 +1,4 @@
-use Rattle.std.proofs.Common.{◌≡◌, ℕ, length}
+use Rattle.dom_base.proofs.Std.{◌≡◌, ℕ, length}
 use Rattle.dom_microtasks.specs.ByOwner.{numbers_at, since_at}
 use Rattle.dom_microtasks.proofs.by_owner.reach.Given as goal
 

@@ -1,9 +1,5 @@
-use Rattle.std.proofs.Common.{◌≡◌, ◌++◌, ◌∷◌, [], nat_eq, sym, ap, ◌∙◌}
-use Rattle.std.proofs.lemmas.Bool.{cond-false}
-use Rattle.std.proofs.lemmas.Iterator.{items_from_drains, YieldsList-from_slice}
-use Rattle.std.proofs.lemmas.Iterator.Consumers.{YieldsList-from_copied}
-use Rattle.std.proofs.lemmas.List.{map-id}
-use Rattle.dom_model.specs.Names.{is_in}
+use Rattle.dom_base.proofs.Std.{◌≡◌, ◌++◌, ◌∷◌, [], nat_eq, sym, ap, ◌∙◌, cond-false, items_from_drains, YieldsList-from_slice, YieldsList-from_copied, map-id}
+use Rattle.dom_model.proofs.Model.{is_in}
 use Rattle.indexmap.specs.IndexSet.{insert_all, insert_key}
 use Rattle.dom_microtasks.proofs.slot_numbers.set_with.Goals as goal
 

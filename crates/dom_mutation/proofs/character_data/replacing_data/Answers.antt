@@ -1,16 +1,8 @@
-use Rattle.std.proofs.Common.{◌≡◌, [], ◌∷◌, ℕ, List, length, Some, subst, sym, ap, ◌∙◌, arith}
-use Rattle.dom_base.specs.declared.NodeName.{NodeName}
-use Rattle.dom_worlds.specs.Bounds.{HasBounds}
-use Rattle.dom_worlds.specs.Worlds.{IsPart}
-use Rattle.dom_model.specs.Names.{DomString}
-use Rattle.dom_model.specs.Output.{Change, character_data}
-use Rattle.dom_model.specs.Part.{Part}
-use Rattle.dom_model.specs.Steps.{queue_record}
-use Rattle.dom_model.specs.Tree.{node_in, kind_of, has_data}
-use Rattle.dom_model.specs.World.{part_of}
-use Rattle.dom_tree.specs.Forest.{name_at}
-use Rattle.dom_parts.specs.Doc.{DocState, MayCome, name_in, owner_in, trees_in, stepped}
-use Rattle.dom_parts.specs.Hosting.{IsAlone}
+use Rattle.dom_base.proofs.Std.{◌≡◌, [], ◌∷◌, ℕ, List, length, Some, subst, sym, ap, ◌∙◌, arith}
+use Rattle.dom_model.proofs.Model.{NodeName, DomString, Change, character_data, Part, queue_record, node_in, kind_of, has_data, part_of}
+use Rattle.dom_worlds.specs.Definitions.{HasBounds, IsPart}
+use Rattle.dom_tree.specs.Definitions.{name_at}
+use Rattle.dom_parts.specs.Definitions.{DocState, MayCome, name_in, owner_in, trees_in, stepped, IsAlone}
 use Rattle.dom_mutation.proofs.BoundedDocs.{bounds_told}
 use Rattle.dom_mutation.proofs.character_data.replacing_data.Goals as goal
 

@@ -1,12 +1,6 @@
-use Rattle.std.proofs.Common.{[], ◌∷◌, None, map, sym, ap, ◌∙◌, subst}
-use Rattle.std.proofs.lemmas.Result.{on_ok_weaker}
-use Rattle.dom_model.specs.Tree.{inclusive_ancestors}
-use Rattle.dom_model.specs.Part.{Part}
-use Rattle.dom_model.specs.Output.{child_list}
-use Rattle.dom_model.specs.Steps.{queue_record}
-use Rattle.dom_model.specs.Changes.{in_turn, suppressed, remove_plan}
-use Rattle.dom_parts.specs.Doc.{DocState, name_in, owner_in, trees_in}
-use Rattle.dom_parts.specs.Hosting.{IsAlone}
+use Rattle.dom_base.proofs.Std.{[], ◌∷◌, None, map, sym, ap, ◌∙◌, subst, on_ok_weaker}
+use Rattle.dom_model.proofs.Model.{inclusive_ancestors, Part, child_list, queue_record, in_turn, suppressed, remove_plan}
+use Rattle.dom_parts.specs.Definitions.{DocState, name_in, owner_in, trees_in, IsAlone}
 use Rattle.dom_parts.proofs.Made.{alone_made}
 use Rattle.dom_parts.proofs.OwnPlans.{plans_each, plans_removing}
 use Rattle.dom_mutation.proofs.inserting.empty.Goals as goal

@@ -1,13 +1,7 @@
-use Rattle.std.proofs.Common.{◌≡◌, List, map, length, option_map, sym, ap, ◌∙◌, arith}
-use Rattle.std.proofs.lemmas.List.{length-map}
-use Rattle.std.proofs.lemmas.Result.{on_ok_weaker}
-use Rattle.dom_base.specs.declared.NodeName.{NodeName}
-use Rattle.dom_model.specs.Changes.{emptying, sibling_before}
-use Rattle.dom_model.specs.Names.{is_empty}
-use Rattle.dom_model.specs.Tree.{children_of, kind_of, is_fragment}
-use Rattle.dom_model.specs.World.{part_of}
-use Rattle.dom_parts.specs.Doc.{DocState, name_in, owner_in, placed_all, planned, trees_in}
-use Rattle.dom_mutation.specs.Observing.{observing_of}
+use Rattle.dom_base.proofs.Std.{◌≡◌, List, map, length, option_map, sym, ap, ◌∙◌, arith, length-map, on_ok_weaker}
+use Rattle.dom_model.proofs.Model.{NodeName, emptying, sibling_before, is_empty, children_of, kind_of, is_fragment, part_of}
+use Rattle.dom_parts.specs.Definitions.{DocState, name_in, owner_in, placed_all, planned, trees_in}
+use Rattle.dom_mutation.specs.Definitions.{observing_of}
 use Rattle.dom_mutation.proofs.BoundedDocs.{bounds_emptied, bounds_at, children_limited}
 use Rattle.dom_mutation.proofs.Inserted.{are_inside, all_may, stays_emptied, inserted_children, some_left, some_named}
 use Rattle.dom_mutation.proofs.Turns.{Stays, all_may_now, child_now}

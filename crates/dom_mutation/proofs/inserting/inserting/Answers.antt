@@ -1,9 +1,7 @@
-use Rattle.std.proofs.Common.{[], ◌∷◌, option_map, sym, ap, ◌∙◌}
-use Rattle.std.proofs.lemmas.Result.{on_ok_weaker}
-use Rattle.dom_model.specs.Tree.{kind_of, is_fragment}
-use Rattle.dom_model.specs.World.{part_of}
-use Rattle.dom_parts.specs.Doc.{name_in, owner_in, placed_all}
-use Rattle.dom_mutation.specs.Observing.{observing_of}
+use Rattle.dom_base.proofs.Std.{[], ◌∷◌, option_map, sym, ap, ◌∙◌, on_ok_weaker}
+use Rattle.dom_model.proofs.Model.{kind_of, is_fragment, part_of}
+use Rattle.dom_parts.specs.Definitions.{name_in, owner_in, placed_all}
+use Rattle.dom_mutation.specs.Definitions.{observing_of}
 use Rattle.dom_mutation.proofs.Inserted.{inserted_one}
 use Rattle.dom_mutation.proofs.inserting.inserting.Goals as goal
 

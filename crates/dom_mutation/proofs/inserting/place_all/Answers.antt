@@ -1,10 +1,7 @@
-use Rattle.std.proofs.Common.{[], map, option_map, sym, ap, ◌∙◌}
-use Rattle.std.proofs.lemmas.List.{length-map}
-use Rattle.std.proofs.lemmas.Result.{on_ok_weaker}
-use Rattle.dom_model.specs.Output.{child_list}
-use Rattle.dom_model.specs.Changes.{in_turn, making_room, placing, steps_of, telling}
-use Rattle.dom_parts.specs.Doc.{DocState, name_in, owner_in, planned}
-use Rattle.dom_mutation.specs.Observing.{observing_of}
+use Rattle.dom_base.proofs.Std.{[], map, option_map, sym, ap, ◌∙◌, length-map, on_ok_weaker}
+use Rattle.dom_model.proofs.Model.{child_list, in_turn, making_room, placing, steps_of, telling}
+use Rattle.dom_parts.specs.Definitions.{DocState, name_in, owner_in, planned}
+use Rattle.dom_mutation.specs.Definitions.{observing_of}
 use Rattle.dom_mutation.proofs.Turns.{Stays, stays_same, all_may_now, child_now}
 use Rattle.dom_mutation.proofs.inserting.place_all.Goals.{After-room_before}
 use Rattle.dom_mutation.proofs.inserting.place_all.Goals as goal

@@ -1,8 +1,6 @@
-use Rattle.std.proofs.Common.{◌≡◌, ℕ, false, Some, sym, subst, ◌∙◌}
-use Rattle.std.proofs.lemmas.Bool.{eqb-true}
-use Rattle.std.proofs.lemmas.Option.{same_Some}
-use Rattle.dom_model.specs.Names.{name_eq}
-use Rattle.dom_parts.specs.Doc.{IsChild, name_in}
+use Rattle.dom_base.proofs.Std.{◌≡◌, ℕ, false, Some, sym, subst, ◌∙◌, eqb-true, same_Some}
+use Rattle.dom_model.proofs.Model.{name_eq}
+use Rattle.dom_parts.specs.Definitions.{IsChild, name_in}
 use Rattle.dom_mutation.proofs.Placed.{next_is_child}
 use Rattle.dom_mutation.proofs.inserting.reference_child.Goals.{After-next}
 use Rattle.dom_mutation.proofs.inserting.reference_child.Goals as goal

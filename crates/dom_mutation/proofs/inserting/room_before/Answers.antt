@@ -1,10 +1,6 @@
-use Rattle.std.proofs.Common.{[], ◌∷◌, option_map, sym, ap, ◌∙◌}
-use Rattle.dom_model.specs.Tree.{index_of}
-use Rattle.dom_model.specs.Part.{Part}
-use Rattle.dom_model.specs.Steps.{make_room}
-use Rattle.dom_model.specs.World.{part_of}
-use Rattle.dom_model.specs.Changes.{making_room}
-use Rattle.dom_parts.specs.Doc.{name_in, owner_in, trees_in, stepped, planned}
+use Rattle.dom_base.proofs.Std.{[], ◌∷◌, option_map, sym, ap, ◌∙◌}
+use Rattle.dom_model.proofs.Model.{index_of, Part, make_room, part_of, making_room}
+use Rattle.dom_parts.specs.Definitions.{name_in, owner_in, trees_in, stepped, planned}
 use Rattle.dom_mutation.proofs.inserting.room_before.Goals as goal
 
 pub returns-in-Some-clause-state : goal.returns-in-Some-clause-state

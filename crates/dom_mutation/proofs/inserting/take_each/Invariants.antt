@@ -1,5 +1,5 @@
-use Rattle.std.proofs.Common.{drop}
-use Rattle.dom_mutation.specs.Observing.{observing_of}
+use Rattle.dom_base.proofs.Std.{drop}
+use Rattle.dom_mutation.specs.Definitions.{observing_of}
 use Rattle.dom_mutation.proofs.Turns.{Empties}
 use Rattle.dom_mutation.proofs.inserting.take_each.Given as goal
 

@@ -1,12 +1,7 @@
-use Rattle.std.proofs.Common.{◌<◌, ℕ, List, length, map, subst, sym, ap, ◌∙◌}
-use Rattle.std.proofs.lemmas.Result.{on_ok_weaker}
-use Rattle.dom_base.specs.declared.NodeName.{NodeName}
+use Rattle.dom_base.proofs.Std.{◌<◌, ℕ, List, length, map, subst, sym, ap, ◌∙◌, on_ok_weaker}
+use Rattle.dom_model.proofs.Model.{NodeName, Plan, ◌and_then◌, in_turn, steps_of, observed, remove_plan, DomString, replacing_data, joins, kind_of, length_of}
 use Rattle.dom_worlds.proofs.RangeLemmas.{text-data}
-use Rattle.dom_model.specs.Changes.{Plan, ◌and_then◌, in_turn, steps_of, observed, remove_plan}
-use Rattle.dom_model.specs.Names.{DomString}
-use Rattle.dom_model.specs.TextChanges.{replacing_data, joins}
-use Rattle.dom_model.specs.Tree.{kind_of, length_of}
-use Rattle.dom_parts.specs.Doc.{DocState, name_in, owner_in, planned, trees_in}
+use Rattle.dom_parts.specs.Definitions.{DocState, name_in, owner_in, planned, trees_in}
 use Rattle.dom_parts.proofs.Made.{planned_then}
 use Rattle.dom_parts.proofs.OwnPlans.{plans_then, plans_data, plans_joins}
 use Rattle.dom_mutation.proofs.Joined.{own_nodes}

@@ -1,4 +1,4 @@
-use Rattle.std.proofs.Common.{drop}
+use Rattle.dom_base.proofs.Std.{drop}
 use Rattle.dom_mutation.proofs.NormalizedEach.{Normalizes}
 use Rattle.dom_mutation.proofs.normalizing.normalize_each.Given as goal
 

@@ -1,9 +1,6 @@
-use Rattle.std.proofs.Common.{◌≡◌, ℕ, false, map, ap, subst, sym, ◌∙◌}
-use Rattle.std.specs.Prelude.{◌==◌}
-use Rattle.std.proofs.lemmas.Bool.{eqb-true, false_from_ne_true}
-use Rattle.std.proofs.lemmas.Result.{on_ok_weaker}
-use Rattle.dom_model.specs.Names.{is_empty}
-use Rattle.dom_parts.specs.Doc.{name_in}
+use Rattle.dom_base.proofs.Std.{◌≡◌, ℕ, false, map, ap, subst, sym, ◌∙◌, ◌==◌, eqb-true, false_from_ne_true, on_ok_weaker}
+use Rattle.dom_model.proofs.Model.{is_empty}
+use Rattle.dom_parts.specs.Definitions.{name_in}
 use Rattle.dom_mutation.proofs.Inserted.{some_left}
 use Rattle.dom_mutation.proofs.Joined.{normal_joined}
 use Rattle.dom_mutation.proofs.normalizing.normalize_text.Goals as goal

@@ -1,7 +1,6 @@
-use Rattle.std.proofs.Common.{true, false, refl, ap, ◌∙◌, sym}
-use Rattle.dom_model.specs.Tree.{kind_of, is_text}
-use Rattle.dom_model.specs.World.{part_of}
-use Rattle.dom_parts.specs.Doc.{name_in, trees_in}
+use Rattle.dom_base.proofs.Std.{true, false, refl, ap, ◌∙◌, sym}
+use Rattle.dom_model.proofs.Model.{kind_of, is_text, part_of}
+use Rattle.dom_parts.specs.Definitions.{name_in, trees_in}
 use Rattle.dom_mutation.proofs.Joined.{text_next}
 use Rattle.dom_mutation.proofs.normalizing.text_after.Goals as goal
 

@@ -1,6 +1,6 @@
-use Rattle.std.proofs.Common.{option_map}
-use Rattle.dom_parts.specs.Doc.{name_in}
-use Rattle.dom_laws.proofs.Walks.{left}
+use Rattle.dom_base.proofs.Std.{option_map}
+use Rattle.dom_parts.specs.Definitions.{name_in}
+use Rattle.dom_laws.proofs.Laws.{left}
 use Rattle.dom_mutation.proofs.Joined.{Gathers, below_of}
 use Rattle.dom_mutation.proofs.normalizing.texts_below.Given as goal
 

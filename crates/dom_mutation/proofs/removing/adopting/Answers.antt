@@ -1,7 +1,6 @@
-use Rattle.std.proofs.Common.{ap, ◌∙◌}
-use Rattle.std.proofs.lemmas.Result.{on_ok_weaker}
-use Rattle.dom_model.specs.Changes.{remove_plan, changing_document, observed}
-use Rattle.dom_parts.specs.Doc.{name_in, owner_in, planned}
+use Rattle.dom_base.proofs.Std.{ap, ◌∙◌, on_ok_weaker}
+use Rattle.dom_model.proofs.Model.{remove_plan, changing_document, observed}
+use Rattle.dom_parts.specs.Definitions.{name_in, owner_in, planned}
 use Rattle.dom_parts.proofs.Made.{planned_then}
 use Rattle.dom_parts.proofs.OwnPlans.{plans_removing}
 use Rattle.dom_mutation.proofs.removing.adopting.Goals as goal

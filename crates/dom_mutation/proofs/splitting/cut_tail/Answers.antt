@@ -1,8 +1,6 @@
-use Rattle.std.proofs.Common.{◌≡◌, ℕ, length, arith, [], option_map, ap, sym, ◌∙◌}
-use Rattle.std.proofs.lemmas.Result.{on_ok_weaker}
-use Rattle.dom_model.specs.Tree.{parent_of}
-use Rattle.dom_model.specs.TextChanges.{placing_tail, replacing_data}
-use Rattle.dom_parts.specs.Doc.{DocState, name_in, owner_in, trees_in, planned}
+use Rattle.dom_base.proofs.Std.{◌≡◌, ℕ, length, arith, [], option_map, ap, sym, ◌∙◌, on_ok_weaker}
+use Rattle.dom_model.proofs.Model.{parent_of, placing_tail, replacing_data}
+use Rattle.dom_parts.specs.Definitions.{DocState, name_in, owner_in, trees_in, planned}
 use Rattle.dom_parts.proofs.Made.{planned_then}
 use Rattle.dom_parts.proofs.OwnPlans.{plans_tail}
 use Rattle.dom_mutation.proofs.splitting.cut_tail.Goals.{in-Some+in_ok-placing_tail, in_default}

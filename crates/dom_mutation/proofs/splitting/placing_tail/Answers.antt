@@ -1,10 +1,7 @@
-use Rattle.std.proofs.Common.{ℕ, option_map, sym, ap, subst, ◌∙◌, arith}
-use Rattle.dom_worlds.specs.Bounds.{HasBounds}
-use Rattle.dom_model.specs.Changes.{Plan, ◌and_then◌, observed, insert_plan, doing}
-use Rattle.dom_model.specs.Steps.{split_at}
-use Rattle.dom_model.specs.Tree.{index_of}
-use Rattle.dom_model.specs.World.{part_of}
-use Rattle.dom_parts.specs.Doc.{DocState, name_in, owner_in, planned, stepped, trees_in}
+use Rattle.dom_base.proofs.Std.{ℕ, option_map, sym, ap, subst, ◌∙◌, arith}
+use Rattle.dom_worlds.specs.Definitions.{HasBounds}
+use Rattle.dom_model.proofs.Model.{Plan, ◌and_then◌, observed, insert_plan, doing, split_at, index_of, part_of}
+use Rattle.dom_parts.specs.Definitions.{DocState, name_in, owner_in, planned, stepped, trees_in}
 use Rattle.dom_parts.proofs.Made.{planned_then}
 use Rattle.dom_parts.proofs.OwnPlans.{plans_inserting}
 use Rattle.dom_mutation.proofs.Replaced.{next_is_near}

@@ -1,9 +1,7 @@
-use Rattle.std.proofs.Common.{◌≡◌, ◌-◌, length, option_map, refl, ap, arith}
-use Rattle.dom_model.specs.Names.{DomString}
-use Rattle.dom_model.specs.Tree.{node_in}
-use Rattle.dom_parts.specs.Doc.{name_in, trees_in}
+use Rattle.dom_base.proofs.Std.{◌≡◌, ◌-◌, length, option_map, refl, ap, arith}
+use Rattle.dom_model.proofs.Model.{DomString, node_in, splitting}
+use Rattle.dom_parts.specs.Definitions.{name_in, trees_in}
 use Rattle.dom_mutation.proofs.Grown.{IsMade, made_so, new_owner, new_unlinked, new_not_above, split_whole}
-use Rattle.dom_model.specs.TextChanges.{splitting}
 use Rattle.dom_mutation.proofs.BoundedDocs.{bounds_added}
 use Rattle.dom_mutation.proofs.ReadyCalls.{plan-done}
 use Rattle.dom_mutation.proofs.ReadyPlans.{ready-splitting}

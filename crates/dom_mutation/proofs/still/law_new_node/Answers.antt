@@ -1,8 +1,5 @@
-use Rattle.std.proofs.Common.{◌∷◌, ap, ◌∙◌}
-use Rattle.dom_base.specs.declared.NodeName.{NodeName}
-use Rattle.dom_model.specs.Part.{next_name}
-use Rattle.dom_model.specs.World.{part_of}
-use Rattle.dom_model.proofs.PartLaws.{owner-part_of}
+use Rattle.dom_base.proofs.Std.{◌∷◌, ap, ◌∙◌}
+use Rattle.dom_model.proofs.Model.{NodeName, next_name, part_of, owner-part_of}
 use Rattle.dom_mutation.proofs.StillCalls.{IsPlanned, new-named, new-kind}
 use Rattle.dom_mutation.proofs.still.law_new_node.Goals as goal
 

@@ -1,9 +1,6 @@
-use Rattle.std.proofs.Common.{ℕ, [], List, None, map, ap, sym, ◌∙◌}
-use Rattle.std.proofs.lemmas.Result.{on_ok_weaker}
-use Rattle.dom_model.specs.Names.{is_empty}
-use Rattle.dom_model.specs.Output.{child_list}
-use Rattle.dom_model.specs.Steps.{queue_record}
-use Rattle.dom_parts.specs.Doc.{name_in, owner_in, stepped}
+use Rattle.dom_base.proofs.Std.{ℕ, [], List, None, map, ap, sym, ◌∙◌, on_ok_weaker}
+use Rattle.dom_model.proofs.Model.{is_empty, child_list, queue_record}
+use Rattle.dom_parts.specs.Definitions.{name_in, owner_in, stepped}
 use Rattle.dom_mutation.proofs.Inserted.{some_left}
 use Rattle.dom_mutation.proofs.Emptied.{cleared_none, cleared_some, none_left}
 use Rattle.dom_mutation.proofs.texts.clear.Goals as goal

@@ -1,10 +1,6 @@
-use Rattle.std.proofs.Common.{◌≡◌, subst, ℕ, [], ◌∷◌, List, None, map, ap, sym, ◌∙◌}
-use Rattle.std.proofs.lemmas.Result.{on_ok_weaker}
-use Rattle.dom_base.specs.declared.NodeName.{NodeName}
-use Rattle.dom_model.specs.Changes.{Plan, ◌and_then◌, doing, in_turn, suppressed, remove_plan, insert_plan}
-use Rattle.dom_model.specs.Output.{child_list}
-use Rattle.dom_model.specs.Steps.{queue_record}
-use Rattle.dom_parts.specs.Doc.{DocState, AreNodes, name_in, owner_in, planned, stepped}
+use Rattle.dom_base.proofs.Std.{◌≡◌, subst, ℕ, [], ◌∷◌, List, None, map, ap, sym, ◌∙◌, on_ok_weaker}
+use Rattle.dom_model.proofs.Model.{NodeName, Plan, ◌and_then◌, doing, in_turn, suppressed, remove_plan, insert_plan, child_list, queue_record}
+use Rattle.dom_parts.specs.Definitions.{DocState, AreNodes, name_in, owner_in, planned, stepped}
 use Rattle.dom_parts.proofs.Made.{planned_then}
 use Rattle.dom_parts.proofs.OwnPlans.{plans_then, plans_each, plans_removing, plans_inserting}
 use Rattle.dom_mutation.proofs.Nodes.{nodes_kept, own_nodes}

@@ -1,10 +1,9 @@
-use Rattle.std.proofs.Common.{[], Some, refl, ap, sym, ◌∙◌}
-use Rattle.dom_model.specs.Names.{is_empty}
-use Rattle.dom_parts.specs.Doc.{name_in}
+use Rattle.dom_base.proofs.Std.{[], Some, refl, ap, sym, ◌∙◌}
+use Rattle.dom_model.proofs.Model.{is_empty, replacing_children}
+use Rattle.dom_parts.specs.Definitions.{name_in}
 use Rattle.dom_mutation.proofs.Inserted.{some_left}
 use Rattle.dom_mutation.proofs.Grown.{IsMade, made_so, new_owner, new_not_above}
 use Rattle.dom_mutation.proofs.Emptied.{text_whole}
-use Rattle.dom_model.specs.TextChanges.{replacing_children}
 use Rattle.dom_mutation.proofs.BoundedDocs.{bounds_added}
 use Rattle.dom_mutation.proofs.ReadyCalls.{plan-done, planned-done}
 use Rattle.dom_mutation.proofs.ReadyPlans.{ready-children}

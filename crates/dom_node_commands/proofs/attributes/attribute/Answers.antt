@@ -1,8 +1,5 @@
-use Rattle.std.proofs.Common.{◌∷◌, ◌∙◌, [], Ok, ap, refl}
-use Rattle.std.specs.Prelude.{string_bytes}
-use Rattle.dom_model.specs.Command.{Command}
-use Rattle.dom_model.specs.Effects.{answers, string_or_null}
-use Rattle.dom_model.specs.Tree.{attribute_value, node_in}
+use Rattle.dom_base.proofs.Std.{◌∷◌, ◌∙◌, [], Ok, ap, refl, string_bytes}
+use Rattle.dom_model.proofs.Model.{Command, answers, string_or_null, attribute_value, node_in}
 use Rattle.dom_reader.specs.Views.{word_view}
 use Rattle.dom_admission.specs.declared.admission.Operand.TheVariants.{Element}
 use Rattle.dom_admission.proofs.Finding.{key_of, told_one}

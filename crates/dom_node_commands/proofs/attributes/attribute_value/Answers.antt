@@ -1,6 +1,5 @@
-use Rattle.std.proofs.Common.{◌∙◌, ap}
-use Rattle.dom_model.specs.Effects.{string_or_null}
-use Rattle.dom_model.specs.Tree.{attribute_value, node_in}
+use Rattle.dom_base.proofs.Std.{◌∙◌, ap}
+use Rattle.dom_model.proofs.Model.{string_or_null, attribute_value, node_in}
 use Rattle.dom_admission.proofs.Finding.{read_of}
 use Rattle.dom_node_commands.proofs.attributes.attribute_value.Goals as goal
 

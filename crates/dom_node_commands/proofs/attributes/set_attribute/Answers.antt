@@ -1,9 +1,7 @@
-use Rattle.std.proofs.Common.{◌∷◌, ◌∙◌, [], not, refl}
-use Rattle.dom_model.specs.Changes.{setting_attribute}
-use Rattle.dom_model.specs.Names.{is_name}
-use Rattle.dom_model.specs.Tree.{is_element, kind_of}
+use Rattle.dom_base.proofs.Std.{◌∷◌, ◌∙◌, [], not, refl}
+use Rattle.dom_model.proofs.Model.{setting_attribute, is_name, is_element, kind_of}
 use Rattle.dom_admission.specs.declared.admission.Operand.TheVariants.{Element}
-use Rattle.dom_mutation.specs.Doc.{made}
+use Rattle.dom_mutation.specs.Definitions.{made}
 use Rattle.dom_admission.proofs.Finding.{key_of, told_one}
 use Rattle.dom_admission.proofs.Handling.{faults, fits, may_act, plans, refused}
 use Rattle.dom_admission.proofs.OwnRefusals.{held, lone_passes, lone_refuses, unless}

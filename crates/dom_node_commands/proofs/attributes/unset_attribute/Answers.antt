@@ -1,6 +1,5 @@
-use Rattle.std.proofs.Common.{◌∷◌, [], refl}
-use Rattle.std.specs.Prelude.{string_bytes}
-use Rattle.dom_model.specs.Changes.{unsetting_attribute}
+use Rattle.dom_base.proofs.Std.{◌∷◌, [], refl, string_bytes}
+use Rattle.dom_model.proofs.Model.{unsetting_attribute}
 use Rattle.dom_admission.specs.declared.admission.Operand.TheVariants.{Element}
 use Rattle.dom_admission.proofs.Handling.{makes, may_act, refused}
 use Rattle.dom_admission.proofs.Refusing.{namings}

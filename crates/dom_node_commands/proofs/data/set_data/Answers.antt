@@ -1,6 +1,5 @@
-use Rattle.std.proofs.Common.{◌∷◌, ◌∙◌, [], refl}
-use Rattle.dom_model.specs.TextChanges.{replacing_all_data}
-use Rattle.dom_model.specs.Tree.{has_data, kind_of}
+use Rattle.dom_base.proofs.Std.{◌∷◌, ◌∙◌, [], refl}
+use Rattle.dom_model.proofs.Model.{replacing_all_data, has_data, kind_of}
 use Rattle.dom_admission.specs.declared.admission.Operand.TheVariants.{Data}
 use Rattle.dom_admission.proofs.Finding.{key_of, told_one}
 use Rattle.dom_admission.proofs.Handling.{fits, makes, may_act, refused}

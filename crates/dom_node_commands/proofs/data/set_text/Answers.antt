@@ -1,6 +1,5 @@
-use Rattle.std.proofs.Common.{◌∷◌, [], refl}
-use Rattle.dom_model.specs.CommandRefusals.{made_by_text, past_limit}
-use Rattle.dom_model.specs.TextChanges.{setting_text}
+use Rattle.dom_base.proofs.Std.{◌∷◌, [], refl}
+use Rattle.dom_model.proofs.Model.{made_by_text, past_limit, setting_text}
 use Rattle.dom_admission.specs.declared.admission.Operand.TheVariants.{Any}
 use Rattle.dom_admission.proofs.Finding.{key_of, told_one}
 use Rattle.dom_admission.proofs.Handling.{faults, makes, may_act, refused}

@@ -1,13 +1,7 @@
-use Rattle.std.proofs.Common.{◌∷◌, ◌∙◌, ◌++◌, [], Err, ap, refl}
-use Rattle.dom_model.specs.CommandNames.{named}
-use Rattle.dom_model.specs.Effects.{changes}
-use Rattle.dom_model.specs.Output.{a_node}
-use Rattle.dom_model.specs.Part.{next_name}
-use Rattle.dom_model.specs.TextChanges.{splitting}
-use Rattle.dom_model.specs.Tree.{is_text, kind_of}
-use Rattle.dom_model.specs.World.{part_of}
+use Rattle.dom_base.proofs.Std.{◌∷◌, ◌∙◌, ◌++◌, [], Err, ap, refl}
+use Rattle.dom_model.proofs.Model.{named, changes, a_node, next_name, splitting, is_text, kind_of, part_of}
 use Rattle.dom_admission.specs.declared.admission.Operand.TheVariants.{Text}
-use Rattle.dom_mutation.specs.Doc.{splitting_refusal}
+use Rattle.dom_mutation.specs.Definitions.{splitting_refusal}
 use Rattle.dom_reader.specs.Views.{word_view}
 use Rattle.dom_admission.proofs.Finding.{key_of, told_one}
 use Rattle.dom_admission.proofs.Handling.{faults, fits, makes, may_act, refused}

@@ -1,7 +1,5 @@
-use Rattle.std.proofs.Common.{◌≡◌, true, sym, ap, ◌∙◌}
-use Rattle.dom_model.specs.Names.{node_of}
-use Rattle.dom_model.specs.Tree.{is_document, node_in}
-use Rattle.dom_model.specs.World.{part_of}
+use Rattle.dom_base.proofs.Std.{◌≡◌, true, sym, ap, ◌∙◌}
+use Rattle.dom_model.proofs.Model.{node_of, is_document, node_in, part_of}
 use Rattle.dom_admission.proofs.Finding.{found-document, name-found}
 use Rattle.dom_node_commands.proofs.making.first_document.Goals as goal
 

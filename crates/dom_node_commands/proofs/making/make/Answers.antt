@@ -1,19 +1,10 @@
-use Rattle.std.proofs.Common.{◌∷◌, ◌∙◌, ◌≡◌, [], List, Option, ap, subst, sym}
-use Rattle.std.specs.Option.{option_map}
-use Rattle.std.specs.Prelude.{string_bytes}
-use Rattle.dom_base.specs.declared.NodeName.{NodeName}
-use Rattle.dom_model.specs.Effects.{changes}
-use Rattle.dom_model.specs.Output.{a_node}
-use Rattle.dom_model.specs.Part.{next_name}
-use Rattle.dom_model.specs.Steps.{make}
-use Rattle.dom_model.specs.Tree.{Attribute, Node}
-use Rattle.dom_model.specs.World.{part_of}
-use Rattle.dom_model.specs.WorldSteps.{world_after}
+use Rattle.dom_base.proofs.Std.{◌∷◌, ◌∙◌, ◌≡◌, [], List, Option, ap, subst, sym, option_map, string_bytes}
+use Rattle.dom_model.proofs.Model.{NodeName, changes, a_node, next_name, make, Attribute, Node, part_of, world_after}
 use Rattle.dom_admission.specs.Turned.{with_turn}
 use Rattle.dom_attributes.specs.Attributes.{attributes_from}
-use Rattle.dom_mutation.specs.Doc.{DocState}
+use Rattle.dom_mutation.specs.Definitions.{DocState}
 use Rattle.dom_node_commands.specs.Making.{document_for}
-use Rattle.dom_tree.specs.Forest.{name_at}
+use Rattle.dom_tree.specs.Definitions.{name_at}
 use Rattle.dom_admission.proofs.Handling.{faults, may_act, plans, refused}
 use Rattle.dom_admission.proofs.OwnRefusals.{none_refused, refuses}
 use Rattle.dom_node_commands.proofs.CommandPlans.{making_is, name-last}

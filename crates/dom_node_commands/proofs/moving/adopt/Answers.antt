@@ -1,7 +1,6 @@
-use Rattle.std.proofs.Common.{◌∷◌, ◌∙◌, [], Err, ap, refl}
-use Rattle.dom_model.specs.Changes.{adopt_plan}
-use Rattle.dom_model.specs.Tree.{is_document, kind_of}
-use Rattle.dom_mutation.specs.Doc.{adoption_refusal}
+use Rattle.dom_base.proofs.Std.{◌∷◌, ◌∙◌, [], Err, ap, refl}
+use Rattle.dom_model.proofs.Model.{adopt_plan, is_document, kind_of}
+use Rattle.dom_mutation.specs.Definitions.{adoption_refusal}
 use Rattle.dom_admission.specs.declared.admission.Operand.TheVariants.{Any, Document}
 use Rattle.dom_admission.proofs.Finding.{key_of, told_one}
 use Rattle.dom_admission.proofs.Handling.{faults, fits, may_act, plans, refused}

@@ -1,6 +1,5 @@
-use Rattle.std.proofs.Common.{◌∷◌, ◌∙◌, [], Err, None, ap, refl}
-use Rattle.dom_model.specs.Changes.{pre_insert_plan}
-use Rattle.dom_model.specs.Validity.{pre_insert_refusal}
+use Rattle.dom_base.proofs.Std.{◌∷◌, ◌∙◌, [], Err, None, ap, refl}
+use Rattle.dom_model.proofs.Model.{pre_insert_plan, pre_insert_refusal}
 use Rattle.dom_admission.specs.declared.admission.Operand.TheVariants.{Any}
 use Rattle.dom_admission.proofs.Handling.{faults, may_act, plans, refused}
 use Rattle.dom_admission.proofs.OwnRefusals.{none_refused, refuses}

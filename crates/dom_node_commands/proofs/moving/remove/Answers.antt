@@ -1,5 +1,5 @@
-use Rattle.std.proofs.Common.{◌∷◌, [], refl}
-use Rattle.dom_model.specs.Changes.{observed, remove_plan}
+use Rattle.dom_base.proofs.Std.{◌∷◌, [], refl}
+use Rattle.dom_model.proofs.Model.{observed, remove_plan}
 use Rattle.dom_admission.specs.declared.admission.Operand.TheVariants.{Child}
 use Rattle.dom_admission.proofs.Handling.{makes, may_act, refused}
 use Rattle.dom_admission.proofs.Refusing.{namings}

@@ -1,6 +1,5 @@
-use Rattle.std.proofs.Common.{◌∷◌, ◌∙◌, [], Err, ap, refl}
-use Rattle.dom_model.specs.Changes.{replace_plan}
-use Rattle.dom_model.specs.Validity.{replace_refusal}
+use Rattle.dom_base.proofs.Std.{◌∷◌, ◌∙◌, [], Err, ap, refl}
+use Rattle.dom_model.proofs.Model.{replace_plan, replace_refusal}
 use Rattle.dom_admission.specs.declared.admission.Operand.TheVariants.{Any}
 use Rattle.dom_admission.proofs.Handling.{faults, may_act, plans, refused}
 use Rattle.dom_admission.proofs.OwnRefusals.{none_refused, refuses}

@@ -1,8 +1,5 @@
-use Rattle.std.proofs.Common.{◌∷◌, ◌∙◌, [], ap, refl, sym}
-use Rattle.dom_model.specs.CommandNames.{named}
-use Rattle.dom_model.specs.Output.{a_list}
-use Rattle.dom_model.specs.Slots.{assigned_nodes}
-use Rattle.dom_model.specs.World.{part_of}
+use Rattle.dom_base.proofs.Std.{◌∷◌, ◌∙◌, [], ap, refl, sym}
+use Rattle.dom_model.proofs.Model.{named, a_list, assigned_nodes, part_of}
 use Rattle.dom_admission.specs.declared.admission.Operand.TheVariants.{Slot}
 use Rattle.dom_reader.specs.Views.{word_view}
 use Rattle.dom_admission.proofs.Handling.{asks, may_act, one_there, opened-same, passes, refused}

@@ -1,10 +1,7 @@
-use Rattle.std.proofs.Common.{◌≡◌, ◌∙◌, List, ap, sym}
-use Rattle.std.specs.Prelude.{map}
-use Rattle.std.proofs.lemmas.Result.{IfOk-weaker}
-use Rattle.dom_base.specs.declared.NodeName.{NodeName}
-use Rattle.dom_model.specs.Slots.{assigned_nodes}
-use Rattle.dom_slots.specs.Shadows.{shadows, assigned_at}
-use Rattle.dom_tree.specs.Forest.{name_at}
+use Rattle.dom_base.proofs.Std.{◌≡◌, ◌∙◌, List, ap, sym, map, IfOk-weaker}
+use Rattle.dom_model.proofs.Model.{NodeName, assigned_nodes}
+use Rattle.dom_slots.specs.Definitions.{shadows, assigned_at}
+use Rattle.dom_tree.specs.Definitions.{name_at}
 use Rattle.dom_node_commands.proofs.shadows.assigned_to.Goals as goal
 
 pub returns : goal.returns

@@ -1,10 +1,7 @@
-use Rattle.std.proofs.Common.{◌∷◌, ◌∙◌, ◌++◌, [], Err, ap, length}
-use Rattle.dom_base.specs.declared.NodeName.{NodeName}
-use Rattle.dom_model.specs.DocumentMachine.{attaching}
-use Rattle.dom_model.specs.Tree.{is_element, kind_of}
-use Rattle.dom_model.specs.World.{component_made, part_of, shadow_root_of}
+use Rattle.dom_base.proofs.Std.{◌∷◌, ◌∙◌, ◌++◌, [], Err, ap, length}
+use Rattle.dom_model.proofs.Model.{NodeName, attaching, is_element, kind_of, component_made, part_of, shadow_root_of}
 use Rattle.dom_admission.specs.declared.admission.Operand.TheVariants.{Element}
-use Rattle.dom_mutation.specs.Doc.{attaching_refusal}
+use Rattle.dom_mutation.specs.Definitions.{attaching_refusal}
 use Rattle.dom_admission.proofs.Finding.{key_of}
 use Rattle.dom_admission.proofs.Handling.{faults, fits, may_act, refused}
 use Rattle.dom_admission.proofs.OwnRefusals.{none_refused, refuses}

@@ -1,4 +1,4 @@
-use Rattle.std.proofs.Common.{◌∷◌, [], refl}
+use Rattle.dom_base.proofs.Std.{◌∷◌, [], refl}
 use Rattle.dom_admission.specs.declared.admission.Operand.TheVariants.{Slottable}
 use Rattle.dom_admission.proofs.Handling.{may_act, reads, refused}
 use Rattle.dom_admission.proofs.Refusing.{namings}

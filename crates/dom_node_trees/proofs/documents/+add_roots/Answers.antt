@@ -1,6 +1,6 @@
-use Rattle.std.proofs.Common.{◌<◌, ◌-◌, ◌++◌, List, ℕ, All, length, map, refl, subst, sym, ap, ◌∙◌, arith}
-use Rattle.dom_tree.specs.Forest.{name_at}
-use Rattle.dom_laws.proofs.Counts.{times_count}
+use Rattle.dom_base.proofs.Std.{◌<◌, ◌-◌, ◌++◌, List, ℕ, All, length, map, refl, subst, sym, ap, ◌∙◌, arith}
+use Rattle.dom_tree.specs.Definitions.{name_at}
+use Rattle.dom_laws.proofs.Laws.{times_count}
 use Rattle.dom_tree.proofs.Standing.{Once-forest}
 use Rattle.dom_slots.proofs.Hosted.{root-node}
 use Rattle.dom_node_trees.specs.Documents.{roots_within}

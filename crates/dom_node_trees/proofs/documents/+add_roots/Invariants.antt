@@ -1,7 +1,7 @@
-use Rattle.std.proofs.Common.{◌-◌, map, option_map}
-use Rattle.dom_model.specs.Tree.{inclusive_descendants}
-use Rattle.dom_tree.specs.Forest.{name_at}
-use Rattle.dom_laws.proofs.Walks.{left}
+use Rattle.dom_base.proofs.Std.{◌-◌, map, option_map}
+use Rattle.dom_model.proofs.Model.{inclusive_descendants}
+use Rattle.dom_tree.specs.Definitions.{name_at}
+use Rattle.dom_laws.proofs.Laws.{left}
 use Rattle.dom_node_trees.specs.Documents.{roots_within}
 use Rattle.dom_node_trees.proofs.Roots.{Lists}
 use Rattle.dom_node_trees.proofs.documents.+add_roots.Given as goal

@@ -1,9 +1,7 @@
-use Rattle.std.proofs.Common.{◌≡◌, List, Some, refl, sym, ap, subst, ◌∙◌, arith}
-use Rattle.dom_base.specs.declared.NodeName.{NodeName}
-use Rattle.dom_model.specs.Tree.{is_inclusive_ancestor}
-use Rattle.dom_model.specs.TreeChanges.{change_node, under_document}
-use Rattle.dom_tree.specs.Forest.{name_at}
-use Rattle.dom_laws.proofs.Counts.{times_count}
+use Rattle.dom_base.proofs.Std.{◌≡◌, List, Some, refl, sym, ap, subst, ◌∙◌, arith}
+use Rattle.dom_model.proofs.Model.{NodeName, is_inclusive_ancestor, change_node, under_document}
+use Rattle.dom_tree.specs.Definitions.{name_at}
+use Rattle.dom_laws.proofs.Laws.{times_count}
 use Rattle.dom_tree.proofs.Standing.{Once-forest}
 use Rattle.dom_node_trees.proofs.Covering.{Sets, sets_first, sets_above, SetsOneIn, sets_on}
 use Rattle.dom_node_trees.proofs.documents.set_documents.Goals as goal

@@ -1,8 +1,8 @@
-use Rattle.std.proofs.Common.{◌≡◌, option_map}
-use Rattle.dom_model.specs.Tree.{inclusive_descendants}
-use Rattle.dom_tree.specs.Forest.{name_at}
+use Rattle.dom_base.proofs.Std.{◌≡◌, option_map}
+use Rattle.dom_model.proofs.Model.{inclusive_descendants}
+use Rattle.dom_tree.specs.Definitions.{name_at}
 use Rattle.dom_node_trees.proofs.Covering.{Sets}
-use Rattle.dom_laws.proofs.Walks.{left}
+use Rattle.dom_laws.proofs.Laws.{left}
 use Rattle.dom_node_trees.proofs.documents.set_documents.Given as goal
 
 abbrev pub invariant-loop-at : goal.invariant-loop-at

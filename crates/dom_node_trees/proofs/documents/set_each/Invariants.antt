@@ -1,5 +1,5 @@
-use Rattle.std.proofs.Common.{◌≡◌, fold, map, take}
-use Rattle.dom_tree.specs.Forest.{name_at}
+use Rattle.dom_base.proofs.Std.{◌≡◌, fold, map, take}
+use Rattle.dom_tree.specs.Definitions.{name_at}
 use Rattle.dom_node_trees.specs.Documents.{under_each}
 use Rattle.dom_node_trees.proofs.documents.set_each.Given as goal
 

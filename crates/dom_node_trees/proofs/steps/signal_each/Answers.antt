@@ -1,9 +1,6 @@
-use Rattle.std.proofs.Common.{List, fold, map, sym, ap, ◌∙◌}
-use Rattle.std.proofs.lemmas.List.{take_all}
-use Rattle.dom_base.specs.declared.NodeName.{NodeName}
-use Rattle.dom_model.specs.Names.{name_eq, append_once}
-use Rattle.dom_model.specs.World.{Task, queued_notify}
-use Rattle.dom_tree.specs.Forest.{name_at}
+use Rattle.dom_base.proofs.Std.{List, fold, map, sym, ap, ◌∙◌, take_all}
+use Rattle.dom_model.proofs.Model.{NodeName, name_eq, append_once, Task, queued_notify}
+use Rattle.dom_tree.specs.Definitions.{name_at}
 use Rattle.dom_node_trees.proofs.Signals.{fold_next}
 use Rattle.dom_node_trees.proofs.steps.signal_each.Goals as goal
 

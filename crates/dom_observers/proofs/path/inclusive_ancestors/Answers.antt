@@ -1,5 +1,5 @@
-use Rattle.std.proofs.Common.{map, Some, sym, ap, subst, ◌∙◌}
-use Rattle.dom_tree.specs.Forest.{name_at}
+use Rattle.dom_base.proofs.Std.{map, Some, sym, ap, subst, ◌∙◌}
+use Rattle.dom_tree.specs.Definitions.{name_at}
 use Rattle.dom_observers.proofs.Ascending.{HasClimbed, climbs-first, climbs-more, climbs-fewer, climbs-all, path_keys-named}
 use Rattle.dom_observers.proofs.path.inclusive_ancestors.Goals as goal
 

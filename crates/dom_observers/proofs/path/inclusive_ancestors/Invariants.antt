@@ -1,4 +1,4 @@
-use Rattle.std.proofs.Common.{length}
+use Rattle.dom_base.proofs.Std.{length}
 use Rattle.dom_observers.proofs.Ascending.{HasClimbed, above}
 use Rattle.dom_observers.proofs.path.inclusive_ancestors.Given as goal
 

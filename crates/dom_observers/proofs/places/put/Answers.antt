@@ -1,8 +1,8 @@
-use Rattle.std.proofs.Common.{◌≡◌, ℕ, ◌∷◌, [], ◌++◌, List, Bool, true, false, cond, Some, Result, Ok, Err, refl, ap, subst, ◌∙◌}
-use Rattle.std.specs.Prelude.{nat_eq, IsSome, OnErr, if◌then◌else◌}
+use Rattle.dom_base.proofs.Std.{◌≡◌, ℕ, ◌∷◌, [], ◌++◌, List, Bool, true, false, cond, Some, Result, Ok, Err, refl, ap, subst, ◌∙◌, nat_eq, IsSome, OnErr}
+use Rattle.dom_base.proofs.Std.{if◌then◌else◌}
 use Rattle.indexmap.specs.IndexMap.{get}
 use Rattle.dom_observers.specs.declared.places.Places.TheVariants.{One}
-use Rattle.dom_observers.specs.Watching.{places_or}
+use Rattle.dom_observers.specs.Definitions.{places_or}
 use Rattle.dom_observers.proofs.Watching.{IsListChange, list-changed}
 use Rattle.dom_observers.proofs.places.put.Goals as goal
 

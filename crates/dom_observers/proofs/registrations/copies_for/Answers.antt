@@ -1,8 +1,6 @@
-use Rattle.std.proofs.Common.{[], List, Some, map, refl, sym, ap, subst, ◌∙◌}
-use Rattle.std.specs.List.{fold}
+use Rattle.dom_base.proofs.Std.{[], List, Some, map, refl, sym, ap, subst, ◌∙◌, fold}
 use Rattle.dom_observers.specs.declared.registered.Registered.{Registered}
-use Rattle.dom_observers.specs.Views.{registration_of, AreThere}
-use Rattle.dom_observers.specs.Taking.{copied_by, copied_at, picked}
+use Rattle.dom_observers.specs.Definitions.{registration_of, AreThere, copied_by, copied_at, picked}
 use Rattle.dom_observers.proofs.Ascending.{climbs-fewer}
 use Rattle.dom_observers.proofs.Watching.{HasGathered, gathers-first, gathers-more, gathers-all}
 use Rattle.dom_observers.proofs.registrations.copies_for.Goals as goal

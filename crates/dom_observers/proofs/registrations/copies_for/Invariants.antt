@@ -1,6 +1,5 @@
-use Rattle.std.proofs.Common.{[], length, map}
-use Rattle.dom_observers.specs.Views.{registration_of, AreThere}
-use Rattle.dom_observers.specs.Taking.{copied_at}
+use Rattle.dom_base.proofs.Std.{[], length, map}
+use Rattle.dom_observers.specs.Definitions.{registration_of, AreThere, copied_at}
 use Rattle.dom_observers.proofs.Ascending.{above}
 use Rattle.dom_observers.proofs.Watching.{HasGathered}
 use Rattle.dom_observers.proofs.registrations.copies_for.Given as goal

@@ -1,11 +1,8 @@
-use Rattle.std.proofs.Common.{◌≡◌, ℕ, ◌++◌, ◌∷◌, [], Option, Some, None, map, get_or, sym, ap, ◌∙◌, subst, arith}
-use Rattle.std.specs.List.{fold, cons_option}
-use Rattle.std.proofs.lemmas.Bool.{cond-true, cond-false}
-use Rattle.std.proofs.lemmas.List.{map_push}
-use Rattle.dom_model.specs.Observers.{Registration}
+use Rattle.dom_base.proofs.Std.{◌≡◌, ℕ, ◌++◌, ◌∷◌, [], Option, Some, None, map, get_or, sym, ap, ◌∙◌, subst, arith, fold, cons_option, cond-true, cond-false}
+use Rattle.dom_base.proofs.Std.{map_push}
+use Rattle.dom_model.proofs.Model.{Registration}
 use Rattle.dom_observers.specs.declared.options.Options.{Options}
-use Rattle.dom_observers.specs.Views.{registration_of, there_in, AreThere}
-use Rattle.dom_observers.specs.Taking.{transient_copy, copied_by}
+use Rattle.dom_observers.specs.Definitions.{registration_of, there_in, AreThere, transient_copy, copied_by}
 use Rattle.dom_observers.proofs.Leaving.{AreThere-push}
 use Rattle.dom_observers.proofs.Watching.{picked-next, read}
 use Rattle.dom_observers.proofs.registrations.copy_from.Goals as goal

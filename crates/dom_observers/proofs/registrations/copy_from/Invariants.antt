@@ -1,7 +1,5 @@
-use Rattle.std.proofs.Common.{◌≡◌, take, map}
-use Rattle.std.specs.List.{fold}
-use Rattle.dom_observers.specs.Views.{registration_of, AreThere}
-use Rattle.dom_observers.specs.Taking.{copied_by, picked}
+use Rattle.dom_base.proofs.Std.{◌≡◌, take, map, fold}
+use Rattle.dom_observers.specs.Definitions.{registration_of, AreThere, copied_by, picked}
 use Rattle.dom_observers.proofs.registrations.copy_from.Given as goal
 
 abbrev pub invariant-loop-place : goal.invariant-loop-place

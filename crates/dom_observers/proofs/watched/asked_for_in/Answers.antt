@@ -1,11 +1,6 @@
-use Rattle.std.proofs.Common.{Some, None, false, nat_eq, get_or, refl, sym, ap, ◌∙◌, arith}
-use Rattle.std.specs.List.{list_any}
-use Rattle.std.specs.Option.{option_map_or}
-use Rattle.std.proofs.lemmas.Bool.{or_from}
-use Rattle.std.proofs.lemmas.List.{take_all}
-use Rattle.dom_model.specs.Observers.{is_asked_for}
-use Rattle.dom_observers.specs.Views.{registration_of}
-use Rattle.dom_observers.specs.Taking.{picked}
+use Rattle.dom_base.proofs.Std.{Some, None, false, nat_eq, get_or, refl, sym, ap, ◌∙◌, arith, list_any, option_map_or, or_from, take_all}
+use Rattle.dom_model.proofs.Model.{is_asked_for}
+use Rattle.dom_observers.specs.Definitions.{registration_of, picked}
 use Rattle.dom_observers.proofs.Watching.{read, none-next}
 use Rattle.dom_observers.proofs.watched.asked_for_in.Goals as goal
 use Rattle.dom_observers.proofs.watched.asked_for_in.Goals.{in-Some+else-is_asked_for, in_default}

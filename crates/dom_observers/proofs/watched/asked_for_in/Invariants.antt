@@ -1,7 +1,6 @@
-use Rattle.std.proofs.Common.{◌≡◌, false, nat_eq, take}
-use Rattle.std.specs.List.{list_any}
-use Rattle.dom_model.specs.Observers.{is_asked_for}
-use Rattle.dom_observers.specs.Taking.{picked}
+use Rattle.dom_base.proofs.Std.{◌≡◌, false, nat_eq, take, list_any}
+use Rattle.dom_model.proofs.Model.{is_asked_for}
+use Rattle.dom_observers.specs.Definitions.{picked}
 use Rattle.dom_observers.proofs.watched.asked_for_in.Given as goal
 
 -- none of those that were looked at

@@ -1,6 +1,6 @@
-use Rattle.std.proofs.Common.{ℕ, nat_eq}
+use Rattle.dom_base.proofs.Std.{ℕ, nat_eq}
 use Rattle.indexmap.specs.IndexMap.{get}
-use Rattle.dom_observers.specs.Watching.{places_or, AreThinned}
+use Rattle.dom_observers.specs.Definitions.{places_or, AreThinned}
 use Rattle.dom_observers.proofs.watched.count_gone_in.Given as goal
 
 -- only places of those that have gone were dropped so far

@@ -1,14 +1,10 @@
-use Rattle.std.proofs.Common.{ℕ, List, Option, sym, ap, subst}
-use Rattle.std.specs.Prelude.{option_map, map, IfOk}
+use Rattle.dom_base.proofs.Std.{ℕ, List, Option, sym, ap, subst, option_map, map, IfOk}
 use Rattle.smallvec.specs.SmallVec.{SmallVec}
-use Rattle.dom_base.specs.declared.NodeName.{NodeName}
-use Rattle.dom_tree.specs.Forest.{name_at}
-use Rattle.dom_slots.specs.Shadows.{shadows}
+use Rattle.dom_model.proofs.Model.{NodeName}
+use Rattle.dom_tree.specs.Definitions.{name_at}
+use Rattle.dom_slots.specs.Definitions.{shadows}
 use Rattle.dom_path.specs.declared.item.Item.{Item}
-use Rattle.dom_path.specs.Built.{IsBuilt, IsWay, related_name}
-use Rattle.dom_path.specs.Hosted.{IsHosted}
-use Rattle.dom_path.specs.Items.{item_named}
-use Rattle.dom_path.specs.Paths.{IsTrail}
+use Rattle.dom_path.specs.Definitions.{IsBuilt, IsWay, related_name, IsHosted, item_named, IsTrail}
 use Rattle.dom_path.proofs.Goings.{stand-kept, tree-kept}
 use Rattle.dom_path.proofs.Tracks.{ok-other, built-way}
 use Rattle.dom_path.proofs.Viewed.{silent-keys, related-key}

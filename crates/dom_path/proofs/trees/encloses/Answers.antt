@@ -1,5 +1,4 @@
-use Rattle.std.proofs.Common.{length, refl, sym, ◌∙◌}
-use Rattle.std.proofs.lemmas.Option.{slice_get_read}
+use Rattle.dom_base.proofs.Std.{length, refl, sym, ◌∙◌, slice_get_read}
 use Rattle.dom_path.proofs.Nesting.{encloses-step}
 use Rattle.dom_path.proofs.trees.encloses.Goals as goal
 

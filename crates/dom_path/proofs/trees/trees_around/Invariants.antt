@@ -1,8 +1,6 @@
-use Rattle.std.proofs.Common.{◌<◌, ◌-◌, ◌^◌, Some, length}
-use Rattle.std.specs.Prelude.{option_map}
-use Rattle.std.specs.Option.{ForSome}
-use Rattle.dom_tree.specs.Forest.{name_at}
-use Rattle.dom_path.specs.Outward.{GoesOut}
+use Rattle.dom_base.proofs.Std.{◌<◌, ◌-◌, ◌^◌, Some, length, option_map, ForSome}
+use Rattle.dom_tree.specs.Definitions.{name_at}
+use Rattle.dom_path.specs.Definitions.{GoesOut}
 use Rattle.dom_path.proofs.trees.trees_around.Given as goal
 
 abbrev pub invariant-loop-next : goal.invariant-loop-next

@@ -1,8 +1,6 @@
 -- The numbers so far, and one more.
-use Rattle.std.proofs.Common.{◌≡◌, ◌++◌, take}
-use Rattle.std.specs.Prelude.{codes}
-use Rattle.std.specs.List.{flat_map}
-use Rattle.dom_text.specs.Words.{next_number_text}
+use Rattle.dom_base.proofs.Std.{◌≡◌, ◌++◌, take, codes, flat_map}
+use Rattle.dom_text.specs.Definitions.{next_number_text}
 use Rattle.dom_printer.proofs.PutLaws.{failed_put, both, same}
 use Rattle.dom_printer.proofs.names.put_inner_numbers.Goals as goal
 

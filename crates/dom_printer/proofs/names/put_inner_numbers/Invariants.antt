@@ -1,7 +1,6 @@
 -- The buffer has the numbers so far.
-use Rattle.std.proofs.Common.{◌≡◌, ◌++◌, take}
-use Rattle.std.specs.List.{flat_map}
-use Rattle.dom_text.specs.Words.{next_number_text}
+use Rattle.dom_base.proofs.Std.{◌≡◌, ◌++◌, take, flat_map}
+use Rattle.dom_text.specs.Definitions.{next_number_text}
 use Rattle.dom_printer.proofs.names.put_inner_numbers.Given as goal
 
 abbrev pub invariant-loop-number : goal.invariant-loop-number

@@ -1,6 +1,5 @@
 -- A number below ten has one digit.
-use Rattle.std.proofs.Common.{◌++◌, ap, sym, ◌∙◌}
-use Rattle.std.proofs.lemmas.Fmt.{decimal_digit}
+use Rattle.dom_base.proofs.Std.{◌++◌, ap, sym, ◌∙◌, decimal_digit}
 use Rattle.dom_printer.proofs.names.put_number.Goals as goal
 
 pub returns-then-number-lt10-clause-ok : goal.returns-then-number-lt10-clause-ok

@@ -1,7 +1,6 @@
 -- The buffer has the nodes so far.
-use Rattle.std.proofs.Common.{◌≡◌, ◌++◌, take}
-use Rattle.std.specs.List.{flat_map}
-use Rattle.dom_text.specs.Text.{next_node_text}
+use Rattle.dom_base.proofs.Std.{◌≡◌, ◌++◌, take, flat_map}
+use Rattle.dom_text.specs.Definitions.{next_node_text}
 use Rattle.dom_printer.proofs.names.put_others.Given as goal
 
 abbrev pub invariant-loop-node : goal.invariant-loop-node

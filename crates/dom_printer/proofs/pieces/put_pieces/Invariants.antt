@@ -1,5 +1,5 @@
 -- The buffer has the pieces so far.
-use Rattle.std.proofs.Common.{◌≡◌, ◌++◌, take}
+use Rattle.dom_base.proofs.Std.{◌≡◌, ◌++◌, take}
 use Rattle.dom_printer.specs.Pieces.{pieces_text}
 use Rattle.dom_printer.proofs.pieces.put_pieces.Given as goal
 

@@ -1,9 +1,6 @@
 -- The pieces of the line of a record of data have its text.
-use Rattle.std.proofs.Common.{◌≡◌, ◌++◌, [], ◌∷◌, ℕ, List, OnOk, subst}
-use Rattle.std.specs.Prelude.{codes, option_copied}
-use Rattle.std.specs.Fmt.{decimal}
-use Rattle.dom_text.specs.Text.{node_text, string_or_null}
-use Rattle.dom_text.specs.Words.{owner_word}
+use Rattle.dom_base.proofs.Std.{◌≡◌, ◌++◌, [], ◌∷◌, ℕ, List, OnOk, subst, codes, option_copied, decimal}
+use Rattle.dom_text.specs.Definitions.{node_text, string_or_null, owner_word}
 use Rattle.dom_printer.proofs.LineLaws.{row_of_record}
 use Rattle.dom_printer.proofs.records.put_data_record.Goals as goal
 

@@ -1,12 +1,7 @@
 -- The line of an event has its text, with the path that has the text that is given.
-use Rattle.std.proofs.Common.{◌≡◌, ◌++◌, [], ◌∷◌, ℕ, List, subst, ap, ◌∙◌}
-use Rattle.std.proofs.lemmas.List.{append-nil}
-use Rattle.std.specs.Prelude.{codes}
-use Rattle.std.specs.Fmt.{decimal}
-use Rattle.std.proofs.lemmas.Result.{on_ok_weaker}
-use Rattle.dom_base.specs.declared.Owner.{Owner}
-use Rattle.dom_text.specs.Text.{node_text, node_or_null}
-use Rattle.dom_text.specs.Words.{owner_word}
+use Rattle.dom_base.proofs.Std.{◌≡◌, ◌++◌, [], ◌∷◌, ℕ, List, subst, ap, ◌∙◌, append-nil, codes, decimal, on_ok_weaker}
+use Rattle.dom_model.proofs.Model.{Owner}
+use Rattle.dom_text.specs.Definitions.{node_text, node_or_null, owner_word}
 use Rattle.dom_printer.specs.declared.records.Event.{Event}
 use Rattle.dom_printer.specs.Records.{call_text}
 use Rattle.dom_printer.proofs.LineLaws.{in_a_row, pieces_of_call, row_of_pieces}

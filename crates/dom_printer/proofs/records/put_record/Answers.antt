@@ -1,10 +1,7 @@
 -- The pieces of the line of a record of children have its text.
-use Rattle.std.proofs.Common.{◌≡◌, ◌++◌, [], ◌∷◌, ℕ, List, OnOk, subst, sym}
-use Rattle.std.specs.Prelude.{codes}
-use Rattle.std.specs.Fmt.{decimal}
-use Rattle.dom_model.specs.Output.{recorded, says}
-use Rattle.dom_text.specs.Text.{node_text, node_or_null, list_text, output_text}
-use Rattle.dom_text.specs.Words.{owner_word}
+use Rattle.dom_base.proofs.Std.{◌≡◌, ◌++◌, [], ◌∷◌, ℕ, List, OnOk, subst, sym, codes, decimal}
+use Rattle.dom_model.proofs.Model.{recorded, says}
+use Rattle.dom_text.specs.Definitions.{node_text, node_or_null, list_text, output_text, owner_word}
 use Rattle.dom_printer.specs.declared.records.Change.{Change}
 use Rattle.dom_printer.specs.Records.{change_view}
 use Rattle.dom_printer.proofs.LineLaws.{row_of_record}

@@ -1,6 +1,5 @@
 -- Whether the units so far stand as they are.
-use Rattle.std.proofs.Common.{◌≡◌, take}
-use Rattle.std.specs.List.{list_all}
+use Rattle.dom_base.proofs.Std.{◌≡◌, take, list_all}
 use Rattle.dom_printer.specs.Strings.{is_plain}
 use Rattle.dom_printer.proofs.strings.are_plain.Given as goal
 

@@ -1,5 +1,5 @@
 -- The bytes so far are the units.
-use Rattle.std.proofs.Common.{◌≡◌, take}
+use Rattle.dom_base.proofs.Std.{◌≡◌, take}
 use Rattle.dom_printer.proofs.strings.copy_units.Given as goal
 
 abbrev pub invariant-loop-place : goal.invariant-loop-place

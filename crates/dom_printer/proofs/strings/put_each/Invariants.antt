@@ -1,7 +1,6 @@
 -- The buffer has the units so far.
-use Rattle.std.proofs.Common.{◌≡◌, ◌++◌, take}
-use Rattle.std.specs.List.{flat_map}
-use Rattle.dom_text.specs.Text.{unit_text}
+use Rattle.dom_base.proofs.Std.{◌≡◌, ◌++◌, take, flat_map}
+use Rattle.dom_text.specs.Definitions.{unit_text}
 use Rattle.dom_printer.proofs.strings.put_each.Given as goal
 
 abbrev pub invariant-loop-unit : goal.invariant-loop-unit

@@ -1,8 +1,6 @@
 -- The run behind those that were put.
-use Rattle.std.proofs.Common.{◌≡◌, List, ℕ, ◌++◌, ap, sym, ◌∙◌, append_assoc}
-use Rattle.std.specs.List.{flat_map}
-use Rattle.std.proofs.lemmas.Grind.{flat_map-append}
-use Rattle.dom_text.specs.Text.{unit_text}
+use Rattle.dom_base.proofs.Std.{◌≡◌, List, ℕ, ◌++◌, ap, sym, ◌∙◌, append_assoc, flat_map, flat_map-append}
+use Rattle.dom_text.specs.Definitions.{unit_text}
 use Rattle.dom_printer.proofs.PutLaws.{failed_put, last_put}
 use Rattle.dom_printer.proofs.strings.put_runs.Goals as goal
 

@@ -1,7 +1,6 @@
 -- The buffer has the units that were taken from the front.
-use Rattle.std.proofs.Common.{◌≡◌, ℕ, List, ◌++◌, length}
-use Rattle.std.specs.List.{flat_map}
-use Rattle.dom_text.specs.Text.{unit_text}
+use Rattle.dom_base.proofs.Std.{◌≡◌, ℕ, List, ◌++◌, length, flat_map}
+use Rattle.dom_text.specs.Definitions.{unit_text}
 use Rattle.dom_printer.proofs.strings.put_runs.Given as goal
 
 abbrev pub invariant-loop-rest : goal.invariant-loop-rest

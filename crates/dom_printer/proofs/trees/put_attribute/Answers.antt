@@ -1,6 +1,5 @@
 -- The parts of an attribute, one behind the other.
-use Rattle.std.proofs.Common.{◌≡◌, ◌++◌}
-use Rattle.std.specs.Prelude.{codes}
+use Rattle.dom_base.proofs.Std.{◌≡◌, ◌++◌, codes}
 use Rattle.dom_printer.proofs.PutLaws.{failed, failed_put, both, same, last_put}
 use Rattle.dom_printer.proofs.trees.put_attribute.Goals as goal
 

@@ -1,7 +1,6 @@
 -- The buffer has the attributes so far.
-use Rattle.std.proofs.Common.{◌≡◌, ◌++◌, take}
-use Rattle.std.specs.List.{flat_map}
-use Rattle.dom_text.specs.Text.{attribute_text}
+use Rattle.dom_base.proofs.Std.{◌≡◌, ◌++◌, take, flat_map}
+use Rattle.dom_text.specs.Definitions.{attribute_text}
 use Rattle.dom_printer.specs.Steps.{attributes_view}
 use Rattle.dom_printer.proofs.trees.put_attributes.Given as goal
 

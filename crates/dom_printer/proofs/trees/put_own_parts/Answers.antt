@@ -1,8 +1,6 @@
 -- What stands behind a space, by the kind.
-use Rattle.std.proofs.Common.{◌≡◌, ◌++◌, inl, inr}
-use Rattle.std.specs.Prelude.{codes}
-use Rattle.dom_text.specs.Text.{string_text, attribute_text}
-use Rattle.std.specs.List.{flat_map}
+use Rattle.dom_base.proofs.Std.{◌≡◌, ◌++◌, inl, inr, codes, flat_map}
+use Rattle.dom_text.specs.Definitions.{string_text, attribute_text}
 use Rattle.dom_printer.specs.Steps.{name_in, attributes_in, data_in}
 use Rattle.dom_printer.proofs.PutLaws.{failed, failed_put, both, same, last_put}
 use Rattle.dom_printer.proofs.trees.put_own_parts.Goals as goal

@@ -1,8 +1,6 @@
 -- The parts of an opening, one behind the other.
-use Rattle.std.proofs.Common.{◌≡◌, ◌++◌}
-use Rattle.std.specs.Prelude.{codes}
-use Rattle.dom_text.specs.Words.{kind_word}
-use Rattle.dom_text.specs.Text.{node_text}
+use Rattle.dom_base.proofs.Std.{◌≡◌, ◌++◌, codes}
+use Rattle.dom_text.specs.Definitions.{kind_word, node_text}
 use Rattle.dom_printer.proofs.PutLaws.{failed_put, both, same, last_put}
 use Rattle.dom_printer.proofs.trees.put_step.Goals as goal
 

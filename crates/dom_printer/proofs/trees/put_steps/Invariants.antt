@@ -1,6 +1,6 @@
 -- The buffer has the steps so far.
-use Rattle.std.proofs.Common.{◌≡◌, ◌++◌, take}
-use Rattle.dom_text.specs.Text.{steps_text}
+use Rattle.dom_base.proofs.Std.{◌≡◌, ◌++◌, take}
+use Rattle.dom_text.specs.Definitions.{steps_text}
 use Rattle.dom_printer.specs.Steps.{steps_view}
 use Rattle.dom_printer.proofs.trees.put_steps.Given as goal
 

@@ -1,7 +1,6 @@
 -- The steps of trees have the text of the trees.
-use Rattle.std.proofs.Common.{arith, ◌≡◌, ap, ◌∙◌}
-use Rattle.std.proofs.lemmas.Grind.{common_steps}
-use Rattle.dom_text.specs.Text.{steps_text, trees_text}
+use Rattle.dom_base.proofs.Std.{arith, ◌≡◌, ap, ◌∙◌, common_steps}
+use Rattle.dom_text.specs.Definitions.{steps_text, trees_text}
 use Rattle.dom_printer.specs.Steps.{steps_view}
 use Rattle.dom_printer.proofs.TreeLaws.{steps_text-shown_steps}
 use Rattle.dom_printer.proofs.trees.put_tree.Goals as goal

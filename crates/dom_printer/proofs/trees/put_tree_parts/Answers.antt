@@ -1,8 +1,6 @@
 -- The parts of the line of a tree, one behind the other.
-use Rattle.std.proofs.Common.{◌≡◌, List, ℕ, [], ◌∷◌, ◌++◌, subst}
-use Rattle.std.specs.Prelude.{codes}
-use Rattle.dom_text.specs.Words.{owner_word}
-use Rattle.dom_text.specs.Text.{steps_text}
+use Rattle.dom_base.proofs.Std.{◌≡◌, List, ℕ, [], ◌∷◌, ◌++◌, subst, codes}
+use Rattle.dom_text.specs.Definitions.{owner_word, steps_text}
 use Rattle.dom_printer.specs.Steps.{steps_view}
 use Rattle.dom_printer.proofs.LineLaws.{tree_row}
 use Rattle.dom_printer.proofs.PutLaws.{Puts, failed_put, both, same, bytes_put, last_put}

@@ -1,5 +1,4 @@
-use Rattle.std.proofs.Common.{rules, ap, ap₂, codes, ◌≡◌, ◌∙◌}
-use Rattle.std.proofs.lemmas.Result.{IfOk-weaker}
+use Rattle.dom_base.proofs.Std.{rules, ap, ap₂, codes, ◌≡◌, ◌∙◌, IfOk-weaker}
 use Rattle.clap.specs.Words.{app_of, new_app, new_rule, rule_of, with_rule}
 use Rattle.clap.specs.Simple.{app_of_fields}
 use Rattle.dom_program.specs.Words.{helpless, view_rule}

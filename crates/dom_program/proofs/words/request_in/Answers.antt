@@ -1,9 +1,8 @@
-use Rattle.std.proofs.Common.{ap, refl, sym, codes, true, ◌≡◌, ◌∙◌, List, Option, None, Some, is_some, option_map, true≢false}
-use Rattle.std.specs.Option.{option_and_then}
+use Rattle.dom_base.proofs.Std.{ap, refl, sym, codes, true, ◌≡◌, ◌∙◌, List, Option, None, Some, is_some, option_map, true≢false, option_and_then}
 use Rattle.clap.specs.Words.{Row, Text, first_of, found_of, rows_of}
 use Rattle.clap.proofs.WalkLemmas.{first_value-rows}
 use Rattle.dom_base.specs.declared.Owner.{Owner}
-use Rattle.dom_text.specs.Readers.{owner_of}
+use Rattle.dom_text.specs.Definitions.{owner_of}
 use Rattle.dom_program.specs.Words.{NamesAnOwner}
 use Rattle.dom_program.proofs.words.request_in.Goals as goal
 

@@ -1,9 +1,8 @@
-use Rattle.std.proofs.Common.{◌∙◌, refl, sym}
+use Rattle.dom_base.proofs.Std.{◌∙◌, refl, sym}
 use Rattle.dom_reader.specs.Views.{filter_view}
-use Rattle.dom_model.specs.Command.{own}
-use Rattle.dom_model.specs.World.{part_of}
+use Rattle.dom_model.proofs.Model.{own, part_of}
 use Rattle.dom_admission.specs.Turned.{with_turn}
-use Rattle.dom_mutation.specs.Doc.{name_in}
+use Rattle.dom_mutation.specs.Definitions.{name_in}
 use Rattle.dom_admission.proofs.Finding.{key_of}
 use Rattle.dom_admission.proofs.Handling.{faults, keeps, may_act, refused}
 use Rattle.dom_admission.proofs.OwnRefusals.{lone_passes, lone_refuses}

@@ -1,7 +1,5 @@
-use Rattle.std.proofs.Common.{◌∷◌, ◌∙◌, [], Some, refl, sym}
-use Rattle.dom_model.specs.Effects.{of_walker, sets_walker}
-use Rattle.dom_model.specs.Output.{nothing}
-use Rattle.dom_model.specs.World.{part_of}
+use Rattle.dom_base.proofs.Std.{◌∷◌, ◌∙◌, [], Some, refl, sym}
+use Rattle.dom_model.proofs.Model.{of_walker, sets_walker, nothing, part_of}
 use Rattle.dom_admission.specs.declared.admission.Operand.TheVariants.{Any, Walker}
 use Rattle.dom_admission.proofs.Finding.{key_of}
 use Rattle.dom_admission.proofs.Handling.{keeps, may_act, refused}

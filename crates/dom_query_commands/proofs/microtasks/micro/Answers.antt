@@ -1,12 +1,7 @@
-use Rattle.std.proofs.Common.{◌∷◌, ◌∙◌, ◌++◌, [], ap, refl}
-use Rattle.std.specs.Prelude.{string_bytes}
-use Rattle.dom_model.specs.Command.{Command}
-use Rattle.dom_model.specs.Names.{Word}
-use Rattle.dom_model.specs.Output.{nothing, replied, says}
-use Rattle.dom_model.specs.Turns.{opening_turn}
-use Rattle.dom_model.specs.World.{micro_task}
+use Rattle.dom_base.proofs.Std.{◌∷◌, ◌∙◌, ◌++◌, [], ap, refl, string_bytes}
+use Rattle.dom_model.proofs.Model.{Command, Word, nothing, replied, says, opening_turn, micro_task}
 use Rattle.dom_admission.specs.Turned.{with_turn}
-use Rattle.dom_mutation.specs.Doc.{DocState, with_tasks}
+use Rattle.dom_mutation.specs.Definitions.{DocState, with_tasks}
 use Rattle.dom_admission.proofs.Handling.{finished, in_state, may_act, refused}
 use Rattle.dom_admission.proofs.Refusing.{namings}
 use Rattle.dom_query_commands.proofs.ObserverLaws.{micro_queued}

@@ -1,12 +1,7 @@
-use Rattle.std.proofs.Common.{◌≡◌, List, ◌++◌, subst, sym, ◌∙◌}
-use Rattle.std.specs.Prelude.{OnOk}
-use Rattle.std.specs.List.{AllByRecursion}
-use Rattle.dom_base.specs.declared.NodeName.{NodeName}
-use Rattle.dom_model.specs.Output.{Output}
-use Rattle.dom_model.specs.Turns.{notified_lines}
-use Rattle.dom_model.specs.World.{part_of}
-use Rattle.dom_mutation.specs.Doc.{DocState}
-use Rattle.dom_text.specs.Text.{output_text}
+use Rattle.dom_base.proofs.Std.{◌≡◌, List, ◌++◌, subst, sym, ◌∙◌, OnOk, AllByRecursion}
+use Rattle.dom_model.proofs.Model.{NodeName, Output, notified_lines, part_of}
+use Rattle.dom_mutation.specs.Definitions.{DocState}
+use Rattle.dom_text.specs.Definitions.{output_text}
 use Rattle.dom_query_commands.specs.Recorded.{notice_lines, IsNotice}
 use Rattle.dom_query_commands.proofs.Notices.{notice_lines_are}
 use Rattle.dom_query_commands.proofs.microtasks.tell_observers.Goals as goal

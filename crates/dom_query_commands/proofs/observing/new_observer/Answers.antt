@@ -1,5 +1,5 @@
-use Rattle.std.proofs.Common.{[], refl}
-use Rattle.dom_model.specs.Command.{Command}
+use Rattle.dom_base.proofs.Std.{[], refl}
+use Rattle.dom_model.proofs.Model.{Command}
 use Rattle.dom_admission.proofs.Handling.{faults, keeps, may_act, passes, refused}
 use Rattle.dom_admission.proofs.OwnRefusals.{lone_passes, lone_refuses}
 use Rattle.dom_admission.proofs.Refusing.{namings}

@@ -1,9 +1,5 @@
-use Rattle.std.proofs.Common.{◌∷◌, ◌∙◌, [], refl, sym}
-use Rattle.dom_model.specs.Effects.{answers}
-use Rattle.dom_model.specs.Names.{name_eq}
-use Rattle.dom_model.specs.Observers.{asks_for_nothing, options_of, with_registration}
-use Rattle.dom_model.specs.Output.{nothing}
-use Rattle.dom_model.specs.World.{part_of}
+use Rattle.dom_base.proofs.Std.{◌∷◌, ◌∙◌, [], refl, sym}
+use Rattle.dom_model.proofs.Model.{answers, name_eq, asks_for_nothing, options_of, with_registration, nothing, part_of}
 use Rattle.dom_admission.specs.declared.admission.Operand.TheVariants.{Any, Observer}
 use Rattle.dom_admission.proofs.Finding.{key_of}
 use Rattle.dom_admission.proofs.Handling.{faults, keeps, may_act, refused}

@@ -1,9 +1,7 @@
 -- Each turn lists a child, until there is none.
-use Rattle.std.proofs.Common.{◌++◌, ◌∷◌, [], length, sym, ap, ◌∙◌, arith, append_assoc}
-use Rattle.std.specs.Option.{option_map}
-use Rattle.std.proofs.lemmas.List.{append-nil}
-use Rattle.dom_base.specs.declared.NodeName.{NodeName}
-use Rattle.dom_tree.specs.Forest.{name_at}
+use Rattle.dom_base.proofs.Std.{◌++◌, ◌∷◌, [], length, sym, ap, ◌∙◌, arith, append_assoc, option_map, append-nil}
+use Rattle.dom_model.proofs.Model.{NodeName}
+use Rattle.dom_tree.specs.Definitions.{name_at}
 use Rattle.dom_query_commands.proofs.Siblings.{from_or, begins, goes_on}
 use Rattle.dom_query_commands.proofs.reads.child_names.Goals as goal
 

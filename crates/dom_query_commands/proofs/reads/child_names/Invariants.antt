@@ -1,8 +1,7 @@
 -- The names so far, and those of the siblings from here on, are the children's.
-use Rattle.std.proofs.Common.{◌≡◌, ◌<◌, ◌++◌, length}
-use Rattle.std.specs.Option.{option_map, ForSome}
-use Rattle.dom_model.specs.Tree.{children_of}
-use Rattle.dom_tree.specs.Forest.{name_at}
+use Rattle.dom_base.proofs.Std.{◌≡◌, ◌<◌, ◌++◌, length, option_map, ForSome}
+use Rattle.dom_model.proofs.Model.{children_of}
+use Rattle.dom_tree.specs.Definitions.{name_at}
 use Rattle.dom_query_commands.proofs.Siblings.{from_or, IsChildOf}
 use Rattle.dom_query_commands.proofs.reads.child_names.Given as goal
 

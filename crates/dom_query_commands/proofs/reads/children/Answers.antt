@@ -1,6 +1,5 @@
-use Rattle.std.proofs.Common.{◌∷◌, ◌∙◌, [], ap, refl}
-use Rattle.dom_model.specs.Effects.{answers}
-use Rattle.dom_model.specs.Output.{a_list}
+use Rattle.dom_base.proofs.Std.{◌∷◌, ◌∙◌, [], ap, refl}
+use Rattle.dom_model.proofs.Model.{answers, a_list}
 use Rattle.dom_admission.specs.declared.admission.Operand.TheVariants.{Any}
 use Rattle.dom_admission.proofs.Handling.{may_act, reads, refused}
 use Rattle.dom_admission.proofs.Refusing.{namings}

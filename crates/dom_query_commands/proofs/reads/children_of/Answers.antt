@@ -1,10 +1,7 @@
-use Rattle.std.proofs.Common.{◌∙◌, ◌≡◌}
-use Rattle.std.proofs.lemmas.Result.{IfOk-weaker}
-use Rattle.dom_model.specs.CommandNames.{named}
-use Rattle.dom_model.specs.Tree.{children_of}
-use Rattle.dom_model.specs.World.{part_of}
+use Rattle.dom_base.proofs.Std.{◌∙◌, ◌≡◌, IfOk-weaker}
+use Rattle.dom_model.proofs.Model.{named, children_of, part_of}
 use Rattle.dom_reader.specs.Views.{word_view}
-use Rattle.dom_tree.specs.Forest.{name_at}
+use Rattle.dom_tree.specs.Definitions.{name_at}
 use Rattle.dom_admission.proofs.Finding.{read_at, read_by_key}
 use Rattle.dom_query_commands.proofs.reads.children_of.Goals as goal
 

@@ -1,7 +1,5 @@
-use Rattle.std.proofs.Common.{◌∷◌, ◌∙◌, ◌≡◌, [], ap, refl, sym}
-use Rattle.dom_model.specs.CommandNames.{named}
-use Rattle.dom_model.specs.Output.{a_truth}
-use Rattle.dom_model.specs.World.{is_connected, part_of}
+use Rattle.dom_base.proofs.Std.{◌∷◌, ◌∙◌, ◌≡◌, [], ap, refl, sym}
+use Rattle.dom_model.proofs.Model.{named, a_truth, is_connected, part_of}
 use Rattle.dom_admission.specs.declared.admission.Operand.TheVariants.{Any}
 use Rattle.dom_reader.specs.Views.{word_view}
 use Rattle.dom_admission.proofs.Finding.{key_of}

@@ -1,11 +1,7 @@
-use Rattle.std.proofs.Common.{◌∙◌, ap}
-use Rattle.dom_base.specs.declared.NodeName.{NodeName}
-use Rattle.dom_model.specs.CommandNames.{named}
-use Rattle.dom_model.specs.Names.{is_in, name_eq}
-use Rattle.dom_model.specs.Tree.{is_inclusive_ancestor}
-use Rattle.dom_model.specs.World.{part_of}
+use Rattle.dom_base.proofs.Std.{◌∙◌, ap}
+use Rattle.dom_model.proofs.Model.{NodeName, named, is_in, name_eq, is_inclusive_ancestor, part_of}
 use Rattle.dom_reader.specs.Views.{word_view}
-use Rattle.dom_tree.specs.Forest.{name_at}
+use Rattle.dom_tree.specs.Definitions.{name_at}
 use Rattle.dom_admission.proofs.Finding.{read_at, read_by_key}
 use Rattle.dom_query_commands.proofs.reads.is_above.Goals as goal
 

@@ -1,8 +1,6 @@
-use Rattle.std.proofs.Common.{◌∙◌, List, ap, sym}
-use Rattle.std.specs.Option.{option_map}
-use Rattle.dom_base.specs.declared.NodeName.{NodeName}
-use Rattle.dom_model.specs.Tree.{parent_of}
-use Rattle.dom_tree.specs.Forest.{name_at}
+use Rattle.dom_base.proofs.Std.{◌∙◌, List, ap, sym, option_map}
+use Rattle.dom_model.proofs.Model.{NodeName, parent_of}
+use Rattle.dom_tree.specs.Definitions.{name_at}
 use Rattle.dom_admission.proofs.Finding.{read_at, read_by_key}
 use Rattle.dom_query_commands.proofs.reads.parent_of.Goals as goal
 

@@ -1,5 +1,5 @@
-use Rattle.std.proofs.Common.{◌∙◌, ap}
-use Rattle.dom_model.specs.Tree.{subtree}
+use Rattle.dom_base.proofs.Std.{◌∙◌, ap}
+use Rattle.dom_model.proofs.Model.{subtree}
 use Rattle.dom_printer.specs.Steps.{shown_steps, steps_view}
 use Rattle.dom_admission.proofs.Finding.{read_at, read_by_key}
 use Rattle.dom_query_commands.proofs.reads.reply_tree.Goals as goal

@@ -1,5 +1,5 @@
-use Rattle.std.proofs.Common.{◌∷◌, [], Ok, refl}
-use Rattle.dom_model.specs.Command.{Command}
+use Rattle.dom_base.proofs.Std.{◌∷◌, [], Ok, refl}
+use Rattle.dom_model.proofs.Model.{Command}
 use Rattle.dom_admission.specs.declared.admission.Operand.TheVariants.{Any}
 use Rattle.dom_reader.specs.Views.{word_view}
 use Rattle.dom_admission.proofs.Handling.{may_act, reads, refused}

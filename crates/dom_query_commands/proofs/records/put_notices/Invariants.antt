@@ -1,5 +1,5 @@
-use Rattle.std.proofs.Common.{◌≡◌, ◌++◌, take}
-use Rattle.dom_text.specs.Text.{output_text}
+use Rattle.dom_base.proofs.Std.{◌≡◌, ◌++◌, take}
+use Rattle.dom_text.specs.Definitions.{output_text}
 use Rattle.dom_query_commands.specs.Recorded.{notice_lines}
 use Rattle.dom_query_commands.proofs.records.put_notices.Given as goal
 

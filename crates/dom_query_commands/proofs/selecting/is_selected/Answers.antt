@@ -1,9 +1,7 @@
-use Rattle.std.proofs.Common.{◌∙◌}
-use Rattle.dom_model.specs.CommandNames.{named}
-use Rattle.dom_model.specs.Selectors.{selector_matches}
-use Rattle.dom_model.specs.World.{part_of}
+use Rattle.dom_base.proofs.Std.{◌∙◌}
+use Rattle.dom_model.proofs.Model.{named, selector_matches, part_of}
 use Rattle.dom_reader.specs.Views.{word_view}
-use Rattle.dom_selectors.specs.Views.{selector_view}
+use Rattle.dom_selectors.specs.Definitions.{selector_view}
 use Rattle.dom_admission.proofs.Finding.{read_at, read_by_key}
 use Rattle.dom_query_commands.proofs.SelectorLaws.{selector_own}
 use Rattle.dom_query_commands.proofs.selecting.is_selected.Goals as goal

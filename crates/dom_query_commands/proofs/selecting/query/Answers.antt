@@ -1,8 +1,7 @@
-use Rattle.std.proofs.Common.{◌∷◌, ◌∙◌, [], ap, refl}
-use Rattle.dom_model.specs.Effects.{answers}
-use Rattle.dom_model.specs.Output.{a_list}
+use Rattle.dom_base.proofs.Std.{◌∷◌, ◌∙◌, [], ap, refl}
+use Rattle.dom_model.proofs.Model.{answers, a_list}
 use Rattle.dom_admission.specs.declared.admission.Operand.TheVariants.{Parent}
-use Rattle.dom_selectors.specs.Views.{selector_view}
+use Rattle.dom_selectors.specs.Definitions.{selector_view}
 use Rattle.dom_admission.proofs.Handling.{may_act, one_there, passes, reads, refused, unanswered}
 use Rattle.dom_admission.proofs.Refusing.{namings}
 use Rattle.dom_query_commands.proofs.SelectorLaws.{read_as, read_none, unread}

@@ -1,11 +1,8 @@
-use Rattle.std.proofs.Common.{◌∙◌, ◌≡◌, ap, map}
-use Rattle.std.proofs.lemmas.Result.{IfOk-weaker}
-use Rattle.dom_model.specs.CommandNames.{named}
-use Rattle.dom_model.specs.Selectors.{query_all}
-use Rattle.dom_model.specs.World.{part_of}
+use Rattle.dom_base.proofs.Std.{◌∙◌, ◌≡◌, ap, map, IfOk-weaker}
+use Rattle.dom_model.proofs.Model.{named, query_all, part_of}
 use Rattle.dom_reader.specs.Views.{word_view}
-use Rattle.dom_selectors.specs.Views.{selector_view}
-use Rattle.dom_tree.specs.Forest.{name_at}
+use Rattle.dom_selectors.specs.Definitions.{selector_view}
+use Rattle.dom_tree.specs.Definitions.{name_at}
 use Rattle.dom_admission.proofs.Finding.{read_at, read_by_key}
 use Rattle.dom_query_commands.proofs.SelectorLaws.{query_own}
 use Rattle.dom_query_commands.proofs.selecting.selected.Goals as goal

@@ -1,7 +1,7 @@
 -- The attributes so far are the first ones of the node.
-use Rattle.std.proofs.Common.{◌≡◌, ◌-◌, length, take}
-use Rattle.dom_model.specs.Tree.{node_in}
-use Rattle.dom_tree.specs.Forest.{name_at}
+use Rattle.dom_base.proofs.Std.{◌≡◌, ◌-◌, length, take}
+use Rattle.dom_model.proofs.Model.{node_in}
+use Rattle.dom_tree.specs.Definitions.{name_at}
 use Rattle.dom_printer.specs.Steps.{attributes_view}
 use Rattle.dom_query_commands.proofs.tree_text.attributes.Given as goal
 

@@ -1,13 +1,8 @@
 -- What is told of a node is what is shown of it, for each kind.
-use Rattle.std.proofs.Common.{◌≡◌, ◌⊎◌, inl, inr, List, [], sym, ap, ◌∙◌, None}
-use Rattle.std.proofs.lemmas.Option.{get_or_from_slice_get}
-use Rattle.dom_base.specs.declared.Owner.TheVariants.{Page}
-use Rattle.dom_base.specs.declared.NodeName.{NodeName}
-use Rattle.dom_base.specs.declared.Kind.{Kind}
+use Rattle.dom_base.proofs.Std.{◌≡◌, ◌⊎◌, inl, inr, List, [], sym, ap, ◌∙◌, None, get_or_from_slice_get}
+use Rattle.dom_model.proofs.Model.{Page, NodeName, Kind, Word, DomString, node_of, Attribute, Node, node_in}
 use Rattle.dom_base.specs.declared.Kind.TheVariants as kinds
-use Rattle.dom_model.specs.Names.{Word, DomString, node_of}
-use Rattle.dom_model.specs.Tree.{Attribute, Node, node_in}
-use Rattle.dom_tree.specs.Forest.{name_at}
+use Rattle.dom_tree.specs.Definitions.{name_at}
 use Rattle.dom_printer.specs.declared.trees.NodeContent.{NodeContent}
 use Rattle.dom_printer.specs.Steps.{name_in, attributes_in, data_in, shown, shown_as}
 use Rattle.dom_query_commands.proofs.SpotReads.{node_in-name}

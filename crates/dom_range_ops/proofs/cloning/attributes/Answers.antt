@@ -1,10 +1,7 @@
-use Rattle.std.proofs.Common.{Some, length, refl, sym, ap, ◌∙◌}
-use Rattle.std.specs.Prelude.{slice_get}
-use Rattle.std.specs.Option.{option_map}
-use Rattle.std.specs.String.{string_bytes, string_eq}
-use Rattle.dom_model.specs.Tree.{node_in}
+use Rattle.dom_base.proofs.Std.{Some, length, refl, sym, ap, ◌∙◌, slice_get, option_map, string_bytes, string_eq}
+use Rattle.dom_model.proofs.Model.{node_in}
 use Rattle.dom_attributes.specs.Attributes.{attribute_from}
-use Rattle.dom_tree.specs.Forest.{name_at}
+use Rattle.dom_tree.specs.Definitions.{name_at}
 use Rattle.dom_range_ops.proofs.CloneAttributes.{IsNext, attributes-all, attributes-put}
 use Rattle.dom_range_ops.proofs.cloning.attributes.Goals as goal
 use Rattle.dom_range_ops.proofs.cloning.attributes.Goals.{After-insert}

@@ -1,7 +1,6 @@
-use Rattle.std.proofs.Common.{List, ℕ, ap, ◌∙◌}
-use Rattle.std.specs.Prelude.{slice_range}
-use Rattle.dom_model.specs.Tree.{node_in}
-use Rattle.dom_tree.specs.Forest.{name_at}
+use Rattle.dom_base.proofs.Std.{List, ℕ, ap, ◌∙◌, slice_range}
+use Rattle.dom_model.proofs.Model.{node_in}
+use Rattle.dom_tree.specs.Definitions.{name_at}
 use Rattle.dom_range_ops.proofs.DocRanges.{if-ok}
 use Rattle.dom_range_ops.proofs.cloning.clone_units.Goals as goal
 

@@ -1,12 +1,8 @@
-use Rattle.std.proofs.Common.{◌<◌, ◌&&◌, false, not, length, map, sym, ap, subst, ◌∙◌}
-use Rattle.std.specs.List.{AllByRecursion}
-use Rattle.std.specs.Option.{option_map_or}
-use Rattle.dom_model.specs.Ranges.{is_contained}
-use Rattle.dom_model.specs.Tree.{nodes, names_of, parent_of}
-use Rattle.dom_laws.proofs.Lists.{filter-none}
-use Rattle.dom_tree.specs.Forest.{name_at}
-use Rattle.dom_range_ops.specs.Pieces.{item_in, wholes, IsPieceIn}
-use Rattle.dom_range_ops.specs.Texts.{range_at_points}
+use Rattle.dom_base.proofs.Std.{◌<◌, ◌&&◌, false, not, length, map, sym, ap, subst, ◌∙◌, AllByRecursion, option_map_or}
+use Rattle.dom_model.proofs.Model.{is_contained, nodes, names_of, parent_of}
+use Rattle.dom_laws.proofs.Laws.{filter-none}
+use Rattle.dom_tree.specs.Definitions.{name_at}
+use Rattle.dom_range_ops.specs.Definitions.{item_in, wholes, IsPieceIn, range_at_points}
 use Rattle.dom_range_ops.proofs.DocRanges.{if-ok}
 use Rattle.dom_range_ops.proofs.OutermostPieces.{keys-named, keys-in, outermost-found}
 use Rattle.dom_range_ops.proofs.PieceMiddle.{none-contained}

@@ -1,7 +1,5 @@
-use Rattle.std.proofs.Common.{◌≡◌, ◌+◌, ◌∷◌, ◌++◌, [], take, get_or, sym, ap, ◌∙◌}
-use Rattle.std.specs.Prelude.{option_to_list}
-use Rattle.std.proofs.lemmas.List.{append-nil, take_more}
-use Rattle.dom_range_ops.specs.Pieces.{whole_keys}
+use Rattle.dom_base.proofs.Std.{◌≡◌, ◌+◌, ◌∷◌, ◌++◌, [], take, get_or, sym, ap, ◌∙◌, option_to_list, append-nil, take_more}
+use Rattle.dom_range_ops.specs.Definitions.{whole_keys}
 use Rattle.dom_range_ops.proofs.OutermostPieces.{keys-append}
 use Rattle.dom_range_ops.proofs.PiecePaths.{all-taken}
 use Rattle.dom_range_ops.proofs.contained.whole_nodes.Goals as goal

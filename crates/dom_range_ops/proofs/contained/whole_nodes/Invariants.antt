@@ -1,5 +1,5 @@
-use Rattle.std.proofs.Common.{◌≡◌, take}
-use Rattle.dom_range_ops.specs.Pieces.{whole_keys}
+use Rattle.dom_base.proofs.Std.{◌≡◌, take}
+use Rattle.dom_range_ops.specs.Definitions.{whole_keys}
 use Rattle.dom_range_ops.proofs.contained.whole_nodes.Given as goal
 
 abbrev pub invariant-loop-piece : goal.invariant-loop-piece

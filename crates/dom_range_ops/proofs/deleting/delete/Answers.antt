@@ -1,11 +1,7 @@
-use Rattle.std.proofs.Common.{refl, sym, ◌∙◌}
-use Rattle.dom_model.specs.Effects.{plan_of_range}
-use Rattle.dom_model.specs.Extract.{both_at}
-use Rattle.dom_model.specs.RangeOps.{deleting}
-use Rattle.dom_model.specs.Ranges.{at}
-use Rattle.dom_model.specs.Steps.{set_range}
-use Rattle.dom_parts.specs.Doc.{stepped}
-use Rattle.dom_mutation.specs.Doc.{name_in}
+use Rattle.dom_base.proofs.Std.{refl, sym, ◌∙◌}
+use Rattle.dom_model.proofs.Model.{plan_of_range, both_at, deleting, at, set_range}
+use Rattle.dom_parts.specs.Definitions.{stepped}
+use Rattle.dom_mutation.specs.Definitions.{name_in}
 use Rattle.dom_mutation.proofs.ReadyCalls.{ready-planned, stands-then}
 use Rattle.dom_mutation.proofs.ReadyPlans.{ready-deleting}
 use Rattle.dom_range_ops.proofs.DeletionPlans.{deletion-done, deletion-there, deletion-owner}

@@ -1,7 +1,5 @@
-use Rattle.std.proofs.Common.{◌≡◌, ℕ, map, refl, sym, ap, subst, ◌∙◌}
-use Rattle.std.specs.List.{AllByRecursion}
-use Rattle.std.proofs.lemmas.Result.{on_ok_weaker}
-use Rattle.dom_mutation.specs.Doc.{DocState, HoldsNode, name_in, owner_in}
+use Rattle.dom_base.proofs.Std.{◌≡◌, ℕ, map, refl, sym, ap, subst, ◌∙◌, AllByRecursion, on_ok_weaker}
+use Rattle.dom_mutation.specs.Definitions.{DocState, HoldsNode, name_in, owner_in}
 use Rattle.dom_range_ops.proofs.DeletionPlans.{with_cut, without_nodes, contents-cut, contents-made}
 use Rattle.dom_range_ops.proofs.DocRanges.{RangeRead, range-read, bounded-in, spanned-in, one-in, cut-in, found-in, found-own}
 use Rattle.dom_range_ops.proofs.deleting.delete_contents.Goals as goal

@@ -1,8 +1,6 @@
-use Rattle.std.proofs.Common.{List, sym, ap, ◌∙◌}
-use Rattle.dom_base.specs.declared.NodeName.{NodeName}
-use Rattle.dom_model.specs.Place.{Boundary}
-use Rattle.dom_model.specs.Ranges.{at}
-use Rattle.dom_tree.specs.Forest.{name_at}
+use Rattle.dom_base.proofs.Std.{List, sym, ap, ◌∙◌}
+use Rattle.dom_model.proofs.Model.{NodeName, Boundary, at}
+use Rattle.dom_tree.specs.Definitions.{name_at}
 use Rattle.dom_range_ops.proofs.DocRanges.{RangeRead, range-read, bounded-in, leaves-in, place-in, place-there}
 use Rattle.dom_range_ops.proofs.deleting.place_after.Goals as goal
 use Rattle.dom_range_ops.proofs.deleting.place_after.Goals.{After-law_nodes_stand_once}

@@ -1,5 +1,5 @@
-use Rattle.std.proofs.Common.{drop}
-use Rattle.dom_model.specs.Changes.{observed}
+use Rattle.dom_base.proofs.Std.{drop}
+use Rattle.dom_model.proofs.Model.{observed}
 use Rattle.dom_mutation.proofs.Turns.{Empties}
 use Rattle.dom_range_ops.proofs.deleting.remove_each.Given as goal
 

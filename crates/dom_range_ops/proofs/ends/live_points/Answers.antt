@@ -1,15 +1,10 @@
-use Rattle.std.proofs.Common.{◌≡◌, Some, sym, ap, subst, ◌∙◌}
-use Rattle.std.specs.Prelude.{[], IsTrue}
-use Rattle.dom_base.specs.declared.NodeName.{NodeName}
-use Rattle.dom_worlds.specs.Bounds.{IsWithin}
-use Rattle.dom_worlds.specs.Tables.{EndsIn, HasEnds}
+use Rattle.dom_base.proofs.Std.{◌≡◌, Some, sym, ap, subst, ◌∙◌, [], IsTrue}
+use Rattle.dom_model.proofs.Model.{NodeName, range_at, kind_of, has_data, children_of, part_of}
+use Rattle.dom_worlds.specs.Definitions.{IsWithin, EndsIn, HasEnds}
 use Rattle.dom_worlds.proofs.PlanLemmas.{ends-at}
-use Rattle.dom_model.specs.Part.{range_at}
-use Rattle.dom_model.specs.Tree.{kind_of, has_data, children_of}
-use Rattle.dom_model.specs.World.{part_of}
-use Rattle.dom_laws.proofs.Options.{was_some}
+use Rattle.dom_laws.proofs.Laws.{was_some}
 use Rattle.dom_mutation.proofs.ReadyEnds.{bare, bare-tables}
-use Rattle.dom_range_ops.specs.Texts.{range_at_points}
+use Rattle.dom_range_ops.specs.Definitions.{range_at_points}
 use Rattle.dom_range_ops.proofs.DocRanges.{read-points, within-at}
 use Rattle.dom_range_ops.proofs.ends.live_points.Goals as goal
 

@@ -1,11 +1,8 @@
-use Rattle.std.proofs.Common.{not, filter, unwrap_or, sym, ap, ◌∙◌}
-use Rattle.std.proofs.lemmas.Bool.{cond-false}
-use Rattle.dom_model.specs.Extract.{behind_node}
-use Rattle.dom_model.specs.Names.{last_of}
-use Rattle.dom_model.specs.Tree.{inclusive_ancestors, is_inclusive_ancestor}
-use Rattle.dom_tree.specs.Forest.{name_at}
+use Rattle.dom_base.proofs.Std.{not, filter, unwrap_or, sym, ap, ◌∙◌, cond-false}
+use Rattle.dom_model.proofs.Model.{behind_node, last_of, inclusive_ancestors, is_inclusive_ancestor}
+use Rattle.dom_tree.specs.Definitions.{name_at}
 use Rattle.dom_tree.proofs.Standing.{Once-forest, Has-forest}
-use Rattle.dom_range_ops.specs.Texts.{range_at_points}
+use Rattle.dom_range_ops.specs.Definitions.{range_at_points}
 use Rattle.dom_range_ops.proofs.DeletionPlaces.{parent-holds, outermost-is}
 use Rattle.dom_range_ops.proofs.ends.new_place.Goals as goal
 

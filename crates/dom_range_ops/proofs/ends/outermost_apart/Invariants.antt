@@ -1,6 +1,6 @@
-use Rattle.std.proofs.Common.{◌≡◌, ◌<◌, ◌+◌, length, true, false}
-use Rattle.dom_model.specs.Tree.{is_inclusive_ancestor}
-use Rattle.dom_tree.specs.Forest.{name_at}
+use Rattle.dom_base.proofs.Std.{◌≡◌, ◌<◌, ◌+◌, length, true, false}
+use Rattle.dom_model.proofs.Model.{is_inclusive_ancestor}
+use Rattle.dom_tree.specs.Definitions.{name_at}
 use Rattle.dom_range_ops.proofs.DeletionHeights.{height_at}
 use Rattle.dom_range_ops.proofs.ends.outermost_apart.Given as goal
 

@@ -1,16 +1,9 @@
-use Rattle.std.proofs.Common.{◌≡◌, suc, true, map, Some, None, refl, sym, subst, ap, ◌∙◌}
-use Rattle.std.proofs.lemmas.Result.{on_ok_weaker}
-use Rattle.dom_base.specs.declared.Owner.{Owner}
-use Rattle.dom_base.specs.declared.Refusal.TheVariants.{Limit}
-use Rattle.dom_model.specs.CommandRefusals.{past_limit}
-use Rattle.dom_model.specs.Effects.{plan_of_range}
-use Rattle.dom_model.specs.Extract.{extracting}
-use Rattle.dom_model.specs.Ranges.{at}
-use Rattle.dom_model.specs.World.{part_of, is_there}
-use Rattle.dom_mutation.specs.Doc.{name_in}
+use Rattle.dom_base.proofs.Std.{◌≡◌, suc, true, map, Some, None, refl, sym, subst, ap, ◌∙◌, on_ok_weaker}
+use Rattle.dom_model.proofs.Model.{Owner, Limit, past_limit, plan_of_range, extracting, at, part_of, is_there}
+use Rattle.dom_mutation.specs.Definitions.{name_in}
 use Rattle.dom_mutation.proofs.ReadyCalls.{ready-planned}
 use Rattle.dom_mutation.proofs.ReadyPlans.{ready-extracting}
-use Rattle.dom_range_ops.specs.Pieces.{item_in}
+use Rattle.dom_range_ops.specs.Definitions.{item_in}
 use Rattle.dom_range_ops.proofs.ExtractedRanges.{RangePieces, own-may_take, names-own, world-own, limit-refused, limit-kept}
 use Rattle.dom_range_ops.proofs.InsertedRanges.{range-there}
 use Rattle.dom_range_ops.proofs.extracting.extract.Goals as goal

@@ -1,17 +1,8 @@
-use Rattle.std.proofs.Common.{◌≡◌, true, arith, refl, sym, ap, ◌∙◌, subst}
-use Rattle.dom_base.specs.declared.NodeName.{NodeName}
-use Rattle.dom_base.specs.declared.Owner.{Owner}
-use Rattle.dom_model.specs.Changes.{doing}
-use Rattle.dom_model.specs.Extract.{both_at, own_document, new_fragment_node}
-use Rattle.dom_model.specs.Part.{next_name}
-use Rattle.dom_model.specs.Ranges.{at}
-use Rattle.dom_model.specs.Steps.{make, set_range}
-use Rattle.dom_model.specs.World.{part_of, is_there}
-use Rattle.dom_mutation.specs.Doc.{DocState, made, name_in}
-use Rattle.dom_mutation.specs.Ready.{AreReady}
+use Rattle.dom_base.proofs.Std.{◌≡◌, true, arith, refl, sym, ap, ◌∙◌, subst}
+use Rattle.dom_model.proofs.Model.{NodeName, Owner, doing, both_at, own_document, new_fragment_node, next_name, at, make, set_range, part_of, is_there}
+use Rattle.dom_mutation.specs.Definitions.{DocState, made, name_in, AreReady, IsAlone}
 use Rattle.dom_mutation.proofs.ReadyCalls.{stands-then}
-use Rattle.dom_parts.specs.Doc.{stepped}
-use Rattle.dom_mutation.specs.Hosting.{IsAlone}
+use Rattle.dom_parts.specs.Definitions.{stepped}
 use Rattle.dom_range_ops.proofs.TakingExtracts.{Fragment, into-node, pieces-kept, may-after, names-then, name-then, node-then, range-then, extracted}
 use Rattle.dom_range_ops.proofs.extracting.extract_pieces.Goals as goal
 use Rattle.dom_range_ops.proofs.extracting.extract_pieces.Goals.{In_ok-into}

@@ -1,9 +1,7 @@
-use Rattle.std.proofs.Common.{List, Some, option_map, refl, sym, ap, ◌∙◌}
-use Rattle.std.proofs.lemmas.Bool.{cond-true, cond-false}
-use Rattle.dom_base.specs.declared.NodeName.{NodeName}
-use Rattle.dom_model.specs.Tree.{Node, node_in, kind_of, is_document}
-use Rattle.dom_mutation.specs.Doc.{name_in, owner_in, trees_in}
-use Rattle.dom_tree.specs.Forest.{name_at}
+use Rattle.dom_base.proofs.Std.{List, Some, option_map, refl, sym, ap, ◌∙◌, cond-true, cond-false}
+use Rattle.dom_model.proofs.Model.{NodeName, Node, node_in, kind_of, is_document}
+use Rattle.dom_mutation.specs.Definitions.{name_in, owner_in, trees_in}
+use Rattle.dom_tree.specs.Definitions.{name_at}
 use Rattle.dom_range_ops.proofs.TakingDocs.{node-read}
 use Rattle.dom_range_ops.proofs.extracting.own_document.Goals as goal
 

@@ -1,8 +1,6 @@
-use Rattle.std.proofs.Common.{List, map, sym, ap, subst, ◌∙◌}
-use Rattle.std.specs.List.{AllByRecursion}
-use Rattle.dom_base.specs.declared.NodeName.{NodeName}
-use Rattle.dom_range_ops.specs.Pieces.{item_in, items_of}
-use Rattle.dom_range_ops.specs.Takings.{IsPieceOf}
+use Rattle.dom_base.proofs.Std.{List, map, sym, ap, subst, ◌∙◌, AllByRecursion}
+use Rattle.dom_model.proofs.Model.{NodeName}
+use Rattle.dom_range_ops.specs.Definitions.{item_in, items_of, IsPieceOf}
 use Rattle.dom_range_ops.proofs.DocRanges.{RangeRead, range-read, spanned-in, pieces-in, if-ok}
 use Rattle.dom_range_ops.proofs.extracting.pieces_in.Goals as goal
 use Rattle.dom_range_ops.proofs.extracting.pieces_in.Goals.{After-law_nodes_stand_once}

@@ -1,20 +1,11 @@
-use Rattle.std.proofs.Common.{◌≡◌, ◌∷◌, [], List, true, Some, if◌then◌else◌, ◌&&◌, ◌==◌, refl, sym, ap, subst, ◌∙◌}
-use Rattle.std.specs.Option.{option_map_or}
-use Rattle.std.proofs.lemmas.Bool.{cond-true, eq-eqb, eqb-true}
-use Rattle.dom_base.specs.declared.NodeName.{NodeName}
-use Rattle.dom_model.proofs.OwnerLaws.{name_eq-same}
-use Rattle.dom_model.specs.Names.{name_eq}
-use Rattle.dom_model.specs.Part.{range_at}
-use Rattle.dom_model.specs.RangeOps.{ending_at}
-use Rattle.dom_model.specs.Ranges.{Range, at, from_to, is_collapsed}
-use Rattle.dom_model.specs.Steps.{Step, set_range}
-use Rattle.dom_model.specs.World.{part_of}
-use Rattle.dom_model.specs.WorldSteps.{world_after}
-use Rattle.dom_mutation.specs.Doc.{name_in}
-use Rattle.dom_mutation.specs.Ready.{AreReady}
+use Rattle.dom_base.proofs.Std.{◌≡◌, ◌∷◌, [], List, true, Some, if◌then◌else◌, ◌&&◌, ◌==◌, refl, sym, ap, subst, ◌∙◌, option_map_or, cond-true, eq-eqb}
+use Rattle.dom_base.proofs.Std.{eqb-true}
+use Rattle.dom_model.proofs.Model.{NodeName, name_eq-same, name_eq, range_at, ending_at, Range, at, from_to, is_collapsed, Step, set_range, part_of}
+use Rattle.dom_model.proofs.Model.{world_after}
+use Rattle.dom_mutation.specs.Definitions.{name_in, AreReady}
 use Rattle.dom_mutation.proofs.ReadyCalls.{stands-then}
-use Rattle.dom_laws.proofs.Options.{was_some}
-use Rattle.dom_range_ops.specs.Texts.{range_at_points}
+use Rattle.dom_laws.proofs.Laws.{was_some}
+use Rattle.dom_range_ops.specs.Definitions.{range_at_points}
 use Rattle.dom_range_ops.proofs.DocRanges.{read-points}
 use Rattle.dom_range_ops.proofs.inserting.end_at.Goals as goal
 

@@ -1,17 +1,10 @@
-use Rattle.std.proofs.Common.{◌≡◌, ◌<◌, ℕ, Bool, false, List, length, refl, sym, ap, subst, ◌∙◌}
-use Rattle.std.proofs.lemmas.Result.{on_ok_weaker}
-use Rattle.dom_base.specs.declared.Kind.{Kind}
-use Rattle.dom_base.specs.declared.NodeName.{NodeName}
+use Rattle.dom_base.proofs.Std.{◌≡◌, ◌<◌, ℕ, Bool, false, List, length, refl, sym, ap, subst, ◌∙◌, on_ok_weaker}
+use Rattle.dom_model.proofs.Model.{Kind, NodeName, observed, remove_plan, has_node, has_data, is_shadow, kind_of, part_of}
 use Rattle.dom_worlds.proofs.PlanLemmas.{leads-removing}
-use Rattle.dom_model.specs.Changes.{observed, remove_plan}
-use Rattle.dom_model.specs.Tree.{has_node, has_data, is_shadow, kind_of}
-use Rattle.dom_model.specs.World.{part_of}
-use Rattle.dom_mutation.specs.Doc.{DocState, name_in, owner_in, planned, trees_in}
-use Rattle.dom_mutation.specs.Hosting.{IsAlone}
-use Rattle.dom_mutation.specs.Ready.{AreReady}
+use Rattle.dom_mutation.specs.Definitions.{DocState, name_in, owner_in, planned, trees_in, IsAlone, AreReady}
 use Rattle.dom_mutation.proofs.Turns.{Stays, may_now, child_now}
 use Rattle.dom_parts.proofs.OwnPlans.{plans_removing}
-use Rattle.dom_tree.specs.Forest.{name_at}
+use Rattle.dom_tree.specs.Definitions.{name_at}
 use Rattle.dom_range_ops.proofs.InsertedParts.{kind-kept}
 use Rattle.dom_range_ops.proofs.InsertedPlans.{state-is, stays-left, inserted-at}
 use Rattle.dom_range_ops.proofs.inserting.insert_at.Goals as goal

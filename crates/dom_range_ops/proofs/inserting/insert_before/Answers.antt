@@ -1,8 +1,6 @@
-use Rattle.std.proofs.Common.{option_map, refl, sym, ap, subst, ◌∙◌}
-use Rattle.dom_model.specs.Changes.{observed, insert_plan}
-use Rattle.dom_mutation.specs.Doc.{DocState, made, name_in}
-use Rattle.dom_mutation.specs.Hosting.{IsAlone}
-use Rattle.dom_mutation.specs.Ready.{AreReady}
+use Rattle.dom_base.proofs.Std.{option_map, refl, sym, ap, subst, ◌∙◌}
+use Rattle.dom_model.proofs.Model.{observed, insert_plan}
+use Rattle.dom_mutation.specs.Definitions.{DocState, made, name_in, IsAlone, AreReady}
 use Rattle.dom_parts.proofs.OwnPlans.{plans_inserting}
 use Rattle.dom_range_ops.proofs.InsertedPlans.{inserted-before}
 use Rattle.dom_range_ops.proofs.InsertedRanges.{range-kept}

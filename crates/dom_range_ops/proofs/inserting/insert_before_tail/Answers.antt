@@ -1,12 +1,7 @@
-use Rattle.std.proofs.Common.{◌≡◌, ◌++◌, ◌∷◌, [], refl, sym, ap, subst, ◌∙◌}
-use Rattle.dom_model.specs.Part.{next_name}
-use Rattle.dom_model.specs.TextChanges.{splitting}
-use Rattle.dom_model.specs.Tree.{has_data, has_node, is_shadow, is_text, kind_of}
-use Rattle.dom_model.specs.World.{part_of}
-use Rattle.dom_mutation.specs.Doc.{IsChild, made, name_in}
-use Rattle.dom_mutation.specs.Hosting.{IsAlone}
-use Rattle.dom_mutation.specs.Ready.{AreReady}
-use Rattle.dom_range_ops.specs.Texts.{range_at_points}
+use Rattle.dom_base.proofs.Std.{◌≡◌, ◌++◌, ◌∷◌, [], refl, sym, ap, subst, ◌∙◌}
+use Rattle.dom_model.proofs.Model.{next_name, splitting, has_data, has_node, is_shadow, is_text, kind_of, part_of}
+use Rattle.dom_mutation.specs.Definitions.{IsChild, made, name_in, IsAlone, AreReady}
+use Rattle.dom_range_ops.specs.Definitions.{range_at_points}
 use Rattle.dom_range_ops.proofs.InsertedTails.{TailSplit, split-kind, split-apart, split-child, split-there, split-whole}
 use Rattle.dom_range_ops.proofs.inserting.insert_before_tail.Goals as goal
 use Rattle.dom_range_ops.proofs.inserting.insert_before_tail.Goals.{In_ok-tail}

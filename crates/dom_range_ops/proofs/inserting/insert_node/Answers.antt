@@ -1,23 +1,13 @@
-use Rattle.std.proofs.Common.{◌≡◌, inl, Some, None, Err, sym, ap, ◌∙◌, subst}
-use Rattle.std.specs.Option.{option_or}
-use Rattle.std.proofs.lemmas.Result.{on_ok_weaker}
-use Rattle.dom_base.specs.declared.Fault.TheVariants.{Refused}
-use Rattle.dom_base.specs.declared.NodeName.{NodeName}
-use Rattle.dom_base.specs.declared.Refusal.{Refusal}
-use Rattle.dom_model.specs.CommandRefusals.{limit_on, made_by_insert_node}
-use Rattle.dom_model.specs.Part.{range_at}
-use Rattle.dom_model.specs.RangeOps.{insert_node_refusal, inserting_into_range}
-use Rattle.dom_model.specs.Ranges.{Range}
-use Rattle.dom_model.specs.World.{part_of}
-use Rattle.dom_worlds.specs.Worlds.{IsPart}
-use Rattle.dom_mutation.specs.Doc.{made, name_in}
-use Rattle.dom_mutation.specs.Ready.{IsReadyPart}
+use Rattle.dom_base.proofs.Std.{◌≡◌, inl, Some, None, Err, sym, ap, ◌∙◌, subst, option_or, on_ok_weaker}
+use Rattle.dom_model.proofs.Model.{Refused, NodeName, Refusal, limit_on, made_by_insert_node, range_at, insert_node_refusal, inserting_into_range, Range}
+use Rattle.dom_model.proofs.Model.{part_of}
+use Rattle.dom_worlds.specs.Definitions.{IsPart}
+use Rattle.dom_mutation.specs.Definitions.{made, name_in, IsReadyPart}
 use Rattle.dom_mutation.proofs.ReadyCalls.{HasLaws, stands-in, ready-planned}
 use Rattle.dom_mutation.proofs.ReadyPlans.{KeepReady, ready-inserting_into_range}
-use Rattle.dom_tree.specs.Forest.{err_of}
-use Rattle.dom_laws.proofs.Options.{was_some}
-use Rattle.dom_range_ops.specs.Insertions.{inserting_node}
-use Rattle.dom_range_ops.specs.Texts.{range_at_points}
+use Rattle.dom_tree.specs.Definitions.{err_of}
+use Rattle.dom_laws.proofs.Laws.{was_some}
+use Rattle.dom_range_ops.specs.Definitions.{inserting_node, range_at_points}
 use Rattle.dom_range_ops.proofs.DocRanges.{read-points, within-at}
 use Rattle.dom_range_ops.proofs.InsertedRanges.{range-there}
 use Rattle.dom_range_ops.proofs.InsertedTests.{steps-at, tests-at, refusal-at}

@@ -1,21 +1,11 @@
-use Rattle.std.proofs.Common.{◌≡◌, ◌++◌, ◌∷◌, [], false, List, Some, None, option_map, refl, sym, ap, subst, ◌∙◌}
-use Rattle.std.proofs.lemmas.Bool.{cond-true}
-use Rattle.std.proofs.lemmas.Result.{on_ok_weaker}
-use Rattle.dom_base.specs.declared.NodeName.{NodeName}
-use Rattle.dom_base.specs.declared.Owner.{Owner as OwnerOf}
+use Rattle.dom_base.proofs.Std.{◌≡◌, ◌++◌, ◌∷◌, [], false, List, Some, None, option_map, refl, sym, ap, subst, ◌∙◌, cond-true, on_ok_weaker}
+use Rattle.dom_model.proofs.Model.{NodeName, Owner as OwnerOf, limit_on, next_name, inserting_into_range, kind_of, is_text, has_data, is_shadow, parent_of}
+use Rattle.dom_model.proofs.Model.{is_inclusive_ancestor, pre_insert_refusal, part_of}
 use Rattle.dom_worlds.proofs.RangeLemmas.{insertion-open}
 use Rattle.dom_worlds.proofs.CommandLemmas.{insertion-apart}
-use Rattle.dom_model.specs.CommandRefusals.{limit_on}
-use Rattle.dom_model.specs.Part.{next_name}
-use Rattle.dom_model.specs.RangeOps.{inserting_into_range}
-use Rattle.dom_model.specs.Tree.{kind_of, is_text, has_data, is_shadow, parent_of, is_inclusive_ancestor}
-use Rattle.dom_model.specs.Validity.{pre_insert_refusal}
-use Rattle.dom_model.specs.World.{part_of}
-use Rattle.dom_mutation.specs.Doc.{DocState, made, name_in}
-use Rattle.dom_mutation.specs.Ready.{AreReady}
+use Rattle.dom_mutation.specs.Definitions.{DocState, made, name_in, AreReady}
 use Rattle.dom_mutation.proofs.ReadyPlans.{insertion-tested}
-use Rattle.dom_range_ops.specs.Insertions.{inserting_before_tail}
-use Rattle.dom_range_ops.specs.Texts.{range_at_points}
+use Rattle.dom_range_ops.specs.Definitions.{inserting_before_tail, range_at_points}
 use Rattle.dom_range_ops.proofs.InsertedTests.{place-valid, text-child, valid-child, steps-tail, steps-plain}
 use Rattle.dom_range_ops.proofs.inserting.insert_tested.Goals as goal
 use Rattle.dom_range_ops.proofs.inserting.insert_tested.Goals.{After-is_text, After-laws}

@@ -1,8 +1,6 @@
-use Rattle.std.proofs.Common.{◌≡◌, ◌≤◌, ℕ, ◌+◌, List, [], ◌∷◌, map, take, get_or, sym, ap, ◌∙◌, arith}
-use Rattle.std.specs.Prelude.{if◌then◌else◌}
-use Rattle.std.proofs.lemmas.List.{take_more, map_push}
-use Rattle.dom_base.specs.declared.NodeName.{NodeName}
-use Rattle.dom_range_ops.specs.Pieces.{item_in, made_by}
+use Rattle.dom_base.proofs.Std.{◌≡◌, ◌≤◌, ℕ, ◌+◌, List, [], ◌∷◌, map, take, get_or, sym, ap, ◌∙◌, arith, if◌then◌else◌, take_more, map_push}
+use Rattle.dom_model.proofs.Model.{NodeName}
+use Rattle.dom_range_ops.specs.Definitions.{item_in, made_by}
 use Rattle.dom_range_ops.proofs.PiecePaths.{all-taken}
 use Rattle.dom_range_ops.proofs.PieceSteps.{made-append}
 use Rattle.dom_range_ops.proofs.pieces.count_made.Goals as goal

@@ -1,7 +1,6 @@
-use Rattle.std.proofs.Common.{ℕ, ◌<◌, List, [], length, map, take, sym, ap, subst, ◌∙◌, refl}
-use Rattle.std.specs.List.{AllByRecursion}
-use Rattle.dom_tree.specs.Forest.{name_at}
-use Rattle.dom_range_ops.specs.Pieces.{AreItems, ArePaths}
+use Rattle.dom_base.proofs.Std.{ℕ, ◌<◌, List, [], length, map, take, sym, ap, subst, ◌∙◌, refl, AllByRecursion}
+use Rattle.dom_tree.specs.Definitions.{name_at}
+use Rattle.dom_range_ops.specs.Definitions.{AreItems, ArePaths}
 use Rattle.dom_range_ops.specs.declared.pieces.Piece.{Piece}
 use Rattle.dom_range_ops.proofs.PiecePaths.{paths-part, alike}
 use Rattle.dom_range_ops.proofs.pieces.pieces_apart.Goals as goal

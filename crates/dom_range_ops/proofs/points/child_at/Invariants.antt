@@ -1,6 +1,5 @@
-use Rattle.std.proofs.Common.{◌<◌, length}
-use Rattle.std.specs.Option.{option_map, ForSome}
-use Rattle.dom_tree.specs.Forest.{name_at}
+use Rattle.dom_base.proofs.Std.{◌<◌, length, option_map, ForSome}
+use Rattle.dom_tree.specs.Definitions.{name_at}
 use Rattle.dom_range_ops.proofs.ChildWalks.{IsAtKid}
 use Rattle.dom_range_ops.proofs.points.child_at.Given as goal
 

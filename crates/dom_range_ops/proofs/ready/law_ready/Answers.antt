@@ -1,7 +1,7 @@
-use Rattle.std.proofs.Common.{Some, subst}
-use Rattle.dom_worlds.specs.Tables.{EndsIn}
+use Rattle.dom_base.proofs.Std.{Some, subst}
+use Rattle.dom_worlds.specs.Definitions.{EndsIn}
 use Rattle.dom_worlds.proofs.PlanLemmas.{ends-at}
-use Rattle.dom_model.specs.World.{part_of}
+use Rattle.dom_model.proofs.Model.{part_of}
 use Rattle.dom_mutation.proofs.ReadyEnds.{bare, bare-tables}
 use Rattle.dom_range_ops.proofs.ready.law_ready.Goals as goal
 

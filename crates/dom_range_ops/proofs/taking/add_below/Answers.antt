@@ -1,12 +1,7 @@
-use Rattle.std.proofs.Common.{◌∷◌, ◌++◌, [], ◌≡◌, false, None, refl, ap, ◌∙◌, sym, subst}
-use Rattle.dom_base.specs.declared.Owner.{Owner}
-use Rattle.dom_model.specs.Changes.{doing, observed, insert_plan}
-use Rattle.dom_model.specs.Part.{next_name}
-use Rattle.dom_model.specs.Steps.{make}
-use Rattle.dom_model.specs.Tree.{kind_of, is_shadow}
-use Rattle.dom_model.specs.World.{part_of}
-use Rattle.dom_mutation.specs.Doc.{MayMove, made, planned, name_in, owner_in, trees_in}
-use Rattle.dom_tree.specs.Forest.{node_from}
+use Rattle.dom_base.proofs.Std.{◌∷◌, ◌++◌, [], ◌≡◌, false, None, refl, ap, ◌∙◌, sym, subst}
+use Rattle.dom_model.proofs.Model.{Owner, doing, observed, insert_plan, next_name, make, kind_of, is_shadow, part_of}
+use Rattle.dom_mutation.specs.Definitions.{MayMove, made, planned, name_in, owner_in, trees_in}
+use Rattle.dom_tree.specs.Definitions.{node_from}
 use Rattle.dom_range_ops.proofs.TakingDocs.{NewNode, new-moves, new-open, new-plain, below-made}
 use Rattle.dom_range_ops.proofs.taking.add_below.Goals as goal
 use Rattle.dom_range_ops.proofs.taking.add_below.Goals.{In_ok-new}

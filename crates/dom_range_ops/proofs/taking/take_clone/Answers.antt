@@ -1,13 +1,7 @@
-use Rattle.std.proofs.Common.{◌≡◌, List, refl, sym, ap, ◌∙◌}
-use Rattle.std.proofs.lemmas.Result.{on_ok_weaker}
-use Rattle.dom_base.specs.declared.NodeName.{NodeName}
-use Rattle.dom_model.specs.Extract.{making_below}
-use Rattle.dom_model.specs.Part.{next_name}
-use Rattle.dom_model.specs.Tree.{node_in}
-use Rattle.dom_model.specs.TreeChanges.{with_name}
-use Rattle.dom_model.specs.World.{part_of}
-use Rattle.dom_mutation.specs.Doc.{made, name_in, owner_in, trees_in}
-use Rattle.dom_tree.specs.Forest.{node_from}
+use Rattle.dom_base.proofs.Std.{◌≡◌, List, refl, sym, ap, ◌∙◌, on_ok_weaker}
+use Rattle.dom_model.proofs.Model.{NodeName, making_below, next_name, node_in, with_name, part_of}
+use Rattle.dom_mutation.specs.Definitions.{made, name_in, owner_in, trees_in}
+use Rattle.dom_tree.specs.Definitions.{node_from}
 use Rattle.dom_range_ops.proofs.TakingDocs.{node-read, copy-read}
 use Rattle.dom_range_ops.proofs.taking.take_clone.Goals as goal
 

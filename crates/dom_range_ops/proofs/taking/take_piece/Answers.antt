@@ -1,13 +1,7 @@
-use Rattle.std.proofs.Common.{◌∷◌, ◌-◌, [], ℕ, List, length, sym, ap, ◌∙◌, subst}
-use Rattle.std.specs.Prelude.{slice_get, unwrap_or}
-use Rattle.std.specs.List.{AllByRecursion}
-use Rattle.std.proofs.lemmas.List.{append-nil}
-use Rattle.dom_model.specs.Part.{next_name}
-use Rattle.dom_model.specs.Tree.{has_data, is_shadow, kind_of}
-use Rattle.dom_model.specs.World.{part_of}
-use Rattle.dom_mutation.specs.Doc.{DocState, name_in, owner_in, IsOwnNode}
-use Rattle.dom_range_ops.specs.Pieces.{whole_item, cut_item, clone_item, item_in, made_by}
-use Rattle.dom_range_ops.specs.Takings.{clones_after, names_in, IsPieceOf}
+use Rattle.dom_base.proofs.Std.{◌∷◌, ◌-◌, [], ℕ, List, length, sym, ap, ◌∙◌, subst, slice_get, unwrap_or, AllByRecursion, append-nil}
+use Rattle.dom_model.proofs.Model.{next_name, has_data, is_shadow, kind_of, part_of}
+use Rattle.dom_mutation.specs.Definitions.{DocState, name_in, owner_in, IsOwnNode}
+use Rattle.dom_range_ops.specs.Definitions.{whole_item, cut_item, clone_item, item_in, made_by, clones_after, names_in, IsPieceOf}
 use Rattle.dom_range_ops.proofs.TakingPieces.{Taking, own-kept, own-pushed, names-same, names-pushed, top-own, top-open, top-new, taken-as}
 use Rattle.dom_range_ops.proofs.TakingPieces.{taken-owner, taken-plain, taken-moves, at-top, one-name, next-owner}
 use Rattle.dom_range_ops.proofs.taking.take_piece.Goals as goal

@@ -1,7 +1,6 @@
-use Rattle.std.proofs.Common.{◌∷◌, ◌+◌, drop, subst}
-use Rattle.dom_base.specs.declared.NodeName.{NodeName}
-use Rattle.dom_mutation.specs.Doc.{owner_in}
-use Rattle.dom_mutation.specs.Hosting.{IsAlone}
+use Rattle.dom_base.proofs.Std.{◌∷◌, ◌+◌, drop, subst}
+use Rattle.dom_model.proofs.Model.{NodeName}
+use Rattle.dom_mutation.specs.Definitions.{owner_in, IsAlone}
 use Rattle.dom_range_ops.proofs.TakingLoops.{Progress, left-now, same-into, into-kept, next-may, next-node, progress-next}
 use Rattle.dom_range_ops.proofs.taking.take_pieces.Goals as goal
 use Rattle.dom_range_ops.proofs.taking.take_pieces.Goals.{After-piece-item}

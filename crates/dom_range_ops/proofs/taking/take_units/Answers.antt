@@ -1,14 +1,7 @@
-use Rattle.std.proofs.Common.{◌≡◌, ◌∷◌, [], List, refl, sym, ap, ◌∙◌}
-use Rattle.dom_base.specs.declared.NodeName.{NodeName}
-use Rattle.dom_model.proofs.PartLaws.{owner-part_of}
-use Rattle.dom_model.specs.Changes.{◌and_then◌}
-use Rattle.dom_model.specs.Extract.{clone_part, making_below}
-use Rattle.dom_model.specs.Part.{next_name}
-use Rattle.dom_model.specs.TextChanges.{replacing_data}
-use Rattle.dom_model.specs.Tree.{Node, kind_of, node_in}
-use Rattle.dom_model.specs.World.{part_of}
-use Rattle.dom_mutation.specs.Doc.{made, name_in, owner_in, trees_in}
-use Rattle.dom_tree.specs.Forest.{node_from}
+use Rattle.dom_base.proofs.Std.{◌≡◌, ◌∷◌, [], List, refl, sym, ap, ◌∙◌}
+use Rattle.dom_model.proofs.Model.{NodeName, owner-part_of, ◌and_then◌, clone_part, making_below, next_name, replacing_data, Node, kind_of, node_in, part_of}
+use Rattle.dom_mutation.specs.Definitions.{made, name_in, owner_in, trees_in}
+use Rattle.dom_tree.specs.Definitions.{node_from}
 use Rattle.dom_range_ops.proofs.TakingDocs.{name-kept, node-read, copy-read, units-made}
 use Rattle.dom_range_ops.proofs.TakingParts.{data-no_shadow}
 use Rattle.dom_range_ops.proofs.taking.take_units.Goals as goal

@@ -1,20 +1,12 @@
-use Rattle.std.proofs.Common.{◌≡◌, ◌∷◌, ◌++◌, [], true≢false, List, ℕ, Some, sym, ap, subst, ◌∙◌, append_assoc}
-use Rattle.std.specs.Prelude.{if◌then◌else◌}
-use Rattle.std.specs.Option.{option_map}
-use Rattle.std.proofs.lemmas.Bool.{cond-true, cond-false, not-false, eqb-true}
-use Rattle.std.proofs.lemmas.List.{append-nil}
-use Rattle.dom_base.specs.declared.NodeName.{NodeName}
-use Rattle.dom_model.specs.Names.{name_eq, first_of}
-use Rattle.dom_model.specs.RangeOps.{text_part}
-use Rattle.dom_model.specs.Tree.{root_of}
-use Rattle.dom_model.proofs.OwnerLaws.{name_eq-other}
-use Rattle.dom_tree.specs.Forest.{name_at}
+use Rattle.dom_base.proofs.Std.{◌≡◌, ◌∷◌, ◌++◌, [], true≢false, List, ℕ, Some, sym, ap, subst, ◌∙◌, append_assoc, if◌then◌else◌, option_map, cond-true}
+use Rattle.dom_base.proofs.Std.{cond-false, not-false, eqb-true, append-nil}
+use Rattle.dom_model.proofs.Model.{NodeName, name_eq, first_of, text_part, root_of, name_eq-other}
+use Rattle.dom_tree.specs.Definitions.{name_at}
 use Rattle.dom_laws.specs.Within.{from_node, behind}
 use Rattle.dom_tree.proofs.Standing.{other_name}
-use Rattle.dom_laws.proofs.Lists.{name_eq-from}
+use Rattle.dom_laws.proofs.Laws.{name_eq-from}
 use Rattle.dom_tree.proofs.Searching.{following_step, length-behind}
-use Rattle.dom_range_ops.specs.Points.{nodes_after}
-use Rattle.dom_range_ops.specs.Texts.{range_at_points, contained_text, nodes_around}
+use Rattle.dom_range_ops.specs.Definitions.{nodes_after, range_at_points, contained_text, nodes_around}
 use Rattle.dom_range_ops.proofs.Between.{Leads, text-step}
 use Rattle.dom_range_ops.proofs.KeyedWalks.{key-found, is-bounded, stands-start, stands-end, leads-from, text-from, stop-is, stop-here, go-on}
 use Rattle.dom_range_ops.proofs.text.push_between.Goals as goal

@@ -1,6 +1,5 @@
-use Rattle.std.proofs.Common.{◌++◌, sym, ap, ◌∙◌}
-use Rattle.std.proofs.lemmas.List.{append-nil}
-use Rattle.dom_range_ops.specs.Texts.{range_at_points}
+use Rattle.dom_base.proofs.Std.{◌++◌, sym, ap, ◌∙◌, append-nil}
+use Rattle.dom_range_ops.specs.Definitions.{range_at_points}
 use Rattle.dom_range_ops.proofs.Between.{text-reversed}
 use Rattle.dom_range_ops.proofs.KeyedWalks.{is-bounded}
 use Rattle.dom_range_ops.proofs.text.push_contained.Goals as goal

@@ -1,6 +1,6 @@
-use Rattle.std.proofs.Common.{◌+◌, ◌≤◌, inl, inr, length, length-set, set, arith}
-use Rattle.dom_model.specs.Ranges.{at}
-use Rattle.dom_ranges.specs.Listed.{AtMost, end_in}
+use Rattle.dom_base.proofs.Std.{◌+◌, ◌≤◌, inl, inr, length, length-set, set, arith}
+use Rattle.dom_model.proofs.Model.{at}
+use Rattle.dom_ranges.specs.Definitions.{AtMost, end_in}
 use Rattle.dom_ranges.proofs.Gathering.{HasChanged-set}
 use Rattle.dom_ranges.proofs.Placing.{placed-earlier, placed-later, group-set, behind-set, ahead-set}
 use Rattle.dom_ranges.proofs.ends.bring.Goals as goal

@@ -1,8 +1,6 @@
-use Rattle.std.proofs.Common.{◌≡◌, ◌<◌, List, ◌∷◌, length, get_or, sym, subst}
-use Rattle.std.specs.List.Sorted.{IsPermutation}
-use Rattle.std.proofs.lemmas.List.Sorted.{IsPermutation-remove}
+use Rattle.dom_base.proofs.Std.{◌≡◌, ◌<◌, List, ◌∷◌, length, get_or, sym, subst, IsPermutation, IsPermutation-remove}
 use Rattle.dom_ranges.specs.declared.ends.RangeEnd.{RangeEnd}
-use Rattle.dom_ranges.specs.Listed.{IsSortedByPoint}
+use Rattle.dom_ranges.specs.Definitions.{IsSortedByPoint}
 use Rattle.dom_ranges.proofs.Placing.{IsSortedByPoint-removed}
 use Rattle.dom_ranges.proofs.ends.drop_end.Goals as goal
 

@@ -1,10 +1,7 @@
-use Rattle.std.proofs.Common.{◌≡◌, ◌≢◌, ℕ, ◌+◌, ◌<◌, ◌≤◌, List, length, get_or, sym, ap, ◌∙◌, subst, arith, rules}
-use Rattle.std.specs.List.{SwappedAt}
-use Rattle.std.specs.List.Sorted.{IsPermutation}
-use Rattle.std.proofs.lemmas.List.{get_or_default}
-use Rattle.std.proofs.lemmas.List.Sorted.{IsPermutation-trans}
+use Rattle.dom_base.proofs.Std.{◌≡◌, ◌≢◌, ℕ, ◌+◌, ◌<◌, ◌≤◌, List, length, get_or, sym, ap, ◌∙◌, subst, arith, rules, SwappedAt, IsPermutation, get_or_default}
+use Rattle.dom_base.proofs.Std.{IsPermutation-trans}
 use Rattle.dom_ranges.specs.declared.ends.RangeEnd.{RangeEnd}
-use Rattle.dom_ranges.specs.Listed.{AreAt, IsSortedBeside}
+use Rattle.dom_ranges.specs.Definitions.{AreAt, IsSortedBeside}
 use Rattle.dom_ranges.proofs.Gathering.{AreAt-more, IsSortedBeside-more, AreAt-grown, others-more}
 use Rattle.dom_ranges.proofs.ends.gather.Goals.{then-ne, else-ne}
 use Rattle.dom_ranges.proofs.ends.gather.Goals as goal

@@ -1,7 +1,6 @@
-use Rattle.std.proofs.Common.{◌≡◌, ◌≢◌, ℕ, ◌<◌, ◌≤◌, length, get_or}
-use Rattle.std.specs.List.Sorted.{IsPermutation}
+use Rattle.dom_base.proofs.Std.{◌≡◌, ◌≢◌, ℕ, ◌<◌, ◌≤◌, length, get_or, IsPermutation}
 use Rattle.dom_ranges.specs.declared.ends.RangeEnd.{RangeEnd}
-use Rattle.dom_ranges.specs.Listed.{AreAt, IsSortedBeside}
+use Rattle.dom_ranges.specs.Definitions.{AreAt, IsSortedBeside}
 use Rattle.dom_ranges.proofs.ends.gather.Given as goal
 
 abbrev pub invariant-loop-i : goal.invariant-loop-i

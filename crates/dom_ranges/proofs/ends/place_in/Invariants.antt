@@ -1,4 +1,4 @@
-use Rattle.std.proofs.Common.{ℕ, ◌<◌, ◌≤◌, ◌-◌, get_or}
+use Rattle.dom_base.proofs.Std.{ℕ, ◌<◌, ◌≤◌, ◌-◌, get_or}
 use Rattle.dom_ranges.specs.declared.ends.RangeEnd.{RangeEnd}
 use Rattle.dom_ranges.proofs.ends.place_in.Given as goal
 

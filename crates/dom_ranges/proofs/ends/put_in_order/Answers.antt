@@ -1,6 +1,5 @@
-use Rattle.std.proofs.Common.{rules}
-use Rattle.std.proofs.lemmas.List.Sorted.{IsPermutation-put_mid, IsNonDecreasingBy-from_sort_by_key}
-use Rattle.dom_ranges.specs.Listed.{offset_of}
+use Rattle.dom_base.proofs.Std.{rules, IsPermutation-put_mid, IsNonDecreasingBy-from_sort_by_key}
+use Rattle.dom_ranges.specs.Definitions.{offset_of}
 use Rattle.dom_ranges.proofs.Placing.{IsSortedByPoint-ordered}
 use Rattle.dom_ranges.proofs.ends.put_in_order.Goals as goal
 

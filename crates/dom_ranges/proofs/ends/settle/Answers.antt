@@ -1,6 +1,5 @@
-use Rattle.std.proofs.Common.{inl, inr, ◌≤◌, length, arith}
-use Rattle.std.proofs.lemmas.List.Sorted.{IsPermutation-trans}
-use Rattle.dom_ranges.specs.Listed.{AtMostBut}
+use Rattle.dom_base.proofs.Std.{inl, inr, ◌≤◌, length, arith, IsPermutation-trans}
+use Rattle.dom_ranges.specs.Definitions.{AtMostBut}
 use Rattle.dom_ranges.proofs.Placing.{placed-earlier, placed-later, group-gathered, behind-node, ahead-node, past-node}
 use Rattle.dom_ranges.proofs.ends.settle.Goals as goal
 

@@ -1,11 +1,11 @@
-use Rattle.std.proofs.Common.{◌≡◌, ◌⊎◌, inr, ℕ, ◌+◌, ◌<◌, ◌≤◌, List, length, get_or, set, sym, ap, subst, ◌∙◌, arith, rules}
-use Rattle.std.proofs.lemmas.List.{get_or_default, get_or-set_other, get_or-set_same}
+use Rattle.dom_base.proofs.Std.{◌≡◌, ◌⊎◌, inr, ℕ, ◌+◌, ◌<◌, ◌≤◌, List, length, get_or, set, sym, ap, subst, ◌∙◌, arith, rules, get_or_default, get_or-set_other}
+use Rattle.dom_base.proofs.Std.{get_or-set_same}
 use Rattle.slab.specs.Slab.{Slab}
-use Rattle.dom_model.specs.Ranges.{at}
+use Rattle.dom_model.proofs.Model.{at}
 use Rattle.dom_ranges.specs.declared.table.Points.{Points}
 use Rattle.dom_ranges.specs.declared.ends.RangeEnd.{RangeEnd}
 use Rattle.dom_ranges.specs.declared.ends.Span.{Span}
-use Rattle.dom_ranges.specs.Listed.{IsListed, IsMovedPart, is_chosen, end_in}
+use Rattle.dom_ranges.specs.Definitions.{IsListed, IsMovedPart, is_chosen, end_in}
 use Rattle.dom_ranges.proofs.Listing.{IsPut}
 use Rattle.dom_ranges.proofs.Parts.{up_to, here-still, IsMovedPart-skipped, IsMovedPart-more, IsListed-set, nodes-more, nodes-same}
 use Rattle.dom_ranges.proofs.moving.move_part.Goals.{then-not-has+then-ne, then-not-has+else-ne, else-not-has}

@@ -1,6 +1,6 @@
-use Rattle.std.proofs.Common.{refl, arith}
-use Rattle.dom_tree.specs.Forest.{name_at}
-use Rattle.dom_laws.proofs.Shapes.{above-itself}
+use Rattle.dom_base.proofs.Std.{refl, arith}
+use Rattle.dom_tree.specs.Definitions.{name_at}
+use Rattle.dom_laws.proofs.Laws.{above-itself}
 use Rattle.dom_ranges.proofs.Climbing.{depth-node, depth-up, depth-root, above-up, reached-up}
 use Rattle.dom_ranges.proofs.order.climb.Goals as goal
 

@@ -1,6 +1,6 @@
-use Rattle.std.proofs.Common.{inl, inr, refl, arith}
-use Rattle.dom_tree.specs.Forest.{name_at}
-use Rattle.dom_laws.proofs.Shapes.{above-itself}
+use Rattle.dom_base.proofs.Std.{inl, inr, refl, arith}
+use Rattle.dom_tree.specs.Definitions.{name_at}
+use Rattle.dom_laws.proofs.Laws.{above-itself}
 use Rattle.dom_ranges.proofs.Climbing.{depth-up, depth-root, above-up}
 use Rattle.dom_ranges.proofs.order.climb_together.Goals as goal
 

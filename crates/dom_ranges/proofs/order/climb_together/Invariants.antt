@@ -1,7 +1,7 @@
-use Rattle.std.proofs.Common.{◌≡◌, ◌<◌, ◌≤◌, ◌+◌, length, true}
-use Rattle.dom_model.specs.Tree.{is_inclusive_ancestor}
-use Rattle.dom_tree.specs.Forest.{name_at}
-use Rattle.dom_ranges.specs.Climbs.{depth_at}
+use Rattle.dom_base.proofs.Std.{◌≡◌, ◌<◌, ◌≤◌, ◌+◌, length, true}
+use Rattle.dom_model.proofs.Model.{is_inclusive_ancestor}
+use Rattle.dom_tree.specs.Definitions.{name_at}
+use Rattle.dom_ranges.specs.Definitions.{depth_at}
 use Rattle.dom_ranges.proofs.order.climb_together.Given as goal
 
 abbrev pub invariant-up : goal.invariant-up

@@ -1,7 +1,6 @@
-use Rattle.std.proofs.Common.{◌≡◌, ℕ, nat_lt, sym, ap, arith}
-use Rattle.std.proofs.lemmas.Bool.{eqb-true, lt-ltb, ltb-true, false_from_ne_true}
-use Rattle.dom_model.specs.Tree.{index_of}
-use Rattle.dom_tree.specs.Forest.{NamedTrees, name_at}
+use Rattle.dom_base.proofs.Std.{◌≡◌, ℕ, nat_lt, sym, ap, arith, eqb-true, lt-ltb, ltb-true, false_from_ne_true}
+use Rattle.dom_model.proofs.Model.{index_of}
+use Rattle.dom_tree.specs.Definitions.{NamedTrees, name_at}
 use Rattle.dom_ranges.proofs.Siblings.{index-none, index-some}
 use Rattle.dom_ranges.proofs.order.comes_first.Goals as goal
 

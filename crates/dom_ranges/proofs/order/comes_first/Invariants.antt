@@ -1,6 +1,6 @@
-use Rattle.std.proofs.Common.{◌≡◌, ◌<◌, ◌≤◌, ◌+◌, length}
-use Rattle.dom_model.specs.Tree.{index_of}
-use Rattle.dom_tree.specs.Forest.{name_at}
+use Rattle.dom_base.proofs.Std.{◌≡◌, ◌<◌, ◌≤◌, ◌+◌, length}
+use Rattle.dom_model.proofs.Model.{index_of}
+use Rattle.dom_tree.specs.Definitions.{name_at}
 use Rattle.dom_ranges.proofs.order.comes_first.Given as goal
 
 abbrev pub invariant-back : goal.invariant-back

@@ -1,10 +1,8 @@
-use Rattle.std.proofs.Common.{◌≡◌, inl, inr, ℕ, ◌<◌, ◌≤◌, ◌++◌, ◌∷◌, Bool, true, false, not, Option, Some, None, is_some, nat_lt, nat_le, refl, sym}
-use Rattle.std.proofs.Common.{ap, subst, ◌∙◌, arith}
-use Rattle.std.proofs.lemmas.Bool.{eqb-true, not-false, leb-true, ltb-true, le-leb, lt-ltb, false_from_ne_true}
-use Rattle.std.proofs.lemmas.List.{append_assoc}
-use Rattle.dom_model.specs.Tree.{index_of}
-use Rattle.dom_tree.specs.Forest.{name_at}
-use Rattle.dom_ranges.specs.Climbs.{path_at, depth_at, Reaches}
+use Rattle.dom_base.proofs.Std.{◌≡◌, inl, inr, ℕ, ◌<◌, ◌≤◌, ◌++◌, ◌∷◌, Bool, true, false, not, Option, Some, None, is_some, nat_lt, nat_le, refl, sym, ap}
+use Rattle.dom_base.proofs.Std.{subst, ◌∙◌, arith, eqb-true, not-false, leb-true, ltb-true, le-leb, lt-ltb, false_from_ne_true, append_assoc}
+use Rattle.dom_model.proofs.Model.{index_of}
+use Rattle.dom_tree.specs.Definitions.{name_at}
+use Rattle.dom_ranges.specs.Definitions.{path_at, depth_at, Reaches}
 use Rattle.dom_ranges.proofs.Before.{before-same, before-up, before-down, before-beside}
 use Rattle.dom_ranges.proofs.Climbing.{path-reached, path-through, reached-deep, reached-here, first-through, first-same}
 use Rattle.dom_ranges.proofs.order.is_before.Goals as goal

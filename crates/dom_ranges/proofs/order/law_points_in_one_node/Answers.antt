@@ -1,6 +1,5 @@
-use Rattle.std.proofs.Common.{refl}
-use Rattle.dom_model.specs.Tree.{root_of}
-use Rattle.dom_model.proofs.OwnerLaws.{name_eq-same}
+use Rattle.dom_base.proofs.Std.{refl}
+use Rattle.dom_model.proofs.Model.{root_of, name_eq-same}
 use Rattle.dom_ranges.proofs.Before.{before-same}
 use Rattle.dom_ranges.proofs.order.law_points_in_one_node.Goals as goal
 

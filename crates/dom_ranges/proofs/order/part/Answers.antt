@@ -1,9 +1,7 @@
-use Rattle.std.proofs.Common.{◌≡◌, ◌++◌, ◌∷◌, [], refl, sym, ap, ◌∙◌, arith, true≢false, Some}
-use Rattle.std.proofs.lemmas.Bool.{eqb-true, eq-eqb}
-use Rattle.std.proofs.lemmas.List.{append_assoc}
-use Rattle.dom_model.specs.Tree.{index_of}
-use Rattle.dom_tree.specs.Forest.{name_at}
-use Rattle.dom_ranges.specs.Climbs.{path_at}
+use Rattle.dom_base.proofs.Std.{◌≡◌, ◌++◌, ◌∷◌, [], refl, sym, ap, ◌∙◌, arith, true≢false, Some, eqb-true, eq-eqb, append_assoc}
+use Rattle.dom_model.proofs.Model.{index_of}
+use Rattle.dom_tree.specs.Definitions.{name_at}
+use Rattle.dom_ranges.specs.Definitions.{path_at}
 use Rattle.dom_ranges.proofs.Climbing.{AreSiblings, depth-up, depth-root, path-up, first-through, roots-same, beside-here}
 use Rattle.dom_ranges.proofs.order.part.Goals as goal
 

@@ -1,6 +1,6 @@
-use Rattle.std.proofs.Common.{◌≡◌, ◌≢◌, ◌<◌, length, List, ℕ, ◌++◌}
-use Rattle.dom_model.specs.Names.{first_of}
-use Rattle.dom_ranges.specs.Climbs.{depth_at, path_at}
+use Rattle.dom_base.proofs.Std.{◌≡◌, ◌≢◌, ◌<◌, length, List, ℕ, ◌++◌}
+use Rattle.dom_model.proofs.Model.{first_of}
+use Rattle.dom_ranges.specs.Definitions.{depth_at, path_at}
 use Rattle.dom_ranges.proofs.order.part.Given as goal
 
 abbrev pub invariant-up : goal.invariant-up

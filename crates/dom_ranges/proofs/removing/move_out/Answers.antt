@@ -1,11 +1,7 @@
-use Rattle.std.proofs.Common.{◌≡◌, ℕ, get_or, subst, ◌∙◌}
-use Rattle.std.specs.Prelude.{nat_eq}
-use Rattle.dom_model.specs.Place.{Boundary}
-use Rattle.dom_model.specs.Ranges.{after_removal}
-use Rattle.dom_model.specs.Tree.{index_of}
-use Rattle.dom_tree.specs.Forest.{name_at}
-use Rattle.dom_ranges.specs.Rules.{IsUpTo, is_inside, after_leaving, after_closing}
-use Rattle.dom_ranges.specs.Listed.{point_of}
+use Rattle.dom_base.proofs.Std.{◌≡◌, ℕ, get_or, subst, ◌∙◌, nat_eq}
+use Rattle.dom_model.proofs.Model.{Boundary, after_removal, index_of}
+use Rattle.dom_tree.specs.Definitions.{name_at}
+use Rattle.dom_ranges.specs.Definitions.{IsUpTo, is_inside, after_leaving, after_closing, point_of}
 use Rattle.dom_ranges.proofs.Leaving.{Moves, OfEach, moves-alike, moves-none, moves-twice, each-listed, removal-outside, removal-twice, closing-none}
 use Rattle.dom_ranges.proofs.removing.move_out.Goals as goal
 

@@ -1,11 +1,10 @@
-use Rattle.std.proofs.Common.{◌<◌, false, length, get_or, sym, subst, ◌∙◌, arith, true≢false}
-use Rattle.std.proofs.lemmas.Bool.{false_from_ne_true}
-use Rattle.dom_tree.specs.Forest.{name_at}
+use Rattle.dom_base.proofs.Std.{◌<◌, false, length, get_or, sym, subst, ◌∙◌, arith, true≢false, false_from_ne_true}
+use Rattle.dom_tree.specs.Definitions.{name_at}
 use Rattle.dom_tree.proofs.Standing.{Once-forest}
-use Rattle.dom_laws.proofs.Order.{outside-test}
+use Rattle.dom_laws.proofs.Laws.{outside-test}
 use Rattle.dom_tree.proofs.Searching.{following_step}
-use Rattle.dom_model.specs.Ranges.{at}
-use Rattle.dom_ranges.specs.Listed.{end_in}
+use Rattle.dom_model.proofs.Model.{at}
+use Rattle.dom_ranges.specs.Definitions.{end_in}
 use Rattle.dom_ranges.proofs.Inside.{from_key, all-from_top, top-stands, next-from}
 use Rattle.dom_ranges.proofs.removing.part_inside.Goals as goal
 

@@ -1,12 +1,10 @@
-use Rattle.std.proofs.Common.{◌≡◌, ℕ, ◌<◌, ◌≤◌, false, length, get_or}
-use Rattle.std.specs.Option.{option_map, ForSome}
-use Rattle.dom_model.specs.Tree.{inclusive_descendants}
-use Rattle.dom_tree.specs.Forest.{name_at}
+use Rattle.dom_base.proofs.Std.{◌≡◌, ℕ, ◌<◌, ◌≤◌, false, length, get_or, option_map, ForSome}
+use Rattle.dom_model.proofs.Model.{inclusive_descendants}
+use Rattle.dom_tree.specs.Definitions.{name_at, StandsIn}
 use Rattle.dom_laws.specs.Within.{from_node}
-use Rattle.dom_tree.specs.Within.{StandsIn}
-use Rattle.dom_laws.proofs.Lists.{In}
+use Rattle.dom_laws.proofs.Laws.{In}
 use Rattle.dom_ranges.specs.declared.ends.RangeEnd.{RangeEnd}
-use Rattle.dom_ranges.specs.Listed.{is_in}
+use Rattle.dom_ranges.specs.Definitions.{is_in}
 use Rattle.dom_ranges.proofs.removing.part_inside.Given as goal
 
 abbrev pub invariant-loop-at : goal.invariant-loop-at

@@ -1,7 +1,5 @@
-use Rattle.std.proofs.Common.{leb, arith, rules}
-use Rattle.std.proofs.lemmas.Bool.{leb-true, leb-false}
-use Rattle.std.proofs.lemmas.List.Sorted.{IsPartitionPoint-from_clause, IsPartitionedBy-leb}
-use Rattle.dom_ranges.specs.Listed.{node_of}
+use Rattle.dom_base.proofs.Std.{leb, arith, rules, leb-true, leb-false, IsPartitionPoint-from_clause, IsPartitionedBy-leb}
+use Rattle.dom_ranges.specs.Definitions.{node_of}
 use Rattle.dom_ranges.specs.declared.ends.RangeEnd.{RangeEnd}
 use Rattle.dom_ranges.proofs.searching.behind_node.Goals as goal
 

@@ -1,5 +1,4 @@
-use Rattle.std.proofs.Common.{inl, inr, arith}
-use Rattle.std.proofs.lemmas.Bool.{cases_lt}
+use Rattle.dom_base.proofs.Std.{inl, inr, arith, cases_lt}
 use Rattle.dom_ranges.proofs.searching.part_near.Goals as goal
 
 pub returns-then-are_behind-clause-all : goal.returns-then-are_behind-clause-all

@@ -1,8 +1,7 @@
-use Rattle.std.proofs.Common.{false, inl, inr, ℕ, ◌<◌, ◌≤◌, ltb, length, get_or, arith, rules}
-use Rattle.std.proofs.lemmas.Bool.{ltb-true, ltb-false, cases_lt}
-use Rattle.std.proofs.lemmas.List.Sorted.{IsPartitionPoint-from_clause, IsPartitionedBy-ltb}
-use Rattle.dom_model.specs.Ranges.{at}
-use Rattle.dom_ranges.specs.Listed.{node_of, end_in}
+use Rattle.dom_base.proofs.Std.{false, inl, inr, ℕ, ◌<◌, ◌≤◌, ltb, length, get_or, arith, rules, ltb-true, ltb-false, cases_lt, IsPartitionPoint-from_clause}
+use Rattle.dom_base.proofs.Std.{IsPartitionedBy-ltb}
+use Rattle.dom_model.proofs.Model.{at}
+use Rattle.dom_ranges.specs.Definitions.{node_of, end_in}
 use Rattle.dom_ranges.specs.declared.ends.RangeEnd.{RangeEnd}
 use Rattle.dom_ranges.proofs.Gathering.{is_in-between}
 use Rattle.dom_ranges.proofs.searching.part_of.Goals as goal

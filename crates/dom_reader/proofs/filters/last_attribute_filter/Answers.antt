@@ -1,7 +1,6 @@
 -- The last word of the line says what is read.
-use Rattle.std.proofs.Common.{sym, ◌∙◌}
-use Rattle.std.proofs.lemmas.Result.{err_from_is_err_and}
-use Rattle.dom_text.specs.Readers.{attribute_filter_of}
+use Rattle.dom_base.proofs.Std.{sym, ◌∙◌, err_from_is_err_and}
+use Rattle.dom_text.specs.Definitions.{attribute_filter_of}
 use Rattle.dom_reader.proofs.Lasts.{last_fails, said_fails, said_last}
 use Rattle.dom_reader.proofs.filters.last_attribute_filter.Goals as goal
 

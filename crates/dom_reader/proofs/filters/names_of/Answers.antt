@@ -1,7 +1,5 @@
 -- The names that were read and the parts that are left are the parts of the text.
-use Rattle.std.proofs.Common.{◌++◌, ℕ, List, map, sym, ap, ◌∙◌}
-use Rattle.std.specs.Prelude.{string_bytes}
-use Rattle.std.proofs.lemmas.Result.{err_from_is_err_and}
+use Rattle.dom_base.proofs.Std.{◌++◌, ℕ, List, map, sym, ap, ◌∙◌, string_bytes, err_from_is_err_and}
 use Rattle.dom_reader.specs.Filters.{parts_view}
 use Rattle.dom_reader.proofs.Parts.{put_behind, all_named, one_named, not_named}
 use Rattle.dom_reader.proofs.filters.names_of.Goals as goal

@@ -1,9 +1,7 @@
 -- The names so far and the parts that are left are all parts.
-use Rattle.std.proofs.Common.{◌≡◌, true, ◌++◌}
-use Rattle.std.specs.Prelude.{map, string_bytes}
-use Rattle.std.specs.List.{list_all}
-use Rattle.dom_model.specs.Names.{is_name}
-use Rattle.dom_text.specs.Readers.{between_commas}
+use Rattle.dom_base.proofs.Std.{◌≡◌, true, ◌++◌, map, string_bytes, list_all}
+use Rattle.dom_model.proofs.Model.{is_name}
+use Rattle.dom_text.specs.Definitions.{between_commas}
 use Rattle.dom_reader.specs.Filters.{parts_view}
 use Rattle.dom_reader.proofs.Commas.{parts_len}
 use Rattle.dom_reader.proofs.filters.names_of.Given as goal

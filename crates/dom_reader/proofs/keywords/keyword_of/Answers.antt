@@ -1,5 +1,5 @@
 -- The word is sought among those with its first byte.
-use Rattle.std.proofs.Common.{sym, ap, ◌∙◌, option_map, arith}
+use Rattle.dom_base.proofs.Std.{sym, ap, ◌∙◌, option_map, arith}
 use Rattle.dom_reader.specs.Views.{keyword_view}
 use Rattle.dom_reader.proofs.KeywordLaws.{in_table, none_empty}
 use Rattle.dom_reader.proofs.keywords.keyword_of.Goals as goal

@@ -1,4 +1,4 @@
-use Rattle.std.proofs.Common.{sym}
+use Rattle.dom_base.proofs.Std.{sym}
 use Rattle.dom_reader.proofs.StreamLaws.{fed_all-fed, lines_of-fed_all}
 use Rattle.dom_reader.proofs.laws.law_pieces.Goals as goal
 

@@ -1,7 +1,7 @@
 -- The numbers that are left go behind those of the path so far.
-use Rattle.std.proofs.Common.{◌≡◌}
-use Rattle.dom_base.specs.Owners.{no_path}
-use Rattle.dom_text.specs.Readers.{between_dots, path_onto}
+use Rattle.dom_base.proofs.Std.{◌≡◌}
+use Rattle.dom_model.proofs.Model.{no_path}
+use Rattle.dom_text.specs.Definitions.{between_dots, path_onto}
 use Rattle.dom_reader.specs.Filters.{parts_view}
 use Rattle.dom_reader.proofs.Commas.{parts_len}
 use Rattle.dom_reader.proofs.nodes.path_of.Given as goal

@@ -1,7 +1,5 @@
 -- The text is cut at the first of these bytes, if it has one.
-use Rattle.std.proofs.Common.{ℕ, ◌+◌, ◌-◌, eqb, List, ◌∷◌, length, take, drop, sym, ap, ◌∙◌, arith}
-use Rattle.std.specs.List.{slice_split}
-use Rattle.std.proofs.lemmas.List.{take_all, length-drop}
+use Rattle.dom_base.proofs.Std.{ℕ, ◌+◌, ◌-◌, eqb, List, ◌∷◌, length, take, drop, sym, ap, ◌∙◌, arith, slice_split, take_all, length-drop}
 use Rattle.dom_reader.proofs.Firsts.{cut_at_first, none_found}
 use Rattle.dom_reader.proofs.Commas.{part_at, part_without}
 use Rattle.dom_reader.proofs.separated.first_part.Goals as goal

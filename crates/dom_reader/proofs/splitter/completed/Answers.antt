@@ -1,7 +1,6 @@
 -- Each line feed ends a line, and behind the last one is the rest.
-use Rattle.std.proofs.Common.{◌≡◌, ◌+◌, ◌-◌, [], ◌++◌, length, take, drop, sym, ap, ◌∙◌, arith}
-use Rattle.std.proofs.lemmas.List.{take_all, length-drop}
-use Rattle.dom_text.specs.Lines.{Cut, kept_line}
+use Rattle.dom_base.proofs.Std.{◌≡◌, ◌+◌, ◌-◌, [], ◌++◌, length, take, drop, sym, ap, ◌∙◌, arith, take_all, length-drop}
+use Rattle.dom_text.specs.Definitions.{Cut, kept_line}
 use Rattle.dom_reader.proofs.FedPieces.{fed_nothing, fed_kept, fed_front, fed_step, fed_same, fed_end, line_put, on_err}
 use Rattle.dom_reader.proofs.splitter.completed.Goals as goal
 

@@ -1,5 +1,5 @@
 -- A front of the piece was fed, and the rest is still to come.
-use Rattle.std.proofs.Common.{map, length}
+use Rattle.dom_base.proofs.Std.{map, length}
 use Rattle.dom_reader.proofs.FedPieces.{IsFedUpTo}
 use Rattle.dom_reader.proofs.splitter.completed.Given as goal
 

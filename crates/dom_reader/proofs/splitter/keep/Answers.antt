@@ -1,6 +1,5 @@
 -- As many bytes as there is room for are what is kept of all.
-use Rattle.std.proofs.Common.{take, arith}
-use Rattle.std.proofs.lemmas.Grind.{common_steps}
+use Rattle.dom_base.proofs.Std.{take, arith, common_steps}
 use Rattle.dom_reader.proofs.StreamLaws.{kept_line-room}
 use Rattle.dom_reader.proofs.FedPieces.{grown}
 use Rattle.dom_reader.proofs.splitter.keep.Goals as goal

@@ -1,11 +1,8 @@
 -- The elements that are still to be tried hold what all hold.
-use Rattle.std.proofs.Common.{◌≡◌, ◌<◌, length}
-use Rattle.std.specs.List.{list_any}
-use Rattle.std.specs.Option.{option_map, ForSome}
-use Rattle.dom_model.specs.Tree.{ancestors}
-use Rattle.dom_model.specs.Selectors.{complex_matches, elements_before}
-use Rattle.dom_tree.specs.Forest.{name_at}
-use Rattle.dom_selectors.specs.Views.{complex_from}
+use Rattle.dom_base.proofs.Std.{◌≡◌, ◌<◌, length, list_any, option_map, ForSome}
+use Rattle.dom_model.proofs.Model.{ancestors, complex_matches, elements_before}
+use Rattle.dom_tree.specs.Definitions.{name_at}
+use Rattle.dom_selectors.specs.Definitions.{complex_from}
 use Rattle.dom_selectors.proofs.Earlier.{elements_upto}
 use Rattle.dom_selectors.proofs.chain.chain_before.Given as goal
 

@@ -1,13 +1,11 @@
 -- Each link leads to the node that answers for it.
-use Rattle.std.proofs.Common.{◌≡◌, ◌<◌, ◌⊎◌, inl, inr, true, false, Some, ap, sym, subst, ◌∙◌, arith, length}
-use Rattle.std.specs.Option.{option_map}
-use Rattle.dom_model.specs.Selectors.{joined, compound_matches, complex_matches}
-use Rattle.dom_tree.specs.Forest.{name_at}
+use Rattle.dom_base.proofs.Std.{◌≡◌, ◌<◌, ◌⊎◌, inl, inr, true, false, Some, ap, sym, subst, ◌∙◌, arith, length, option_map}
+use Rattle.dom_model.proofs.Model.{joined, compound_matches, complex_matches}
+use Rattle.dom_tree.specs.Definitions.{name_at}
 use Rattle.dom_tree.proofs.Standing.{Once-forest, Has-forest}
 use Rattle.dom_selectors.specs.declared.selector.Combinator.{Combinator}
 use Rattle.dom_selectors.specs.declared.selector.Combinator.TheVariants.{Descendant, Later}
-use Rattle.dom_selectors.specs.Search.{IsSearched, StopsAt}
-use Rattle.dom_selectors.specs.Views.{compound_view, combinator_view, complex_from}
+use Rattle.dom_selectors.specs.Definitions.{IsSearched, StopsAt, compound_view, combinator_view, complex_from}
 use Rattle.dom_selectors.proofs.JoinedLaws.{last-joined, no-links}
 use Rattle.dom_selectors.proofs.Chains.{leads-same, leads-on, to_parent, to_nearest, no_parent, no_nearest, not_combined}
 use Rattle.dom_selectors.proofs.Searches.{chain-ends}

@@ -1,10 +1,7 @@
 -- One more is read.
-use Rattle.std.proofs.Common.{◌≡◌, None, ap, sym, ◌∙◌, arith}
-use Rattle.std.proofs.lemmas.List.{append-nil}
-use Rattle.std.specs.Prelude.{map}
-use Rattle.dom_model.specs.SelectorText.{read_link}
-use Rattle.dom_selectors.specs.Reads.{behind_list}
-use Rattle.dom_selectors.specs.Views.{link_view}
+use Rattle.dom_base.proofs.Std.{◌≡◌, None, ap, sym, ◌∙◌, arith, append-nil, map}
+use Rattle.dom_model.proofs.Model.{read_link}
+use Rattle.dom_selectors.specs.Definitions.{behind_list, link_view}
 use Rattle.dom_selectors.proofs.Shorter.{link-ends}
 use Rattle.dom_selectors.proofs.Repeats.{round-less, round-more, all-none}
 use Rattle.dom_selectors.proofs.compounds.read_links.Goals as goal

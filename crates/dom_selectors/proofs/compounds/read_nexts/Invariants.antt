@@ -1,9 +1,7 @@
 -- Those so far, and those read from here on, are all.
-use Rattle.std.proofs.Common.{◌≡◌, length, [], ◌∷◌}
-use Rattle.std.specs.Prelude.{map}
-use Rattle.dom_model.specs.SelectorText.{read_all, read_next}
-use Rattle.dom_selectors.specs.Reads.{behind_list}
-use Rattle.dom_selectors.specs.Views.{complex_view}
+use Rattle.dom_base.proofs.Std.{◌≡◌, length, [], ◌∷◌, map}
+use Rattle.dom_model.proofs.Model.{read_all, read_next}
+use Rattle.dom_selectors.specs.Definitions.{behind_list, complex_view}
 use Rattle.dom_selectors.proofs.compounds.read_nexts.Given as goal
 
 abbrev pub invariant-loop-complexes : goal.invariant-loop-complexes

@@ -1,6 +1,6 @@
 -- Some simple selectors were read.
-use Rattle.std.proofs.Common.{arith}
-use Rattle.dom_selectors.specs.Views.{simple_view}
+use Rattle.dom_base.proofs.Std.{arith}
+use Rattle.dom_selectors.specs.Definitions.{simple_view}
 use Rattle.dom_selectors.proofs.FoundCompounds.{simples_found}
 use Rattle.dom_selectors.proofs.compounds.read_simple_compound.Goals as goal
 

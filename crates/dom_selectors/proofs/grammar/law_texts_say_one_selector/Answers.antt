@@ -1,5 +1,4 @@
-use Rattle.std.proofs.Common.{sym, ◌∙◌}
-use Rattle.std.proofs.lemmas.Option.{same_Some}
+use Rattle.dom_base.proofs.Std.{sym, ◌∙◌, same_Some}
 use Rattle.dom_selectors.proofs.SoundLists.{parsed_says}
 use Rattle.dom_selectors.proofs.CompleteCombinators.{said_parsed}
 use Rattle.dom_selectors.proofs.grammar.law_texts_say_one_selector.Goals as goal

@@ -1,9 +1,8 @@
 -- The compound on the right is that of the last link, or the first one where there is none.
-use Rattle.std.proofs.Common.{sym, ap, ◌∙◌}
-use Rattle.dom_model.specs.Selectors.{compound_matches}
-use Rattle.dom_tree.specs.Forest.{name_at}
-use Rattle.dom_selectors.specs.Search.{last_compound}
-use Rattle.dom_selectors.specs.Views.{compound_view}
+use Rattle.dom_base.proofs.Std.{sym, ap, ◌∙◌}
+use Rattle.dom_model.proofs.Model.{compound_matches}
+use Rattle.dom_tree.specs.Definitions.{name_at}
+use Rattle.dom_selectors.specs.Definitions.{last_compound, compound_view}
 use Rattle.dom_selectors.proofs.JoinedLaws.{last-joined, no-links}
 use Rattle.dom_selectors.proofs.joined.last_matches.Goals as goal
 

@@ -1,12 +1,11 @@
 -- From the end of one chain to that of the next, left of `~`.
-use Rattle.std.proofs.Common.{◌≡◌, refl, ap, sym, subst, ◌∙◌, arith, true≢false}
-use Rattle.dom_model.specs.Selectors.{joined, later}
-use Rattle.dom_tree.specs.Forest.{name_at}
+use Rattle.dom_base.proofs.Std.{◌≡◌, refl, ap, sym, subst, ◌∙◌, arith, true≢false}
+use Rattle.dom_model.proofs.Model.{joined, later}
+use Rattle.dom_tree.specs.Definitions.{name_at}
 use Rattle.dom_tree.proofs.Standing.{Once-forest}
 use Rattle.dom_selectors.specs.declared.selector.Combinator.{Combinator}
 use Rattle.dom_selectors.specs.declared.selector.Combinator.TheVariants.{Descendant, Child, Next, Later}
-use Rattle.dom_selectors.specs.Search.{IsDescendant, IsSearched, StopsAt}
-use Rattle.dom_selectors.specs.Views.{compound_view, combinator_view, complex_from}
+use Rattle.dom_selectors.specs.Definitions.{IsDescendant, IsSearched, StopsAt, compound_view, combinator_view, complex_from}
 use Rattle.dom_selectors.proofs.JoinedLaws.{last-joined, no-links}
 use Rattle.dom_selectors.proofs.Searches.{comes-first, comes-before, none-before, stops-white, segment-ends}
 use Rattle.dom_selectors.proofs.joined.segment_end.Goals as goal

@@ -1,7 +1,7 @@
 -- Where the compound on the right does not match, nothing does.
-use Rattle.std.proofs.Common.{sym, ◌∙◌}
-use Rattle.dom_tree.specs.Forest.{name_at}
-use Rattle.dom_selectors.specs.Views.{complex_from}
+use Rattle.dom_base.proofs.Std.{sym, ◌∙◌}
+use Rattle.dom_tree.specs.Definitions.{name_at}
+use Rattle.dom_selectors.specs.Definitions.{complex_from}
 use Rattle.dom_selectors.proofs.Chains.{not_last}
 use Rattle.dom_selectors.proofs.joined.segment_from.Goals as goal
 

@@ -1,12 +1,11 @@
 -- From the end of one segment to that of the next, above white space.
-use Rattle.std.proofs.Common.{◌≡◌, List, ap, sym, subst, ◌∙◌}
-use Rattle.dom_model.specs.Selectors.{complex_matches}
-use Rattle.dom_tree.specs.Forest.{name_at}
+use Rattle.dom_base.proofs.Std.{◌≡◌, List, ap, sym, subst, ◌∙◌}
+use Rattle.dom_model.proofs.Model.{complex_matches}
+use Rattle.dom_tree.specs.Definitions.{name_at}
 use Rattle.dom_selectors.specs.declared.selector.CompoundPart.{CompoundPart}
 use Rattle.dom_selectors.specs.declared.selector.Link.{Link}
 use Rattle.dom_selectors.specs.declared.selector.Complex.{Complex}
-use Rattle.dom_selectors.specs.Search.{IsDescendant, StopsAt}
-use Rattle.dom_selectors.specs.Views.{complex_from, complex_view}
+use Rattle.dom_selectors.specs.Definitions.{IsDescendant, StopsAt, complex_from, complex_view}
 use Rattle.dom_selectors.proofs.JoinedLaws.{last-joined, no-links}
 use Rattle.dom_selectors.proofs.Searches.{goes-above, none-above}
 use Rattle.dom_selectors.proofs.joined.segments_match.Goals as goal

@@ -1,9 +1,8 @@
 -- What is left answers for the whole.
-use Rattle.std.proofs.Common.{◌≡◌, ◌<◌, length}
-use Rattle.dom_model.specs.Selectors.{complex_matches}
-use Rattle.dom_tree.specs.Forest.{name_at}
-use Rattle.dom_selectors.specs.Search.{IsDescendant, StopsAt}
-use Rattle.dom_selectors.specs.Views.{complex_view, complex_from}
+use Rattle.dom_base.proofs.Std.{◌≡◌, ◌<◌, length}
+use Rattle.dom_model.proofs.Model.{complex_matches}
+use Rattle.dom_tree.specs.Definitions.{name_at}
+use Rattle.dom_selectors.specs.Definitions.{IsDescendant, StopsAt, complex_view, complex_from}
 use Rattle.dom_selectors.proofs.joined.segments_match.Given as goal
 
 abbrev pub invariant-loop-left : goal.invariant-loop-left

@@ -1,9 +1,8 @@
 -- The parts that are left match where all do.
-use Rattle.std.proofs.Common.{◌≡◌, drop}
-use Rattle.std.specs.List.{list_all}
-use Rattle.dom_model.specs.Selectors.{part_matches}
-use Rattle.dom_tree.specs.Forest.{name_at}
-use Rattle.dom_selectors.specs.Views.{part_view}
+use Rattle.dom_base.proofs.Std.{◌≡◌, drop, list_all}
+use Rattle.dom_model.proofs.Model.{part_matches}
+use Rattle.dom_tree.specs.Definitions.{name_at}
+use Rattle.dom_selectors.specs.Definitions.{part_view}
 use Rattle.dom_selectors.proofs.matching.all_parts_match.Given as goal
 
 abbrev pub invariant-loop-part : goal.invariant-loop-part

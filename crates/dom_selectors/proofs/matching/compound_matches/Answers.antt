@@ -1,10 +1,8 @@
 -- All are seen.
-use Rattle.std.proofs.Common.{sym, ap, ◌∙◌}
-use Rattle.std.specs.Prelude.{◌&&◌}
-use Rattle.std.specs.List.{list_all}
-use Rattle.dom_model.specs.Selectors.{part_matches}
-use Rattle.dom_tree.specs.Forest.{name_at}
-use Rattle.dom_selectors.specs.Views.{part_view, compound_view}
+use Rattle.dom_base.proofs.Std.{sym, ap, ◌∙◌, ◌&&◌, list_all}
+use Rattle.dom_model.proofs.Model.{part_matches}
+use Rattle.dom_tree.specs.Definitions.{name_at}
+use Rattle.dom_selectors.specs.Definitions.{part_view, compound_view}
 use Rattle.dom_selectors.proofs.Anywhere.{all_seen}
 use Rattle.dom_selectors.proofs.matching.compound_matches.Goals as goal
 

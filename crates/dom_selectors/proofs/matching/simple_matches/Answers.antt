@@ -1,8 +1,8 @@
 -- There is no last element before a node where there is none.
-use Rattle.std.proofs.Common.{ap, arith}
-use Rattle.dom_model.specs.Selectors.{simple_matches, elements_before}
-use Rattle.dom_tree.specs.Forest.{name_at}
-use Rattle.dom_selectors.specs.Views.{simple_view}
+use Rattle.dom_base.proofs.Std.{ap, arith}
+use Rattle.dom_model.proofs.Model.{simple_matches, elements_before}
+use Rattle.dom_tree.specs.Definitions.{name_at}
+use Rattle.dom_selectors.specs.Definitions.{simple_view}
 use Rattle.dom_selectors.proofs.Anywhere.{no_last_seen}
 use Rattle.dom_selectors.proofs.matching.simple_matches.Goals as goal
 

@@ -1,9 +1,8 @@
 -- Some that is left matches where some of all does.
-use Rattle.std.proofs.Common.{◌≡◌, drop}
-use Rattle.std.specs.List.{list_any}
-use Rattle.dom_model.specs.Selectors.{complex_matches}
-use Rattle.dom_tree.specs.Forest.{name_at}
-use Rattle.dom_selectors.specs.Views.{complex_view}
+use Rattle.dom_base.proofs.Std.{◌≡◌, drop, list_any}
+use Rattle.dom_model.proofs.Model.{complex_matches}
+use Rattle.dom_tree.specs.Definitions.{name_at}
+use Rattle.dom_selectors.specs.Definitions.{complex_view}
 use Rattle.dom_selectors.proofs.query.some_complex_matches.Given as goal
 
 abbrev pub invariant-loop-complex : goal.invariant-loop-complex

@@ -1,8 +1,5 @@
 -- ASCII units are text.
-use Rattle.std.proofs.Common.{◌≡◌, sym, subst, ◌∙◌, arith}
-use Rattle.std.specs.Str.{IsAscii}
-use Rattle.std.proofs.lemmas.List.{take_all}
-use Rattle.std.proofs.lemmas.Str.{IsUtf8-from_ascii}
+use Rattle.dom_base.proofs.Std.{◌≡◌, sym, subst, ◌∙◌, arith, IsAscii, take_all, IsUtf8-from_ascii}
 use Rattle.dom_selectors.proofs.tokens.text_of.Goals as goal
 
 pub unreachable-requires : goal.unreachable-requires

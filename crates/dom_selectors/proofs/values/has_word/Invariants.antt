@@ -1,8 +1,6 @@
 -- The words that are left have it where those at the start have.
-use Rattle.std.proofs.Common.{◌≡◌, [], length}
-use Rattle.std.specs.List.{list_any}
-use Rattle.dom_model.specs.Names.{text_eq}
-use Rattle.dom_model.specs.Selectors.{words_from}
+use Rattle.dom_base.proofs.Std.{◌≡◌, [], length, list_any}
+use Rattle.dom_model.proofs.Model.{text_eq, words_from}
 use Rattle.dom_selectors.proofs.values.has_word.Given as goal
 
 abbrev pub invariant-loop-rest : goal.invariant-loop-rest

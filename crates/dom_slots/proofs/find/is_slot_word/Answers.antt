@@ -1,5 +1,5 @@
-use Rattle.std.proofs.Common.{◌≡◌, ℕ, suc, Bool, true, false, ◌&&◌, ◌==◌, List, [], ◌∷◌, length, refl, ap, arith}
-use Rattle.dom_model.specs.Names.{text_eq}
+use Rattle.dom_base.proofs.Std.{◌≡◌, ℕ, suc, Bool, true, false, ◌&&◌, ◌==◌, List, [], ◌∷◌, length, refl, ap, arith}
+use Rattle.dom_model.proofs.Model.{text_eq}
 use Rattle.dom_slots.proofs.find.is_slot_word.Goals as goal
 
 -- texts of other lengths are others

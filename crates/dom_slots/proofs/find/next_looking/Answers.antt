@@ -1,14 +1,9 @@
-use Rattle.std.proofs.Common.{◌≡◌, ◌<◌, Bool, Some, length, sym, ap, subst, ◌∙◌}
-use Rattle.std.proofs.lemmas.Option.{same_Some}
-use Rattle.std.specs.Prelude.{filter}
-use Rattle.std.specs.Option.{option_map, ForSome}
-use Rattle.dom_base.specs.declared.NodeName.{NodeName}
-use Rattle.dom_model.specs.Names.{name_eq, first_of, items_after}
-use Rattle.dom_model.specs.Tree.{node_in, parent_of, siblings}
-use Rattle.dom_tree.specs.Forest.{name_at}
+use Rattle.dom_base.proofs.Std.{◌≡◌, ◌<◌, Bool, Some, length, sym, ap, subst, ◌∙◌, same_Some, filter, option_map, ForSome}
+use Rattle.dom_model.proofs.Model.{NodeName, name_eq, first_of, items_after, node_in, parent_of, siblings}
+use Rattle.dom_tree.specs.Definitions.{name_at}
 use Rattle.dom_tree.proofs.Standing.{Once-forest, Has-forest}
-use Rattle.dom_laws.proofs.Lists.{filter-no, first-hit}
-use Rattle.dom_slots.specs.Shadows.{looks_for}
+use Rattle.dom_laws.proofs.Laws.{filter-no, first-hit}
+use Rattle.dom_slots.specs.Definitions.{looks_for}
 use Rattle.dom_slots.proofs.Siblings.{from_item, IsChild, next_sibling-step, length-next}
 use Rattle.dom_slots.proofs.find.next_looking.Goals.{After-next-at-in-Some}
 use Rattle.dom_slots.proofs.find.next_looking.Goals as goal

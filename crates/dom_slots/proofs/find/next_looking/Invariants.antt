@@ -1,11 +1,7 @@
-use Rattle.std.proofs.Common.{◌≡◌, length, Some}
-use Rattle.std.specs.Prelude.{filter}
-use Rattle.std.specs.Option.{option_map, ForSome}
-use Rattle.dom_base.specs.declared.NodeName.{NodeName}
-use Rattle.dom_model.specs.Names.{name_eq, first_of, items_after}
-use Rattle.dom_model.specs.Tree.{node_in, parent_of, siblings}
-use Rattle.dom_tree.specs.Forest.{name_at}
-use Rattle.dom_slots.specs.Shadows.{looks_for}
+use Rattle.dom_base.proofs.Std.{◌≡◌, length, Some, filter, option_map, ForSome}
+use Rattle.dom_model.proofs.Model.{NodeName, name_eq, first_of, items_after, node_in, parent_of, siblings}
+use Rattle.dom_tree.specs.Definitions.{name_at}
+use Rattle.dom_slots.specs.Definitions.{looks_for}
 use Rattle.dom_slots.proofs.Siblings.{from_item, IsChild}
 use Rattle.dom_slots.proofs.find.next_looking.Given as goal
 

@@ -1,13 +1,8 @@
-use Rattle.std.proofs.Common.{Bool, ap, sym, ◌∙◌}
-use Rattle.std.specs.Prelude.{filter}
-use Rattle.std.specs.Option.{option_map}
-use Rattle.dom_base.specs.declared.NodeName.{NodeName}
-use Rattle.dom_model.specs.Names.{first_of}
-use Rattle.dom_model.specs.Slots.{slot_name}
-use Rattle.dom_model.specs.Tree.{node_in, siblings}
-use Rattle.dom_tree.specs.Forest.{name_at}
+use Rattle.dom_base.proofs.Std.{Bool, ap, sym, ◌∙◌, filter, option_map}
+use Rattle.dom_model.proofs.Model.{NodeName, first_of, slot_name, node_in, siblings}
+use Rattle.dom_tree.specs.Definitions.{name_at}
 use Rattle.dom_tree.proofs.Standing.{Once-forest, Has-forest}
-use Rattle.dom_slots.specs.Shadows.{looks_for}
+use Rattle.dom_slots.specs.Definitions.{looks_for}
 use Rattle.dom_slots.proofs.Siblings.{from_item, next_sibling-step}
 use Rattle.dom_slots.proofs.find.next_looking_for.Goals as goal
 

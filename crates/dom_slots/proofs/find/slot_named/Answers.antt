@@ -1,15 +1,10 @@
-use Rattle.std.proofs.Common.{Bool, Some, refl, sym, ap, ◌∙◌}
-use Rattle.std.specs.Prelude.{filter}
-use Rattle.std.specs.Option.{option_map}
-use Rattle.dom_base.specs.declared.NodeName.{NodeName}
-use Rattle.dom_model.specs.Names.{first_of}
-use Rattle.dom_model.specs.Slots.{has_slot_name}
-use Rattle.dom_model.specs.Tree.{node_in}
-use Rattle.dom_tree.specs.Forest.{name_at}
+use Rattle.dom_base.proofs.Std.{Bool, Some, refl, sym, ap, ◌∙◌, filter, option_map}
+use Rattle.dom_model.proofs.Model.{NodeName, first_of, has_slot_name, node_in}
+use Rattle.dom_tree.specs.Definitions.{name_at}
 use Rattle.dom_laws.specs.Within.{from_node}
 use Rattle.dom_tree.proofs.Standing.{Once-forest}
 use Rattle.dom_tree.proofs.Searching.{left-behind}
-use Rattle.dom_laws.proofs.Lists.{first-hit}
+use Rattle.dom_laws.proofs.Laws.{first-hit}
 use Rattle.dom_slots.proofs.NamesOfNodes.{named-first}
 use Rattle.dom_slots.proofs.Walks.{from-top, stands-top, walks-on}
 use Rattle.dom_slots.proofs.find.slot_named.Goals as goal

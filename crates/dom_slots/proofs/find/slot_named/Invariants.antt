@@ -1,12 +1,7 @@
-use Rattle.std.proofs.Common.{◌≡◌, length}
-use Rattle.std.specs.Prelude.{filter}
-use Rattle.std.specs.Option.{option_map, ForSome}
-use Rattle.dom_model.specs.Names.{first_of}
-use Rattle.dom_model.specs.Slots.{has_slot_name}
-use Rattle.dom_model.specs.Tree.{node_in, inclusive_descendants}
-use Rattle.dom_tree.specs.Forest.{name_at}
+use Rattle.dom_base.proofs.Std.{◌≡◌, length, filter, option_map, ForSome}
+use Rattle.dom_model.proofs.Model.{first_of, has_slot_name, node_in, inclusive_descendants}
+use Rattle.dom_tree.specs.Definitions.{name_at, StandsIn}
 use Rattle.dom_laws.specs.Within.{from_node}
-use Rattle.dom_tree.specs.Within.{StandsIn}
 use Rattle.dom_slots.proofs.find.slot_named.Given as goal
 
 abbrev pub invariant-loop-at : goal.invariant-loop-at

@@ -1,14 +1,9 @@
-use Rattle.std.proofs.Common.{◌≡◌, ◌<◌, ◌∷◌, ◌++◌, Bool, Some, All, length, map, refl, sym, ap, subst, ◌∙◌, arith}
-use Rattle.std.specs.Prelude.{filter}
-use Rattle.std.specs.Option.{option_map}
-use Rattle.std.proofs.lemmas.List.{append-nil}
-use Rattle.dom_base.specs.declared.NodeName.{NodeName}
-use Rattle.dom_model.specs.Slots.{is_slot_element}
-use Rattle.dom_model.specs.Tree.{node_in, inclusive_descendants}
-use Rattle.dom_tree.specs.Forest.{name_at}
+use Rattle.dom_base.proofs.Std.{◌≡◌, ◌<◌, ◌∷◌, ◌++◌, Bool, Some, All, length, map, refl, sym, ap, subst, ◌∙◌, arith, filter, option_map, append-nil}
+use Rattle.dom_model.proofs.Model.{NodeName, is_slot_element, node_in, inclusive_descendants}
+use Rattle.dom_tree.specs.Definitions.{name_at}
 use Rattle.dom_laws.specs.Within.{from_node, behind}
 use Rattle.dom_tree.proofs.Standing.{Once-forest}
-use Rattle.dom_slots.specs.Insides.{is_called, is_slot_called}
+use Rattle.dom_slots.specs.Definitions.{is_called, is_slot_called}
 use Rattle.dom_slots.proofs.NamesOfNodes.{named-filter}
 use Rattle.dom_slots.proofs.Walks.{from-top, stands-top, walks-on, filter-twice, collect-yes, collect-no}
 use Rattle.dom_slots.proofs.find.slots_below.Goals as goal

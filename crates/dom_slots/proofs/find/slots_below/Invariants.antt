@@ -1,11 +1,8 @@
-use Rattle.std.proofs.Common.{◌≡◌, ◌<◌, ◌++◌, length, map, All}
-use Rattle.std.specs.Prelude.{filter}
-use Rattle.std.specs.Option.{option_map, ForSome}
-use Rattle.dom_slots.specs.Insides.{is_slot_called}
-use Rattle.dom_model.specs.Tree.{inclusive_descendants}
-use Rattle.dom_tree.specs.Forest.{name_at}
+use Rattle.dom_base.proofs.Std.{◌≡◌, ◌<◌, ◌++◌, length, map, All, filter, option_map, ForSome}
+use Rattle.dom_slots.specs.Definitions.{is_slot_called}
+use Rattle.dom_model.proofs.Model.{inclusive_descendants}
+use Rattle.dom_tree.specs.Definitions.{name_at, StandsIn}
 use Rattle.dom_laws.specs.Within.{from_node}
-use Rattle.dom_tree.specs.Within.{StandsIn}
 use Rattle.dom_slots.proofs.find.slots_below.Given as goal
 
 abbrev pub invariant-loop-at : goal.invariant-loop-at

@@ -1,6 +1,4 @@
-use Rattle.std.proofs.Common.{length, sym, ap, ◌∙◌}
-use Rattle.std.specs.Prelude.{unwrap_or}
-use Rattle.std.specs.List.{insert}
+use Rattle.dom_base.proofs.Std.{length, sym, ap, ◌∙◌, unwrap_or, insert}
 use Rattle.node_arena.specs.Nodes.{insert_before}
 use Rattle.dom_slots.proofs.Places.{place-or-end, inserted-there}
 use Rattle.dom_slots.proofs.key_lists.place_of.Goals as goal

@@ -1,6 +1,4 @@
-use Rattle.std.proofs.Common.{not, ◌==◌, ◌∙◌, rules, arith}
-use Rattle.std.proofs.lemmas.Grind.{common_steps}
-use Rattle.std.proofs.lemmas.Fn.{filter_same}
+use Rattle.dom_base.proofs.Std.{not, ◌==◌, ◌∙◌, rules, arith, common_steps, filter_same}
 use Rattle.dom_slots.proofs.Counted.{shorter-without}
 use Rattle.dom_slots.proofs.key_lists.remove_from.Goals as goal
 

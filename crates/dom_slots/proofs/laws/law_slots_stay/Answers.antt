@@ -1,7 +1,5 @@
-use Rattle.std.proofs.Common.{Bool, refl}
-use Rattle.dom_model.specs.Names.{name_eq, is_in}
-use Rattle.dom_model.specs.Tree.{Node, inclusive_descendants}
-use Rattle.dom_model.specs.TreeChanges.{under_document, with_document, with_text}
+use Rattle.dom_base.proofs.Std.{Bool, refl}
+use Rattle.dom_model.proofs.Model.{name_eq, is_in, Node, inclusive_descendants, under_document, with_document, with_text}
 use Rattle.dom_slots.proofs.Added.{slots-more}
 use Rattle.dom_slots.proofs.Recast.{keeps_if, slots-recast}
 use Rattle.dom_slots.proofs.laws.law_slots_stay.Goals as goal

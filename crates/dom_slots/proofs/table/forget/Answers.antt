@@ -1,8 +1,6 @@
-use Rattle.std.proofs.Common.{subst}
-use Rattle.std.specs.Prelude.{nat_eq}
-use Rattle.std.proofs.lemmas.List.{take_all}
-use Rattle.dom_model.specs.Names.{is_in}
-use Rattle.dom_slots.specs.NodeSlots.{slots_in}
+use Rattle.dom_base.proofs.Std.{subst, nat_eq, take_all}
+use Rattle.dom_model.proofs.Model.{is_in}
+use Rattle.dom_slots.specs.Definitions.{slots_in}
 use Rattle.dom_slots.proofs.Mapping.{AreTaken, taken-more, none_taken}
 use Rattle.dom_slots.proofs.table.forget.Goals as goal
 

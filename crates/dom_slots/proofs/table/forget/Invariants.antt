@@ -1,5 +1,5 @@
-use Rattle.std.proofs.Common.{take}
-use Rattle.dom_slots.specs.NodeSlots.{slots_in}
+use Rattle.dom_base.proofs.Std.{take}
+use Rattle.dom_slots.specs.Definitions.{slots_in}
 use Rattle.dom_slots.proofs.Mapping.{AreTaken}
 use Rattle.dom_slots.proofs.table.forget.Given as goal
 

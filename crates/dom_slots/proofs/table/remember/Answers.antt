@@ -1,8 +1,6 @@
-use Rattle.std.proofs.Common.{◌≡◌, Bool, true, false, ◌&&◌, ◌||◌, refl, subst}
-use Rattle.std.specs.Prelude.{nat_eq}
-use Rattle.std.proofs.lemmas.List.{take_all}
-use Rattle.dom_model.specs.Names.{is_in}
-use Rattle.dom_slots.specs.NodeSlots.{slots_in}
+use Rattle.dom_base.proofs.Std.{◌≡◌, Bool, true, false, ◌&&◌, ◌||◌, refl, subst, nat_eq, take_all}
+use Rattle.dom_model.proofs.Model.{is_in}
+use Rattle.dom_slots.specs.Definitions.{slots_in}
 use Rattle.dom_slots.proofs.Mapping.{AreGiven, given-more}
 use Rattle.dom_slots.proofs.table.remember.Goals as goal
 

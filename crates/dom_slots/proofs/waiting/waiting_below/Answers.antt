@@ -1,16 +1,9 @@
-use Rattle.std.proofs.Common.{◌≡◌, ◌<◌, ◌∷◌, ◌++◌, [], ℕ, Bool, true, false, List, All, Option, None, Some, length, map, refl, sym, ap}
-use Rattle.std.proofs.Common.{subst, ◌∙◌, arith, true≢false}
-use Rattle.std.specs.Prelude.{filter, if◌then◌else◌}
-use Rattle.std.specs.Option.{option_map, option_map_or}
-use Rattle.std.proofs.lemmas.List.{append-nil}
-use Rattle.std.proofs.lemmas.List.Elements.{All-push}
-use Rattle.dom_base.specs.declared.NodeName.{NodeName}
-use Rattle.dom_model.specs.Names.{DomString, name_eq, items_after}
-use Rattle.dom_model.specs.Tree.{Node, node_in, children_of}
-use Rattle.dom_tree.specs.Forest.{name_at}
+use Rattle.dom_base.proofs.Std.{◌≡◌, ◌<◌, ◌∷◌, ◌++◌, [], ℕ, Bool, true, false, List, All, Option, None, Some, length, map, refl, sym, ap, subst, ◌∙◌, arith}
+use Rattle.dom_base.proofs.Std.{true≢false, filter, if◌then◌else◌, option_map, option_map_or, append-nil, All-push}
+use Rattle.dom_model.proofs.Model.{NodeName, DomString, name_eq, items_after, Node, node_in, children_of}
+use Rattle.dom_tree.specs.Definitions.{name_at}
 use Rattle.dom_tree.proofs.Standing.{Once-forest, Has-forest}
-use Rattle.dom_slots.specs.Shadows.{looks_for}
-use Rattle.dom_slots.specs.Waiting.{waiting_under, is_wanted}
+use Rattle.dom_slots.specs.Definitions.{looks_for, waiting_under, is_wanted}
 use Rattle.dom_slots.proofs.Firsts.{text_true}
 use Rattle.dom_slots.proofs.Siblings.{from_item, first_step, goes-on}
 use Rattle.dom_slots.proofs.Walks.{collect-yes, collect-no}

@@ -1,10 +1,7 @@
-use Rattle.std.proofs.Common.{◌≡◌, ℕ, List, ◌<◌, ◌++◌, true, length, map, All}
-use Rattle.std.specs.Prelude.{filter}
-use Rattle.std.specs.Option.{option_map, ForSome}
-use Rattle.dom_model.specs.Tree.{node_in, children_of}
-use Rattle.dom_tree.specs.Forest.{name_at}
-use Rattle.dom_slots.specs.Shadows.{looks_for}
-use Rattle.dom_slots.specs.Waiting.{waiting_under, is_wanted}
+use Rattle.dom_base.proofs.Std.{◌≡◌, ℕ, List, ◌<◌, ◌++◌, true, length, map, All, filter, option_map, ForSome}
+use Rattle.dom_model.proofs.Model.{node_in, children_of}
+use Rattle.dom_tree.specs.Definitions.{name_at}
+use Rattle.dom_slots.specs.Definitions.{looks_for, waiting_under, is_wanted}
 use Rattle.dom_slots.proofs.Siblings.{from_item, IsChild}
 use Rattle.dom_slots.proofs.waiting.waiting_below.Given as goal
 

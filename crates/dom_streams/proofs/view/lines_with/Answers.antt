@@ -1,5 +1,5 @@
 -- A line is kept where it begins with the prefix, and left where it does not.
-use Rattle.std.proofs.Common.{◌++◌, ◌∙◌, sym, ap, append-nil, append_assoc}
+use Rattle.dom_base.proofs.Std.{◌++◌, ◌∙◌, sym, ap, append-nil, append_assoc}
 use Rattle.dom_streams.proofs.ViewLaws.{kept_by, kept_by-first, kept_by-later, kept_by-none}
 use Rattle.dom_streams.proofs.view.lines_with.Goals as goal
 

@@ -1,5 +1,5 @@
 -- The lines kept so far, and what the prefix keeps of the rest.
-use Rattle.std.proofs.Common.{◌≡◌, ◌++◌, length}
+use Rattle.dom_base.proofs.Std.{◌≡◌, ◌++◌, length}
 use Rattle.dom_streams.proofs.ViewLaws.{kept_by}
 use Rattle.dom_streams.proofs.view.lines_with.Given as goal
 

@@ -1,6 +1,5 @@
 -- A line is written where it begins with the prefix, and left where it does not.
-use Rattle.std.proofs.Common.{◌++◌, ◌∙◌, sym, ap, append-nil, append_assoc, subst}
-use Rattle.std.proofs.lemmas.Result.{err_from_is_err_and}
+use Rattle.dom_base.proofs.Std.{◌++◌, ◌∙◌, sym, ap, append-nil, append_assoc, subst, err_from_is_err_and}
 use Rattle.dom_streams.specs.Writing.{Takes}
 use Rattle.dom_streams.proofs.WriteLaws.{Takes-trans, stops_between, stops_as}
 use Rattle.dom_streams.proofs.ViewLaws.{kept_by, kept_by-first, kept_by-later, kept_by-none}

@@ -1,5 +1,5 @@
 -- What the view keeps of the lines so far is written.
-use Rattle.std.proofs.Common.{◌≡◌, ◌++◌, List, ℕ, length}
+use Rattle.dom_base.proofs.Std.{◌≡◌, ◌++◌, List, ℕ, length}
 use Rattle.dom_streams.specs.Writing.{Takes}
 use Rattle.dom_streams.proofs.ViewLaws.{kept_by}
 use Rattle.dom_streams.proofs.view.write_lines_with.Given as goal

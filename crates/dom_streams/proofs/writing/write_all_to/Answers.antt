@@ -1,6 +1,5 @@
 -- What the sink took goes behind what it took before.
-use Rattle.std.proofs.Common.{take, ◌++◌, ◌∙◌, arith}
-use Rattle.std.proofs.lemmas.List.{length-take}
+use Rattle.dom_base.proofs.Std.{take, ◌++◌, ◌∙◌, arith, length-take}
 use Rattle.dom_streams.proofs.WriteLaws.{Takes-trans, rest_behind}
 use Rattle.dom_streams.proofs.writing.write_all_to.Goals as goal
 

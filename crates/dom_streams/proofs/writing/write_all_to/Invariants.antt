@@ -1,5 +1,5 @@
 -- Some first bytes are written, and the rest is to come.
-use Rattle.std.proofs.Common.{◌≡◌, ◌++◌, List, ℕ, length}
+use Rattle.dom_base.proofs.Std.{◌≡◌, ◌++◌, List, ℕ, length}
 use Rattle.dom_streams.specs.Writing.{Takes}
 use Rattle.dom_streams.proofs.writing.write_all_to.Given as goal
 

@@ -1,10 +1,7 @@
-use Rattle.std.proofs.Common.{◌≡◌, ◌<◌, true, true≢false, List, length, sym, ap, subst, ◌∙◌}
-use Rattle.std.specs.Prelude.{option_map}
-use Rattle.dom_base.specs.declared.NodeName.{NodeName}
-use Rattle.dom_model.specs.Names.{name_eq, is_in}
-use Rattle.dom_model.specs.Tree.{is_inclusive_ancestor}
-use Rattle.dom_laws.proofs.KeptAncestors.{keeps_placed}
-use Rattle.dom_tree.specs.Forest.{name_at}
+use Rattle.dom_base.proofs.Std.{◌≡◌, ◌<◌, true, true≢false, List, length, sym, ap, subst, ◌∙◌, option_map}
+use Rattle.dom_model.proofs.Model.{NodeName, name_eq, is_in, is_inclusive_ancestor}
+use Rattle.dom_laws.proofs.Laws.{keeps_placed}
+use Rattle.dom_tree.specs.Definitions.{name_at}
 use Rattle.dom_tree.proofs.Standing.{Has-forest, Once-forest}
 use Rattle.dom_traversal.proofs.iter.law_iterators_go_along.Goals as goal
 

@@ -1,5 +1,4 @@
-use Rattle.std.proofs.Common.{◌-◌, get_or, ap, arith, rules, ◌<◌}
-use Rattle.std.proofs.lemmas.List.{get_or_default}
+use Rattle.dom_base.proofs.Std.{◌-◌, get_or, ap, arith, rules, ◌<◌, get_or_default}
 use Rattle.dom_traversal.specs.declared.references.Reference.{Reference}
 use Rattle.dom_traversal.proofs.references.are_before.Goals as goal
 

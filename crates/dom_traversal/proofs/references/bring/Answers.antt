@@ -1,7 +1,6 @@
-use Rattle.std.proofs.Common.{◌≡◌, inl, inr, ℕ, ◌<◌, ◌≤◌, List, length, get_or, sym, subst}
-use Rattle.std.specs.List.{Contains}
+use Rattle.dom_base.proofs.Std.{◌≡◌, inl, inr, ℕ, ◌<◌, ◌≤◌, List, length, get_or, sym, subst, Contains}
 use Rattle.dom_traversal.specs.declared.references.Reference.{Reference}
-use Rattle.dom_traversal.specs.References.{AreSorted, IsBefore, IsUpTo, reference_at}
+use Rattle.dom_traversal.specs.Definitions.{AreSorted, IsBefore, IsUpTo, reference_at}
 use Rattle.dom_traversal.proofs.Standing.{place-is, AreSorted-removed, Contains-removed, Contains-was}
 use Rattle.dom_traversal.proofs.references.bring.Goals as goal
 

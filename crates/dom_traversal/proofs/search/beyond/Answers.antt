@@ -1,13 +1,10 @@
-use Rattle.std.proofs.Common.{◌≡◌, refl, sym, ap, subst, ◌∙◌}
-use Rattle.std.proofs.lemmas.Bool.{not-false, eqb-true}
-use Rattle.dom_model.specs.Names.{first_of}
-use Rattle.dom_tree.specs.Forest.{name_at}
+use Rattle.dom_base.proofs.Std.{◌≡◌, refl, sym, ap, subst, ◌∙◌, not-false, eqb-true}
+use Rattle.dom_model.proofs.Model.{first_of}
+use Rattle.dom_tree.specs.Definitions.{name_at}
 use Rattle.dom_laws.specs.Within.{beyond}
-use Rattle.dom_laws.proofs.Order.{IsWithin}
-use Rattle.dom_laws.proofs.Steps.{top_places}
+use Rattle.dom_laws.proofs.Laws.{IsWithin, top_places, no_key}
 use Rattle.dom_tree.proofs.Searching.{IsWithin-key}
 use Rattle.dom_traversal.proofs.Climbing.{Climbs, inner-name, next_step, climb_step, climb_ends}
-use Rattle.dom_laws.proofs.Options.{no_key}
 use Rattle.dom_traversal.proofs.search.beyond.Goals.{In_ok-at}
 use Rattle.dom_traversal.proofs.search.beyond.Goals as goal
 

@@ -1,8 +1,7 @@
-use Rattle.std.proofs.Common.{◌≡◌, length}
-use Rattle.dom_model.specs.Tree.{inclusive_ancestors}
-use Rattle.dom_tree.specs.Forest.{name_at}
+use Rattle.dom_base.proofs.Std.{◌≡◌, length}
+use Rattle.dom_model.proofs.Model.{inclusive_ancestors}
+use Rattle.dom_tree.specs.Definitions.{name_at, StandsIn}
 use Rattle.dom_laws.specs.Within.{beyond}
-use Rattle.dom_tree.specs.Within.{StandsIn}
 use Rattle.dom_traversal.proofs.search.beyond.Given as goal
 
 abbrev pub invariant-loop-top : goal.invariant-loop-top

@@ -1,5 +1,5 @@
 -- The number that the bytes behind the letter say.
-use Rattle.std.proofs.Common.{arith}
+use Rattle.dom_base.proofs.Std.{arith}
 use Rattle.dom_words.proofs.Fronts.{read_behind}
 use Rattle.dom_words.proofs.numbers.lettered_at.Goals as goal
 

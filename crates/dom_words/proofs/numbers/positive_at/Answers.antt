@@ -1,5 +1,5 @@
 -- The digits in front, up to the end of the word.
-use Rattle.std.proofs.Common.{◌-◌, length, take, drop, Some, refl, sym, ap, ◌∙◌}
+use Rattle.dom_base.proofs.Std.{◌-◌, length, take, drop, Some, refl, sym, ap, ◌∙◌}
 use Rattle.dom_words.proofs.Fronts.{Front, read_front}
 use Rattle.dom_words.proofs.numbers.positive_at.Goals as goal
 

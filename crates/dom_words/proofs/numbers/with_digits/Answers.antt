@@ -1,10 +1,5 @@
 -- Where the digits in front are not all of the bytes, a byte is no digit.
-use Rattle.std.proofs.Common.{◌≡◌, ℕ, true, List, subst, refl, arith}
-use Rattle.std.proofs.lemmas.List.{take_all}
-use Rattle.std.proofs.lemmas.List.Folds.{list_all_at}
-use Rattle.std.proofs.lemmas.List.Sums.{prefix_len_stops}
-use Rattle.std.specs.List.{list_all, prefix_len}
-use Rattle.std.specs.Char.{is_ascii_digit}
+use Rattle.dom_base.proofs.Std.{◌≡◌, ℕ, true, List, subst, refl, arith, take_all, list_all_at, prefix_len_stops, list_all, prefix_len, is_ascii_digit}
 use Rattle.dom_words.proofs.Texts.{all_of_run}
 use Rattle.dom_words.proofs.numbers.with_digits.Goals as goal
 

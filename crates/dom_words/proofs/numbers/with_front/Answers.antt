@@ -1,5 +1,5 @@
 -- Each digit in front is read behind the number so far.
-use Rattle.std.proofs.Common.{get_or, sym, ◌∙◌, refl, arith}
+use Rattle.dom_base.proofs.Std.{get_or, sym, ◌∙◌, refl, arith}
 use Rattle.dom_words.proofs.Digits.{one_digit, one_counted, no_digit, no_more, few_digits}
 use Rattle.dom_words.proofs.numbers.with_front.Goals as goal
 

@@ -1,7 +1,5 @@
 -- What is read so far goes on to the whole number, and has a digit more than were read.
-use Rattle.std.proofs.Common.{◌≡◌, ◌<◌, ◌+◌, ◌^◌, drop}
-use Rattle.std.specs.List.{prefix_len}
-use Rattle.std.specs.Char.{is_ascii_digit}
+use Rattle.dom_base.proofs.Std.{◌≡◌, ◌<◌, ◌+◌, ◌^◌, drop, prefix_len, is_ascii_digit}
 use Rattle.dom_words.proofs.Digits.{read_on}
 use Rattle.dom_words.proofs.numbers.with_front.Given as goal
 

@@ -1,6 +1,6 @@
 -- The units so far, and those that are read from here on, are all units.
-use Rattle.std.proofs.Common.{◌≡◌, drop}
-use Rattle.dom_text.specs.Readers.{between, units_at}
+use Rattle.dom_base.proofs.Std.{◌≡◌, drop}
+use Rattle.dom_text.specs.Definitions.{between, units_at}
 use Rattle.dom_words.specs.Strings.{place_view, PlaceFits}
 use Rattle.dom_words.proofs.Loop.{with_front}
 use Rattle.dom_words.proofs.strings.units_at.Given as goal

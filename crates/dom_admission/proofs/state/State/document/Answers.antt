@@ -1,12 +1,7 @@
-use Rattle.std.proofs.Common.{◌∙◌, ap, sym, List}
-use Rattle.std.specs.Prelude.{is_some}
-use Rattle.std.specs.Option.{option_map}
-use Rattle.dom_base.specs.declared.NodeName.{NodeName}
-use Rattle.dom_model.specs.Tree.{Node, node_in}
-use Rattle.dom_model.specs.CommandNames.{named}
-use Rattle.dom_model.specs.World.{part_of}
+use Rattle.dom_base.proofs.Std.{◌∙◌, ap, sym, List, is_some, option_map}
+use Rattle.dom_model.proofs.Model.{NodeName, Node, node_in, named, part_of}
 use Rattle.dom_reader.specs.Views.{word_view}
-use Rattle.dom_tree.specs.Forest.{name_at}
+use Rattle.dom_tree.specs.Definitions.{name_at}
 use Rattle.dom_admission.proofs.Finding.{key_of, no_node-absent, read_of, told_one}
 use Rattle.dom_admission.proofs.state.State.document.Goals as goal
 

@@ -1,8 +1,5 @@
-use Rattle.std.proofs.Common.{◌∙◌, ap, sym}
-use Rattle.std.specs.Prelude.{is_some}
-use Rattle.dom_model.specs.CommandNames.{named}
-use Rattle.dom_model.specs.Tree.{Node, kind_of}
-use Rattle.dom_model.specs.World.{part_of}
+use Rattle.dom_base.proofs.Std.{◌∙◌, ap, sym, is_some}
+use Rattle.dom_model.proofs.Model.{named, Node, kind_of, part_of}
 use Rattle.dom_reader.specs.Views.{word_view}
 use Rattle.dom_admission.proofs.Finding.{no_node-absent, read_found}
 use Rattle.dom_admission.proofs.state.State.kind.Goals as goal

@@ -1,6 +1,4 @@
-use Rattle.std.proofs.Common.{Some, option_to_list, ap, sym, ◌∙◌}
-use Rattle.std.specs.Rc.{rc_str_bytes}
-use Rattle.std.specs.Str.{bytes_eq}
+use Rattle.dom_base.proofs.Std.{Some, option_to_list, ap, sym, ◌∙◌, rc_str_bytes, bytes_eq}
 use Rattle.dom_attributes.specs.Attributes.{value_among}
 use Rattle.dom_attributes.proofs.FewAttributes.{off-value}
 use Rattle.dom_attributes.proofs.FirstAttribute.{first-value, other-first, no-first}

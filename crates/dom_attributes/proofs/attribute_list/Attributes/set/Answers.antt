@@ -1,8 +1,5 @@
-use Rattle.std.proofs.Common.{◌≡◌, inl, inr, false, ◌++◌, option_to_list, ap, sym, subst, ◌∙◌}
-use Rattle.std.specs.List.{AllByRecursion}
-use Rattle.std.specs.Rc.{rc_str_bytes}
-use Rattle.std.specs.Str.{bytes_eq}
-use Rattle.dom_model.specs.TreeChanges.{attributes_with}
+use Rattle.dom_base.proofs.Std.{◌≡◌, inl, inr, false, ◌++◌, option_to_list, ap, sym, subst, ◌∙◌, AllByRecursion, rc_str_bytes, bytes_eq}
+use Rattle.dom_model.proofs.Model.{attributes_with}
 use Rattle.dom_attributes.specs.Attributes.{HaveOwnNames, attributes_under}
 use Rattle.dom_attributes.proofs.FewAttributes.{named, off-with, either, on-ok, own-with}
 use Rattle.dom_attributes.proofs.FirstAttribute.{other-first, no-first}

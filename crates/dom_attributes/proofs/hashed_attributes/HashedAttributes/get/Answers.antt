@@ -1,6 +1,4 @@
-use Rattle.std.proofs.Common.{[], Some, ap, ◌∙◌}
-use Rattle.std.specs.Option.{option_map}
-use Rattle.std.specs.String.{string_bytes}
+use Rattle.dom_base.proofs.Std.{[], Some, ap, ◌∙◌, option_map, string_bytes}
 use Rattle.dom_attributes.specs.Attributes.{value_among, attributes_from}
 use Rattle.dom_attributes.proofs.Attributes.{lookup-attributes}
 use Rattle.dom_attributes.proofs.Boxed.{boxed_shows}

@@ -1,5 +1,4 @@
-use Rattle.std.proofs.Common.{[], sym, refl, subst}
-use Rattle.std.specs.String.{string_bytes, string_eq}
+use Rattle.dom_base.proofs.Std.{[], sym, refl, subst, string_bytes, string_eq}
 use Rattle.dom_attributes.specs.Attributes.{HaveOwnNames, attributes_from}
 use Rattle.dom_attributes.proofs.OwnNames.{own_names}
 use Rattle.dom_attributes.proofs.Boxed.{boxed_shows}

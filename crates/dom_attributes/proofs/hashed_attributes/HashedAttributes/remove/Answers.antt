@@ -1,7 +1,5 @@
-use Rattle.std.proofs.Common.{◌≡◌, [], ap, ◌∙◌}
-use Rattle.std.specs.Option.{option_map}
-use Rattle.std.specs.String.{string_bytes}
-use Rattle.dom_model.specs.TreeChanges.{attributes_without}
+use Rattle.dom_base.proofs.Std.{◌≡◌, [], ap, ◌∙◌, option_map, string_bytes}
+use Rattle.dom_model.proofs.Model.{attributes_without}
 use Rattle.dom_attributes.specs.Attributes.{value_among, attributes_from}
 use Rattle.dom_attributes.proofs.Attributes.{attributes_in, lookup-attributes, remove-attributes}
 use Rattle.dom_attributes.proofs.Boxed.{boxed_shows}

@@ -1,6 +1,5 @@
-use Rattle.std.proofs.Common.{[], sym, refl, ap, ◌∙◌}
-use Rattle.std.specs.String.{string_bytes, string_eq}
-use Rattle.dom_model.specs.TreeChanges.{attributes_with}
+use Rattle.dom_base.proofs.Std.{[], sym, refl, ap, ◌∙◌, string_bytes, string_eq}
+use Rattle.dom_model.proofs.Model.{attributes_with}
 use Rattle.dom_attributes.specs.Attributes.{attributes_from}
 use Rattle.dom_attributes.proofs.Attributes.{attributes_in, insert-attributes}
 use Rattle.dom_attributes.proofs.Boxed.{boxed_shows}

@@ -1,5 +1,4 @@
-use Rattle.std.proofs.Common.{Some, ap, ◌∙◌}
-use Rattle.std.specs.Rc.{rc_str_bytes}
+use Rattle.dom_base.proofs.Std.{Some, ap, ◌∙◌, rc_str_bytes}
 use Rattle.dom_attributes.specs.Attributes.{value_among}
 use Rattle.dom_attributes.proofs.FewAttributes.{place-at, place-off, named, found-value, off-value}
 use Rattle.dom_attributes.proofs.later_attributes.LaterAttributes.get.Goals as goal

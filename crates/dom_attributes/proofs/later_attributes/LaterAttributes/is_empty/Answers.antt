@@ -1,6 +1,4 @@
-use Rattle.std.proofs.Common.{◌≡◌, length, [], sym, ◌∙◌, arith, true≢false}
-use Rattle.std.proofs.lemmas.Grind.{common_steps}
-use Rattle.std.specs.Rc.{rc_str_bytes}
+use Rattle.dom_base.proofs.Std.{◌≡◌, length, [], sym, ◌∙◌, arith, true≢false, common_steps, rc_str_bytes}
 use Rattle.dom_attributes.proofs.FewAttributes.{none-few}
 use Rattle.dom_attributes.proofs.later_attributes.LaterAttributes.is_empty.Goals as goal
 

@@ -1,6 +1,5 @@
-use Rattle.std.proofs.Common.{◌++◌, ap, sym, subst, ◌∙◌}
-use Rattle.std.specs.Rc.{rc_str_bytes}
-use Rattle.dom_model.specs.TreeChanges.{attributes_without}
+use Rattle.dom_base.proofs.Std.{◌++◌, ap, sym, subst, ◌∙◌, rc_str_bytes}
+use Rattle.dom_model.proofs.Model.{attributes_without}
 use Rattle.dom_attributes.specs.Attributes.{HaveOwnNames, value_among, attributes_under}
 use Rattle.dom_attributes.proofs.FewAttributes.{place-at, place-off, named, found-value, found-without, off-value, off-without, own-without}
 use Rattle.dom_attributes.proofs.later_attributes.LaterAttributes.remove.Goals as goal

@@ -1,7 +1,5 @@
-use Rattle.std.proofs.Common.{◌≡◌, inl, inr, ◌++◌, ◌∷◌, [], refl, ap, sym, subst, ◌∙◌, arith}
-use Rattle.std.specs.Rc.{rc_str_bytes}
-use Rattle.std.proofs.lemmas.Grind.{common_steps}
-use Rattle.dom_model.specs.TreeChanges.{attributes_with}
+use Rattle.dom_base.proofs.Std.{◌≡◌, inl, inr, ◌++◌, ◌∷◌, [], refl, ap, sym, subst, ◌∙◌, arith, rc_str_bytes, common_steps}
+use Rattle.dom_model.proofs.Model.{attributes_with}
 use Rattle.dom_attributes.specs.Attributes.{HaveOwnNames, attributes_under}
 use Rattle.dom_attributes.proofs.FewAttributes.{place-at, place-off, named, found-set, off-with, off-added, either, on-ok, own-with}
 use Rattle.dom_attributes.proofs.later_attributes.LaterAttributes.set.Goals.{After-drop-index_mut, Joined-push, After-set}

@@ -1,15 +1,8 @@
-use Rattle.std.proofs.Common.{◌≡◌, List, None, sym, ap, ◌∙◌}
-use Rattle.std.specs.Option.{option_map}
-use Rattle.dom_base.specs.declared.NodeName.{NodeName}
-use Rattle.dom_model.specs.Command.{Command}
-use Rattle.dom_model.specs.CommandNames.{named}
-use Rattle.dom_model.specs.Dispatch.{dispatch_in}
-use Rattle.dom_model.specs.DocumentMachine.{refusal}
-use Rattle.dom_model.specs.Turns.{opening_turn}
-use Rattle.dom_model.specs.World.{part_of}
+use Rattle.dom_base.proofs.Std.{◌≡◌, List, None, sym, ap, ◌∙◌, option_map}
+use Rattle.dom_model.proofs.Model.{NodeName, Command, named, dispatch_in, refusal, opening_turn, part_of}
 use Rattle.dom_reader.specs.Views.{event_view, word_view}
-use Rattle.dom_tree.specs.Forest.{name_at}
-use Rattle.dom_dispatch.specs.Dispatches.{event_words}
+use Rattle.dom_tree.specs.Definitions.{name_at}
+use Rattle.dom_dispatch.specs.Definitions.{event_words}
 use Rattle.dom_commands.specs.Machine.{MachineNow}
 use Rattle.dom_commands.proofs.Admitting.{refused_line, unrefused_line, unrefused_there}
 use Rattle.dom_commands.proofs.EventCommands.{stopped, refusal-seen}

@@ -1,8 +1,6 @@
-use Rattle.std.proofs.Common.{◌∷◌, ◌∙◌, ◌++◌, [], ℕ, List, ap, append_assoc, refl, sym}
-use Rattle.dom_model.specs.Command.{Command}
-use Rattle.dom_model.specs.Output.{nothing, replied, says}
-use Rattle.dom_model.specs.Turns.{ending_turn}
-use Rattle.dom_text.specs.Text.{output_text}
+use Rattle.dom_base.proofs.Std.{◌∷◌, ◌∙◌, ◌++◌, [], ℕ, List, ap, append_assoc, refl, sym}
+use Rattle.dom_model.proofs.Model.{Command, nothing, replied, says, ending_turn}
+use Rattle.dom_text.specs.Definitions.{output_text}
 use Rattle.dom_admission.proofs.Handling.{may_act, refused}
 use Rattle.dom_admission.proofs.Refusing.{namings}
 use Rattle.dom_commands.proofs.EventCommands.{stopped, unrefused}

@@ -1,7 +1,5 @@
-use Rattle.std.proofs.Common.{◌∷◌, ◌∙◌, [], ap}
-use Rattle.std.specs.Prelude.{nat_eq}
-use Rattle.dom_model.specs.Command.{Command}
-use Rattle.dom_model.specs.Listeners.{with_listener_added}
+use Rattle.dom_base.proofs.Std.{◌∷◌, ◌∙◌, [], ap, nat_eq}
+use Rattle.dom_model.proofs.Model.{Command, with_listener_added}
 use Rattle.dom_admission.specs.declared.admission.Operand.TheVariants.{Any}
 use Rattle.dom_reader.specs.Views.{listener_view, word_view}
 use Rattle.dom_admission.proofs.Handling.{may_act, refused}

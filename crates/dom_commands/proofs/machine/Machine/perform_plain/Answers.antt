@@ -1,4 +1,4 @@
-use Rattle.std.proofs.Common.{subst}
+use Rattle.dom_base.proofs.Std.{subst}
 use Rattle.dom_reader.specs.Views.{command_view}
 use Rattle.dom_admission.specs.Handled.{IsHandled}
 use Rattle.dom_commands.specs.Machine.{MachineNow, machine_now}

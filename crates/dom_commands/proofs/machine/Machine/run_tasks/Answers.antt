@@ -1,6 +1,5 @@
-use Rattle.std.proofs.Common.{◌≡◌, List, ◌∷◌, subst}
-use Rattle.dom_model.specs.Turns.{running_task}
-use Rattle.dom_model.specs.World.{Task}
+use Rattle.dom_base.proofs.Std.{◌≡◌, List, ◌∷◌, subst}
+use Rattle.dom_model.proofs.Model.{running_task, Task}
 use Rattle.dom_microtasks.specs.Tasks.{task_of}
 use Rattle.dom_commands.specs.Machine.{AreThere}
 use Rattle.dom_commands.proofs.Closing.{Ran, ran_more, first_rest, there_after}

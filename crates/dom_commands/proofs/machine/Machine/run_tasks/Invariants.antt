@@ -1,5 +1,5 @@
-use Rattle.std.proofs.Common.{length}
-use Rattle.dom_model.specs.Turns.{running_task}
+use Rattle.dom_base.proofs.Std.{length}
+use Rattle.dom_model.proofs.Model.{running_task}
 use Rattle.dom_commands.specs.Machine.{IsAtRest, AreThere}
 use Rattle.dom_commands.proofs.Closing.{Ran}
 use Rattle.dom_commands.proofs.machine.Machine.run_tasks.Given as goal

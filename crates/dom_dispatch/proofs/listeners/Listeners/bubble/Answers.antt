@@ -1,13 +1,8 @@
-use Rattle.std.proofs.Common.{◌≡◌, ℕ, ◌||◌, Bool, true, false, cond, nat_eq, filter, length, Some, ap, subst, sym, ◌∙◌, arith, rules, tests}
-use Rattle.std.specs.Prelude.{slice_get}
-use Rattle.std.specs.List.{AllByRecursion}
-use Rattle.std.proofs.lemmas.Bool.{cond-true, cond-false}
-use Rattle.dom_model.specs.Dispatch.{visit_of, is_at_target}
-use Rattle.dom_model.specs.Listeners.{after_invoke}
-use Rattle.dom_model.specs.Paths.{View}
-use Rattle.dom_path.specs.PathNodes.{view_in}
-use Rattle.dom_dispatch.specs.Dispatches.{event_words, dispatching_in, IsLineAlong, IsShownOf, paths_of}
-use Rattle.dom_dispatch.specs.Entries.{NoneHears}
+use Rattle.dom_base.proofs.Std.{◌≡◌, ℕ, ◌||◌, Bool, true, false, cond, nat_eq, filter, length, Some, ap, subst, sym, ◌∙◌, arith, rules, tests, slice_get}
+use Rattle.dom_base.proofs.Std.{AllByRecursion, cond-true, cond-false}
+use Rattle.dom_model.proofs.Model.{visit_of, is_at_target, after_invoke, View}
+use Rattle.dom_path.specs.Definitions.{view_in}
+use Rattle.dom_dispatch.specs.Definitions.{event_words, dispatching_in, IsLineAlong, IsShownOf, paths_of, NoneHears}
 use Rattle.dom_dispatch.proofs.Visiting.{bubbled-more, silent, view-is}
 use Rattle.dom_dispatch.proofs.listeners.Listeners.bubble.Goals as goal
 use Rattle.dom_dispatch.proofs.listeners.Listeners.bubble.Goals.{then-event+in_ok-visit, then-event-via-then-event, then-event-via-else-event+then-eq}

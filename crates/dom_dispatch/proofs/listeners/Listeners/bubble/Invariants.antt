@@ -1,8 +1,6 @@
-use Rattle.std.proofs.Common.{◌≡◌, ◌||◌, nat_eq, false, fold, map, filter, take}
-use Rattle.std.specs.List.{AllByRecursion}
-use Rattle.dom_model.specs.Dispatch.{visit_of, is_at_target}
-use Rattle.dom_model.specs.Listeners.{after_invoke}
-use Rattle.dom_dispatch.specs.Dispatches.{event_words, dispatching_in, IsLineAlong, IsShownOf, paths_of}
+use Rattle.dom_base.proofs.Std.{◌≡◌, ◌||◌, nat_eq, false, fold, map, filter, take, AllByRecursion}
+use Rattle.dom_model.proofs.Model.{visit_of, is_at_target, after_invoke}
+use Rattle.dom_dispatch.specs.Definitions.{event_words, dispatching_in, IsLineAlong, IsShownOf, paths_of}
 use Rattle.dom_dispatch.proofs.listeners.Listeners.bubble.Given as goal
 
 abbrev pub invariant-loop-at : goal.invariant-loop-at

@@ -1,8 +1,6 @@
-use Rattle.std.proofs.Common.{◌≡◌, ◌<◌, ◌-◌, suc, true, nat_eq, length, reverse, subst, sym, arith}
-use Rattle.dom_model.specs.Dispatch.{visit_of}
-use Rattle.dom_model.specs.Listeners.{after_invoke}
-use Rattle.dom_dispatch.specs.Dispatches.{event_words, dispatching_in}
-use Rattle.dom_dispatch.specs.Entries.{NoneHears}
+use Rattle.dom_base.proofs.Std.{◌≡◌, ◌<◌, ◌-◌, suc, true, nat_eq, length, reverse, subst, sym, arith}
+use Rattle.dom_model.proofs.Model.{visit_of, after_invoke}
+use Rattle.dom_dispatch.specs.Definitions.{event_words, dispatching_in, NoneHears}
 use Rattle.dom_dispatch.proofs.Visiting.{captured-more, silent, view-there}
 use Rattle.dom_dispatch.proofs.listeners.Listeners.capture.Goals as goal
 

@@ -1,8 +1,6 @@
-use Rattle.std.proofs.Common.{◌≡◌, ◌≤◌, nat_eq, true, fold, map, reverse, drop, length}
-use Rattle.std.specs.List.{AllByRecursion}
-use Rattle.dom_model.specs.Dispatch.{visit_of}
-use Rattle.dom_model.specs.Listeners.{after_invoke}
-use Rattle.dom_dispatch.specs.Dispatches.{event_words, dispatching_in, IsLineAlong, IsShownOf, paths_of}
+use Rattle.dom_base.proofs.Std.{◌≡◌, ◌≤◌, nat_eq, true, fold, map, reverse, drop, length, AllByRecursion}
+use Rattle.dom_model.proofs.Model.{visit_of, after_invoke}
+use Rattle.dom_dispatch.specs.Definitions.{event_words, dispatching_in, IsLineAlong, IsShownOf, paths_of}
 use Rattle.dom_dispatch.proofs.listeners.Listeners.capture.Given as goal
 
 abbrev pub invariant-loop-at : goal.invariant-loop-at

@@ -1,10 +1,6 @@
-use Rattle.std.proofs.Common.{◌≡◌, ℕ, ◌||◌, true, false, not, nat_eq, map, filter, fold, reverse, ap, subst, sym, ◌∙◌}
-use Rattle.std.specs.List.{AllByRecursion}
-use Rattle.std.proofs.lemmas.List.Sums.{fold-append}
-use Rattle.dom_model.specs.Dispatch.{visit_of, is_at_target}
-use Rattle.dom_model.specs.Listeners.{Dispatching, after_invoke, begun}
-use Rattle.dom_dispatch.specs.Dispatches.{event_words, dispatching_in, IsLineAlong, paths_of}
-use Rattle.dom_dispatch.specs.Kept.{dispatch_along}
+use Rattle.dom_base.proofs.Std.{◌≡◌, ℕ, ◌||◌, true, false, not, nat_eq, map, filter, fold, reverse, ap, subst, sym, ◌∙◌, AllByRecursion, fold-append}
+use Rattle.dom_model.proofs.Model.{visit_of, is_at_target, Dispatching, after_invoke, begun}
+use Rattle.dom_dispatch.specs.Definitions.{event_words, dispatching_in, IsLineAlong, paths_of, dispatch_along}
 use Rattle.dom_dispatch.proofs.Visiting.{dispatched-in, own-lines, numbered-lines}
 use Rattle.dom_dispatch.proofs.listeners.Listeners.dispatch.Goals as goal
 

@@ -1,14 +1,8 @@
-use Rattle.std.proofs.Common.{◌≡◌, ℕ, ◌&&◌, Bool, true, nat_eq, [], ◌∷◌, ◌++◌, take, filter, Option, Some, false, ap, sym, ◌∙◌, arith}
-use Rattle.std.specs.Prelude.{slice_get, slice_index_or}
-use Rattle.std.specs.Bool.{beq}
-use Rattle.std.specs.Option.{option_map_or}
-use Rattle.std.proofs.lemmas.List.{map-append, take_all}
-use Rattle.std.proofs.lemmas.Option.{slice_get-get_or}
-use Rattle.dom_model.specs.Listeners.{Listener}
-use Rattle.dom_model.specs.Names.{text_eq}
+use Rattle.dom_base.proofs.Std.{◌≡◌, ℕ, ◌&&◌, Bool, true, nat_eq, [], ◌∷◌, ◌++◌, take, filter, Option, Some, false, ap, sym, ◌∙◌, arith, slice_get}
+use Rattle.dom_base.proofs.Std.{slice_index_or, beq, option_map_or, map-append, take_all, slice_get-get_or}
+use Rattle.dom_model.proofs.Model.{Listener, text_eq}
 use Rattle.dom_dispatch.specs.declared.listeners.Entry.{Entry}
-use Rattle.dom_dispatch.specs.Entries.{listener_of, listeners_in, hears_at}
-use Rattle.dom_dispatch.specs.Tables.{places_from}
+use Rattle.dom_dispatch.specs.Definitions.{listener_of, listeners_in, hears_at, places_from}
 use Rattle.dom_dispatch.proofs.Entered.{and-first}
 use Rattle.dom_dispatch.proofs.Placing.{picked, picked-kept, kept-next, kept-same}
 use Rattle.dom_dispatch.proofs.listeners.Listeners.heard.Goals as goal

@@ -1,8 +1,6 @@
-use Rattle.std.proofs.Common.{ap, sym, ◌∙◌}
-use Rattle.std.specs.Prelude.{string_bytes}
+use Rattle.dom_base.proofs.Std.{ap, sym, ◌∙◌, string_bytes}
 use Rattle.dom_dispatch.specs.declared.listeners.ListenerInit.{ListenerInit}
-use Rattle.dom_dispatch.specs.Entries.{listeners_in}
-use Rattle.dom_dispatch.specs.Tables.{present, is_noted}
+use Rattle.dom_dispatch.specs.Definitions.{listeners_in, present, is_noted}
 use Rattle.dom_dispatch.proofs.Typed.{more-typed, pushed-typed}
 use Rattle.dom_dispatch.proofs.listeners.Listeners.listen.Goals as goal
 

@@ -1,6 +1,5 @@
-use Rattle.std.proofs.Common.{subst, sym, ◌∙◌}
-use Rattle.dom_dispatch.specs.Entries.{listeners_in, NoneHears}
-use Rattle.dom_dispatch.specs.Tables.{present}
+use Rattle.dom_base.proofs.Std.{subst, sym, ◌∙◌}
+use Rattle.dom_dispatch.specs.Definitions.{listeners_in, NoneHears, present}
 use Rattle.dom_dispatch.proofs.Typed.{none-typed}
 use Rattle.dom_dispatch.proofs.listeners.Listeners.may_hear.Goals as goal
 

@@ -1,7 +1,6 @@
-use Rattle.std.proofs.Common.{◌≡◌, ℕ, Bool, nat_eq, not, filter, subst, sym, ◌∙◌}
-use Rattle.dom_model.specs.Listeners.{Listener, is_listener}
-use Rattle.dom_dispatch.specs.Entries.{listeners_in}
-use Rattle.dom_dispatch.specs.Tables.{present, HasTypes}
+use Rattle.dom_base.proofs.Std.{◌≡◌, ℕ, Bool, nat_eq, not, filter, subst, sym, ◌∙◌}
+use Rattle.dom_model.proofs.Model.{Listener, is_listener}
+use Rattle.dom_dispatch.specs.Definitions.{listeners_in, present, HasTypes}
 use Rattle.dom_dispatch.proofs.Placing.{none-pass}
 use Rattle.dom_dispatch.proofs.Typed.{filter-typed}
 use Rattle.dom_dispatch.proofs.listeners.Listeners.unlisten.Goals as goal

@@ -1,7 +1,6 @@
-use Rattle.std.proofs.Common.{◌≡◌, not, nat_eq, filter, length}
-use Rattle.dom_model.specs.Listeners.{is_listener}
-use Rattle.dom_dispatch.specs.Entries.{listeners_in}
-use Rattle.dom_dispatch.specs.Tables.{present, IsIndexed, HasTypes}
+use Rattle.dom_base.proofs.Std.{◌≡◌, not, nat_eq, filter, length}
+use Rattle.dom_model.proofs.Model.{is_listener}
+use Rattle.dom_dispatch.specs.Definitions.{listeners_in, present, IsIndexed, HasTypes}
 use Rattle.dom_dispatch.proofs.listeners.Listeners.unlisten.Given as goal
 
 abbrev pub invariant-loop-at : goal.invariant-loop-at

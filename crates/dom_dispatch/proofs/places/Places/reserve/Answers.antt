@@ -1,6 +1,4 @@
-use Rattle.std.proofs.Common.{rules, ◌∙◌}
-use Rattle.std.specs.Prelude.{nat_eq}
-use Rattle.std.specs.HashMap.{get as value_at}
+use Rattle.dom_base.proofs.Std.{rules, ◌∙◌, nat_eq, get as value_at}
 use Rattle.dom_dispatch.proofs.Opening.{written-kept}
 use Rattle.dom_dispatch.proofs.places.Places.reserve.Goals as goal
 

@@ -1,7 +1,5 @@
-use Rattle.std.proofs.Common.{ap, sym, ◌∙◌, rules, tests}
-use Rattle.std.specs.Prelude.{is_some}
-use Rattle.std.proofs.lemmas.Fn.{filter_same}
-use Rattle.dom_dispatch.specs.Tables.{present, places_from}
+use Rattle.dom_base.proofs.Std.{ap, sym, ◌∙◌, rules, tests, is_some, filter_same}
+use Rattle.dom_dispatch.specs.Definitions.{present, places_from}
 use Rattle.dom_dispatch.proofs.Placing.{closed-present}
 use Rattle.dom_dispatch.proofs.table.Table.close_up.Goals as goal
 

@@ -1,14 +1,7 @@
-use Rattle.std.proofs.Common.{◌≡◌, ℕ, ◌&&◌, Bool, true, false, nat_eq, take, sym, ap, ◌∙◌, arith}
-use Rattle.std.specs.Prelude.{slice_index_or}
-use Rattle.std.specs.Bool.{beq}
-use Rattle.std.specs.List.{list_any}
-use Rattle.std.specs.Option.{option_map_or}
-use Rattle.std.proofs.lemmas.List.{take_all}
-use Rattle.std.proofs.lemmas.Option.{slice_get-get_or}
-use Rattle.dom_model.specs.Listeners.{Listener, is_listener}
-use Rattle.dom_model.specs.Names.{text_eq}
-use Rattle.dom_dispatch.specs.Entries.{listeners_in}
-use Rattle.dom_dispatch.specs.Tables.{places_from, passes_in, holds_at}
+use Rattle.dom_base.proofs.Std.{◌≡◌, ℕ, ◌&&◌, Bool, true, false, nat_eq, take, sym, ap, ◌∙◌, arith, slice_index_or, beq, list_any, option_map_or, take_all}
+use Rattle.dom_base.proofs.Std.{slice_get-get_or}
+use Rattle.dom_model.proofs.Model.{Listener, is_listener, text_eq}
+use Rattle.dom_dispatch.specs.Definitions.{listeners_in, places_from, passes_in, holds_at}
 use Rattle.dom_dispatch.proofs.Entered.{and-first}
 use Rattle.dom_dispatch.proofs.Placing.{picked, picked-any, none-next, passes-any}
 use Rattle.dom_dispatch.proofs.table.Table.find.Goals as goal

@@ -1,7 +1,6 @@
-use Rattle.std.proofs.Common.{◌≡◌, false, nat_eq, take}
-use Rattle.std.specs.List.{list_any}
-use Rattle.dom_model.specs.Listeners.{is_listener}
-use Rattle.dom_dispatch.specs.Entries.{listeners_in}
+use Rattle.dom_base.proofs.Std.{◌≡◌, false, nat_eq, take, list_any}
+use Rattle.dom_model.proofs.Model.{is_listener}
+use Rattle.dom_dispatch.specs.Definitions.{listeners_in}
 use Rattle.dom_dispatch.proofs.Placing.{picked}
 use Rattle.dom_dispatch.proofs.table.Table.find.Given as goal
 

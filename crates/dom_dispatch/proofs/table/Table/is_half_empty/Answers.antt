@@ -1,6 +1,5 @@
-use Rattle.std.proofs.Common.{◌≡◌, ◌+◌, length, get_or, take, ap, subst, sym, ◌∙◌, arith}
-use Rattle.std.specs.Prelude.{if◌then◌else◌}
-use Rattle.dom_dispatch.specs.Tables.{present}
+use Rattle.dom_base.proofs.Std.{◌≡◌, ◌+◌, length, get_or, take, ap, subst, sym, ◌∙◌, arith, if◌then◌else◌}
+use Rattle.dom_dispatch.specs.Definitions.{present}
 use Rattle.dom_dispatch.proofs.Placing.{counted-next}
 use Rattle.dom_dispatch.proofs.table.Table.is_half_empty.Goals as goal
 use Rattle.dom_dispatch.proofs.table.Table.is_half_empty.Goals.{then-is_some, else-is_some}

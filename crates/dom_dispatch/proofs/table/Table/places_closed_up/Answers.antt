@@ -1,7 +1,6 @@
-use Rattle.std.proofs.Common.{◌≡◌, ◌+◌, ◌∷◌, ◌++◌, [], nat_eq, Some, filter, length, get_or, take, ap, subst, sym, ◌∙◌, arith, append-nil}
-use Rattle.std.specs.Prelude.{is_some, if◌then◌else◌}
-use Rattle.std.proofs.lemmas.List.{length_push}
-use Rattle.dom_dispatch.specs.Tables.{places_at, places_from}
+use Rattle.dom_base.proofs.Std.{◌≡◌, ◌+◌, ◌∷◌, ◌++◌, [], nat_eq, Some, filter, length, get_or, take, ap, subst, sym, ◌∙◌, arith, append-nil, is_some}
+use Rattle.dom_base.proofs.Std.{if◌then◌else◌, length_push}
+use Rattle.dom_dispatch.specs.Definitions.{places_at, places_from}
 use Rattle.dom_dispatch.proofs.Placing.{closed-next, places-more}
 use Rattle.dom_dispatch.proofs.table.Table.places_closed_up.Goals as goal
 use Rattle.dom_dispatch.proofs.table.Table.places_closed_up.Goals.{in-Some+in_ok-reserve, in_default}

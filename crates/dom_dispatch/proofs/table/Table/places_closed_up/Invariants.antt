@@ -1,6 +1,5 @@
-use Rattle.std.proofs.Common.{◌≡◌, ◌≤◌, filter, length, take}
-use Rattle.std.specs.Prelude.{is_some}
-use Rattle.dom_dispatch.specs.Tables.{IsIndexed}
+use Rattle.dom_base.proofs.Std.{◌≡◌, ◌≤◌, filter, length, take, is_some}
+use Rattle.dom_dispatch.specs.Definitions.{IsIndexed}
 use Rattle.dom_dispatch.proofs.table.Table.places_closed_up.Given as goal
 
 abbrev pub invariant-loop-entry : goal.invariant-loop-entry

@@ -1,7 +1,5 @@
-use Rattle.std.proofs.Common.{◌≡◌, ◌++◌, ◌∷◌, [], nat_eq, Some, length, sym, ap, ◌∙◌, arith}
-use Rattle.std.specs.Prelude.{if◌then◌else◌}
-use Rattle.std.proofs.lemmas.List.Elements.{filter_map-append}
-use Rattle.dom_dispatch.specs.Tables.{present, places_at, places_from}
+use Rattle.dom_base.proofs.Std.{◌≡◌, ◌++◌, ◌∷◌, [], nat_eq, Some, length, sym, ap, ◌∙◌, arith, if◌then◌else◌, filter_map-append}
+use Rattle.dom_dispatch.specs.Definitions.{present, places_at, places_from}
 use Rattle.dom_dispatch.proofs.Placing.{places-more}
 use Rattle.dom_dispatch.proofs.table.Table.push.Goals as goal
 

@@ -1,7 +1,5 @@
 -- Each read goes behind those before it.
-use Rattle.std.proofs.Common.{◌≡◌, refl, ◌∙◌, ◌++◌, [], take, arith, length}
-use Rattle.std.proofs.lemmas.Result.{err_from_is_err_and, MatchResult-weaker}
-use Rattle.std.proofs.lemmas.List.{length-append, length-take}
+use Rattle.dom_base.proofs.Std.{◌≡◌, refl, ◌∙◌, ◌++◌, [], take, arith, length, err_from_is_err_and, MatchResult-weaker, length-append, length-take}
 use Rattle.dom_engine.specs.Run.{input_limit}
 use Rattle.dom_engine.proofs.ReadLaws.{read-none, read-kept, read-more, stops-one_read, stops-flush, stops-more}
 use Rattle.dom_engine.proofs.ReadLaws.{read-flushed, flush-within, one_read-within, more-within}

@@ -1,5 +1,5 @@
 -- Some bytes are read, and the limit leaves room for the others.
-use Rattle.std.proofs.Common.{◌≡◌, ◌+◌, List, ℕ, length}
+use Rattle.dom_base.proofs.Std.{◌≡◌, ◌+◌, List, ℕ, length}
 use Rattle.dom_engine.specs.Run.{input_limit}
 use Rattle.dom_engine.specs.Reading.{HasRead}
 use Rattle.dom_engine.proofs.runner.Runner.read_all.Given as goal

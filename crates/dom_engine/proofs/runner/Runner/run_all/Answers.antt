@@ -1,5 +1,5 @@
 -- What is left at the end comes behind all that was read.
-use Rattle.std.proofs.lemmas.Result.{MatchResult-weaker}
+use Rattle.dom_base.proofs.Std.{MatchResult-weaker}
 use Rattle.dom_streams.proofs.WriteLaws.{ends_cases}
 use Rattle.dom_engine.proofs.ReadLaws.{ends-run, stops-end}
 use Rattle.dom_engine.proofs.runner.Runner.run_all.Goals as goal

@@ -1,5 +1,5 @@
 -- The ending comes behind the last line.
-use Rattle.dom_text.specs.Lines.{last_line}
+use Rattle.dom_text.specs.Definitions.{last_line}
 use Rattle.dom_engine.proofs.LineRuns.{Behind, ending_behind}
 use Rattle.dom_engine.proofs.runner.Runner.run_end.Goals as goal
 

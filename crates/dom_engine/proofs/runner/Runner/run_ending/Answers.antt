@@ -1,6 +1,5 @@
 -- The text of the ending is written, and the flush keeps it.
-use Rattle.std.proofs.Common.{sym, ap, ◌∙◌, [], append-nil}
-use Rattle.std.proofs.lemmas.Result.{err_from_is_err_and}
+use Rattle.dom_base.proofs.Std.{sym, ap, ◌∙◌, [], append-nil, err_from_is_err_and}
 use Rattle.dom_streams.specs.Views.{viewed}
 use Rattle.dom_streams.proofs.WriteLaws.{ends_behind, ends_as, stops_as}
 use Rattle.dom_engine.proofs.LineRuns.{ending-is}

@@ -1,5 +1,5 @@
 -- Where no byte is left, there is no last line.
-use Rattle.std.proofs.Common.{sym, refl}
+use Rattle.dom_base.proofs.Std.{sym, refl}
 use Rattle.dom_engine.proofs.LineRuns.{behind-none, shows-none}
 use Rattle.dom_engine.proofs.runner.Runner.run_last_line.Goals as goal
 

@@ -1,9 +1,7 @@
 -- A line's answers are those of a run over this one line.
-use Rattle.std.proofs.Common.{List, ℕ, ◌++◌, sym, ap, refl, ◌∙◌, ◌∷◌, []}
-use Rattle.std.proofs.lemmas.Result.{err_from_is_err_and}
-use Rattle.dom_model.specs.DocumentMachine.{step}
-use Rattle.dom_text.specs.Decode.{decode}
-use Rattle.dom_text.specs.Text.{output_text}
+use Rattle.dom_base.proofs.Std.{List, ℕ, ◌++◌, sym, ap, refl, ◌∙◌, ◌∷◌, [], err_from_is_err_and}
+use Rattle.dom_model.proofs.Model.{step}
+use Rattle.dom_text.specs.Definitions.{decode, output_text}
 use Rattle.dom_streams.specs.Views.{viewed}
 use Rattle.dom_streams.proofs.WriteLaws.{ends_as, on_ok}
 use Rattle.dom_engine.proofs.LineRuns.{none_written, answers-one, world_after-one}

@@ -1,8 +1,7 @@
 -- Each line is run behind those before it.
-use Rattle.std.proofs.Common.{refl, sym, subst, ◌∙◌, map, take}
+use Rattle.dom_base.proofs.Std.{refl, sym, subst, ◌∙◌, map, take, err_from_is_err_and}
 use Rattle.dom_streams.specs.Writing.{Takes}
 use Rattle.dom_streams.proofs.WriteLaws.{Takes-nil}
-use Rattle.std.proofs.lemmas.Result.{err_from_is_err_and}
 use Rattle.dom_engine.proofs.LineRuns.{world_after-none, shown-none, Behind, world-behind, lines_done, lines_between, one_more, around}
 use Rattle.dom_engine.proofs.runner.Runner.run_lines.Goals as goal
 

@@ -1,5 +1,5 @@
 -- The lines so far are run, and their answers are written.
-use Rattle.std.proofs.Common.{◌≡◌, map, take}
+use Rattle.dom_base.proofs.Std.{◌≡◌, map, take}
 use Rattle.dom_streams.specs.Writing.{Takes}
 use Rattle.dom_engine.specs.Run.{world_after, shown}
 use Rattle.dom_engine.proofs.runner.Runner.run_lines.Given as goal

@@ -1,6 +1,5 @@
 -- Each whole line is run, and each piece is taken, behind those before it.
-use Rattle.std.proofs.Common.{refl, sym, ap, ◌∙◌, ◌++◌, []}
-use Rattle.std.proofs.lemmas.Result.{err_from_is_err_and}
+use Rattle.dom_base.proofs.Std.{refl, sym, ap, ◌∙◌, ◌++◌, [], err_from_is_err_and}
 use Rattle.dom_reader.specs.Streams.{fed}
 use Rattle.dom_reader.proofs.StreamLaws.{fed-none}
 use Rattle.dom_reader.proofs.WholeLines.{whole_line-fed, whole_line-fewer}

@@ -1,5 +1,5 @@
 -- The bytes so far are taken.
-use Rattle.std.proofs.Common.{◌≡◌, ◌++◌, List, ℕ, length}
+use Rattle.dom_base.proofs.Std.{◌≡◌, ◌++◌, List, ℕ, length}
 use Rattle.dom_streams.specs.Writing.{Takes}
 use Rattle.dom_reader.specs.Streams.{fed}
 use Rattle.dom_engine.specs.Run.{shown}

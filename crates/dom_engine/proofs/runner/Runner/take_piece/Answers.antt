@@ -1,6 +1,5 @@
 -- The lines that a piece ends are run as they come.
-use Rattle.std.proofs.Common.{refl}
-use Rattle.std.proofs.lemmas.Result.{err_from_is_err_and}
+use Rattle.dom_base.proofs.Std.{refl, err_from_is_err_and}
 use Rattle.dom_engine.proofs.LineRuns.{none_written}
 use Rattle.dom_engine.proofs.runner.Runner.take_piece.Goals as goal
 

@@ -1,6 +1,5 @@
 -- A flush that fails comes before the read.
-use Rattle.std.proofs.Common.{length}
-use Rattle.std.proofs.lemmas.Result.{err_from_is_err_and}
+use Rattle.dom_base.proofs.Std.{length, err_from_is_err_and}
 use Rattle.dom_engine.specs.Run.{shown}
 use Rattle.dom_engine.proofs.ReadLaws.{flush-stops}
 use Rattle.dom_engine.proofs.runner.Runner.take_read.Goals as goal

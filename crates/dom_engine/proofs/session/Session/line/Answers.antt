@@ -1,8 +1,7 @@
 -- What a line does that names another owner's node.
-use Rattle.std.proofs.Common.{List, ℕ, ◌++◌, ap, ◌∙◌}
-use Rattle.dom_model.specs.DocumentMachine.{step}
-use Rattle.dom_text.specs.Decode.{decode}
-use Rattle.dom_text.specs.Text.{output_text}
+use Rattle.dom_base.proofs.Std.{List, ℕ, ◌++◌, ap, ◌∙◌}
+use Rattle.dom_model.proofs.Model.{step}
+use Rattle.dom_text.specs.Definitions.{decode, output_text}
 use Rattle.dom_engine.proofs.ForeignLines.{foreign-step}
 use Rattle.dom_engine.proofs.session.Session.line.Goals as goal
 

@@ -1,13 +1,8 @@
-use Rattle.std.proofs.Common.{◌≡◌, Bool, ◌&&◌, not, false, List, [], ◌∷◌, None, filter, refl, sym, ap, ◌∙◌}
-use Rattle.std.specs.Prelude.{if◌then◌else◌, codes}
-use Rattle.std.specs.Option.{option_map}
-use Rattle.dom_base.specs.declared.NodeName.{NodeName}
-use Rattle.dom_model.specs.Names.{first_of, text_eq}
-use Rattle.dom_model.specs.Slots.{is_slot_element}
-use Rattle.dom_model.specs.Tree.{node_in, is_element}
-use Rattle.dom_tree.specs.Forest.{name_at}
+use Rattle.dom_base.proofs.Std.{◌≡◌, Bool, ◌&&◌, not, false, List, [], ◌∷◌, None, filter, refl, sym, ap, ◌∙◌, if◌then◌else◌, codes, option_map}
+use Rattle.dom_model.proofs.Model.{NodeName, first_of, text_eq, is_slot_element, node_in, is_element}
+use Rattle.dom_tree.specs.Definitions.{name_at}
 use Rattle.dom_laws.specs.Within.{behind}
-use Rattle.dom_laws.proofs.Options.{was_none}
+use Rattle.dom_laws.proofs.Laws.{was_none}
 use Rattle.dom_tree.proofs.Standing.{Once-forest}
 use Rattle.dom_slots.proofs.NamesOfNodes.{named-filter}
 use Rattle.dom_slots.proofs.Walks.{from-top}

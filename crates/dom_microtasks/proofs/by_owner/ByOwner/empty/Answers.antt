@@ -1,4 +1,4 @@
-use Rattle.std.proofs.Common.{sym, ◌∙◌}
+use Rattle.dom_base.proofs.Std.{sym, ◌∙◌}
 use Rattle.dom_microtasks.specs.ByOwner.{since_at, since_in}
 use Rattle.dom_microtasks.proofs.Places.{changed_at}
 use Rattle.dom_microtasks.proofs.by_owner.ByOwner.empty.Goals as goal

@@ -1,7 +1,5 @@
-use Rattle.std.proofs.Common.{◌++◌, ◌∷◌, [], Result, Ok, Err, sym, ap, ◌∙◌}
-use Rattle.std.specs.Prelude.{OnOk, if◌then◌else◌}
-use Rattle.dom_base.specs.declared.Owner.{Owner}
-use Rattle.dom_model.specs.Names.{owner_eq}
+use Rattle.dom_base.proofs.Std.{◌++◌, ◌∷◌, [], Result, Ok, Err, sym, ap, ◌∙◌, OnOk, if◌then◌else◌}
+use Rattle.dom_model.proofs.Model.{Owner, owner_eq}
 use Rattle.dom_microtasks.specs.ByOwner.{numbers_at, numbers_in}
 use Rattle.dom_microtasks.proofs.Places.{changed_at}
 use Rattle.dom_microtasks.proofs.by_owner.ByOwner.push.Goals as goal

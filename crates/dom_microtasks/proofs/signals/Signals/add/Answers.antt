@@ -1,6 +1,5 @@
-use Rattle.std.proofs.Common.{◌≡◌, ◌+◌, ◌++◌, ◌∷◌, [], refl, sym, ap, ◌∙◌, arith}
-use Rattle.std.proofs.lemmas.Grind.{common_steps}
-use Rattle.dom_model.specs.Names.{name_eq, append_once}
+use Rattle.dom_base.proofs.Std.{◌≡◌, ◌+◌, ◌++◌, ◌∷◌, [], refl, sym, ap, ◌∙◌, arith, common_steps}
+use Rattle.dom_model.proofs.Model.{name_eq, append_once}
 use Rattle.dom_microtasks.proofs.Keeping.{stays, few, added, added_kept}
 use Rattle.dom_microtasks.proofs.signals.Signals.add.Goals as goal
 

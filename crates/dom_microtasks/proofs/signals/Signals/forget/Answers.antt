@@ -1,5 +1,5 @@
-use Rattle.std.proofs.Common.{◌-◌, ◌∙◌, not, filter, length, refl, sym, ap, arith}
-use Rattle.dom_model.specs.Turns.{is_owned_by}
+use Rattle.dom_base.proofs.Std.{◌-◌, ◌∙◌, not, filter, length, refl, sym, ap, arith}
+use Rattle.dom_model.proofs.Model.{is_owned_by}
 use Rattle.dom_microtasks.proofs.Keeping.{own_few, others_left, none_taken, taken, taken_kept, none_left, none_seen}
 use Rattle.dom_microtasks.proofs.signals.Signals.forget.Goals as goal
 

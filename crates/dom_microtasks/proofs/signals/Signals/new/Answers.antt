@@ -1,5 +1,5 @@
 use Rattle.dom_microtasks.proofs.Keeping.{none_kept, none_seen}
-use Rattle.std.proofs.Common.{refl}
+use Rattle.dom_base.proofs.Std.{refl}
 use Rattle.dom_microtasks.proofs.signals.Signals.new.Goals as goal
 
 pub invariant_of-result : goal.invariant_of-result

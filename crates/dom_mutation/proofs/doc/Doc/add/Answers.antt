@@ -1,15 +1,7 @@
-use Rattle.std.proofs.Common.{◌≡◌, ◌↔◌, ◌⊎◌, inl, inr, ℕ, Bool, true, false, ◌∷◌, [], Some, Ok, Err, Result, refl, sym, ap, subst, ◌∙◌}
-use Rattle.std.specs.Prelude.{IfErr}
-use Rattle.dom_base.specs.declared.Fault.{Fault}
-use Rattle.dom_base.specs.declared.Fault.TheVariants.{Refused, Memory}
-use Rattle.dom_base.specs.declared.Refusal.{Refusal}
-use Rattle.dom_base.specs.declared.Refusal.TheVariants.{InvalidCharacter, Limit}
-use Rattle.dom_model.specs.CommandRefusals.{past_limit}
-use Rattle.dom_model.specs.Part.{next_name}
-use Rattle.dom_model.specs.Validity.{first_refusal}
-use Rattle.dom_model.specs.World.{part_of}
-use Rattle.dom_tree.specs.Forest.{node_from}
-use Rattle.dom_mutation.specs.Doc.{DocState}
+use Rattle.dom_base.proofs.Std.{◌≡◌, ◌↔◌, ◌⊎◌, inl, inr, ℕ, Bool, true, false, ◌∷◌, [], Some, Ok, Err, Result, refl, sym, ap, subst, ◌∙◌, IfErr}
+use Rattle.dom_model.proofs.Model.{Fault, Refused, Memory, Refusal, InvalidCharacter, Limit, past_limit, next_name, first_refusal, part_of}
+use Rattle.dom_tree.specs.Definitions.{node_from}
+use Rattle.dom_mutation.specs.Definitions.{DocState}
 use Rattle.dom_mutation.proofs.ReadyCalls.{node-made}
 use Rattle.dom_mutation.proofs.doc.Doc.add.Goals as goal
 

@@ -1,6 +1,5 @@
-use Rattle.dom_model.specs.Part.{next_name}
-use Rattle.dom_model.specs.World.{part_of}
-use Rattle.dom_tree.specs.Forest.{node_from}
+use Rattle.dom_model.proofs.Model.{next_name, part_of}
+use Rattle.dom_tree.specs.Definitions.{node_from}
 use Rattle.dom_mutation.proofs.ReadyCalls.{node-made}
 use Rattle.dom_mutation.proofs.doc.Doc.add_clone.Goals as goal
 

@@ -1,5 +1,5 @@
-use Rattle.dom_model.specs.Changes.{adopt_plan}
-use Rattle.dom_mutation.specs.Doc.{name_in}
+use Rattle.dom_model.proofs.Model.{adopt_plan}
+use Rattle.dom_mutation.specs.Definitions.{name_in}
 use Rattle.dom_mutation.proofs.ReadyCalls.{planned-done}
 use Rattle.dom_mutation.proofs.ReadyPlans.{ready-adopting}
 use Rattle.dom_mutation.proofs.doc.Doc.adopt.Goals as goal

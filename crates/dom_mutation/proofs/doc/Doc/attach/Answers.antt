@@ -1,10 +1,6 @@
-use Rattle.std.proofs.Common.{◌≡◌, ◌↔◌, ℕ, Some, Err, Result, sym, ap, subst, ◌∙◌}
-use Rattle.dom_base.specs.declared.Fault.{Fault}
-use Rattle.dom_base.specs.declared.Fault.TheVariants.{Refused}
-use Rattle.dom_base.specs.declared.Refusal.{Refusal}
-use Rattle.dom_model.specs.World.{part_of}
-use Rattle.dom_mutation.specs.Doc.{DocState, name_in, owner_in, attaching_refusal}
-use Rattle.dom_mutation.specs.Ready.{AreReady}
+use Rattle.dom_base.proofs.Std.{◌≡◌, ◌↔◌, ℕ, Some, Err, Result, sym, ap, subst, ◌∙◌}
+use Rattle.dom_model.proofs.Model.{Fault, Refused, Refusal, part_of}
+use Rattle.dom_mutation.specs.Definitions.{DocState, name_in, owner_in, attaching_refusal, AreReady}
 use Rattle.dom_mutation.proofs.ReadyFirst.{ready-attaching}
 use Rattle.dom_mutation.proofs.doc.Doc.attach.Goals as goal
 

@@ -1,5 +1,5 @@
-use Rattle.std.proofs.Common.{refl}
-use Rattle.dom_model.specs.Command.{Command}
+use Rattle.dom_base.proofs.Std.{refl}
+use Rattle.dom_model.proofs.Model.{Command}
 use Rattle.dom_mutation.proofs.ReadyCalls.{table-ready}
 use Rattle.dom_mutation.proofs.ReadyTables.{ready-same}
 use Rattle.dom_mutation.proofs.doc.Doc.disconnect.Goals as goal

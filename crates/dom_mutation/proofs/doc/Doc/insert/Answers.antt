@@ -1,10 +1,7 @@
-use Rattle.std.proofs.Common.{◌≡◌, false, sym, ap, subst, ◌∙◌}
-use Rattle.std.specs.Prelude.{option_map}
-use Rattle.dom_base.specs.declared.Owner.{Owner}
-use Rattle.dom_model.specs.Tree.{kind_of, is_shadow}
-use Rattle.dom_model.specs.World.{part_of}
-use Rattle.dom_tree.specs.Forest.{err_of}
-use Rattle.dom_mutation.specs.Doc.{name_in, trees_in}
+use Rattle.dom_base.proofs.Std.{◌≡◌, false, sym, ap, subst, ◌∙◌, option_map}
+use Rattle.dom_model.proofs.Model.{Owner, kind_of, is_shadow, part_of}
+use Rattle.dom_tree.specs.Definitions.{err_of}
+use Rattle.dom_mutation.specs.Definitions.{name_in, trees_in}
 use Rattle.dom_mutation.proofs.ReadyPlans.{insertion-tested}
 use Rattle.dom_mutation.proofs.doc.Doc.insert.Goals as goal
 

@@ -1,10 +1,6 @@
-use Rattle.std.proofs.Common.{subst, sym, ◌≡◌, false}
-use Rattle.dom_mutation.specs.Doc.{DocState, IsChild, name_in, owner_in}
-use Rattle.std.specs.Prelude.{option_map}
-use Rattle.dom_base.specs.declared.Owner.{Owner}
-use Rattle.dom_model.specs.Changes.{insert_plan, observed}
-use Rattle.dom_model.specs.Tree.{kind_of, is_shadow}
-use Rattle.dom_model.specs.World.{part_of}
+use Rattle.dom_base.proofs.Std.{subst, sym, ◌≡◌, false, option_map}
+use Rattle.dom_mutation.specs.Definitions.{DocState, IsChild, name_in, owner_in}
+use Rattle.dom_model.proofs.Model.{Owner, insert_plan, observed, kind_of, is_shadow, part_of}
 use Rattle.dom_mutation.proofs.ReadyCalls.{stands-in, planned-done}
 use Rattle.dom_mutation.proofs.ReadyPlans.{ready-inserting}
 use Rattle.dom_mutation.proofs.doc.Doc.insert_unchecked.Goals as goal

@@ -1,6 +1,6 @@
-use Rattle.std.proofs.Common.{ap, ◌∙◌}
-use Rattle.dom_model.specs.World.{is_connected}
-use Rattle.dom_mutation.specs.Doc.{DocState, name_in}
+use Rattle.dom_base.proofs.Std.{ap, ◌∙◌}
+use Rattle.dom_model.proofs.Model.{is_connected}
+use Rattle.dom_mutation.specs.Definitions.{DocState, name_in}
 use Rattle.dom_mutation.proofs.doc.Doc.is_connected.Goals as goal
 
 pub returns : goal.returns

@@ -1,10 +1,6 @@
-use Rattle.std.proofs.Common.{◌≤◌, subst}
-use Rattle.std.specs.Prelude.{count_by}
-use Rattle.dom_model.specs.Names.{name_eq}
-use Rattle.dom_model.specs.Tree.{Node, nodes}
-use Rattle.dom_model.specs.World.{part_of}
-use Rattle.dom_mutation.specs.Doc.{DocState}
-use Rattle.dom_mutation.specs.Ready.{IsReady}
+use Rattle.dom_base.proofs.Std.{◌≤◌, subst, count_by}
+use Rattle.dom_model.proofs.Model.{name_eq, Node, nodes, part_of}
+use Rattle.dom_mutation.specs.Definitions.{DocState, IsReady}
 use Rattle.dom_mutation.proofs.doc.Doc.laws.Goals as goal
 
 pub returns-clause-once : goal.returns-clause-once

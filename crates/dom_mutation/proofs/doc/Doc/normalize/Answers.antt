@@ -1,8 +1,6 @@
-use Rattle.std.proofs.Common.{map, ap, ◌∙◌}
-use Rattle.dom_model.specs.Changes.{in_turn}
-use Rattle.dom_model.specs.TextChanges.{normalizing, normalizing_text}
-use Rattle.dom_model.specs.Tree.{is_text, kind_of, descendants}
-use Rattle.dom_mutation.specs.Doc.{name_in, owner_in, trees_in, planned}
+use Rattle.dom_base.proofs.Std.{map, ap, ◌∙◌}
+use Rattle.dom_model.proofs.Model.{in_turn, normalizing, normalizing_text, is_text, kind_of, descendants}
+use Rattle.dom_mutation.specs.Definitions.{name_in, owner_in, trees_in, planned}
 use Rattle.dom_mutation.proofs.NormalizedEach.{listed_texts}
 use Rattle.dom_mutation.proofs.ReadyCalls.{planned-done}
 use Rattle.dom_mutation.proofs.ReadyPlans.{ready-normalizing}

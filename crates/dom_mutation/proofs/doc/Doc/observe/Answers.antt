@@ -1,8 +1,7 @@
-use Rattle.std.proofs.Common.{refl}
-use Rattle.dom_model.specs.Command.{Command, own}
-use Rattle.dom_model.specs.Output.{nothing}
-use Rattle.dom_observers.specs.Views.{words_of}
-use Rattle.dom_mutation.specs.Doc.{name_in}
+use Rattle.dom_base.proofs.Std.{refl}
+use Rattle.dom_model.proofs.Model.{Command, own, nothing}
+use Rattle.dom_observers.specs.Definitions.{words_of}
+use Rattle.dom_mutation.specs.Definitions.{name_in}
 use Rattle.dom_mutation.proofs.ReadyCalls.{table-done}
 use Rattle.dom_mutation.proofs.ReadyTables.{ready-same}
 use Rattle.dom_mutation.proofs.doc.Doc.observe.Goals as goal

@@ -1,6 +1,5 @@
-use Rattle.std.proofs.Common.{refl}
-use Rattle.dom_model.specs.Command.{Command}
-use Rattle.dom_model.specs.Output.{an_observer}
+use Rattle.dom_base.proofs.Std.{refl}
+use Rattle.dom_model.proofs.Model.{Command, an_observer}
 use Rattle.dom_mutation.proofs.ReadyCalls.{table-answered}
 use Rattle.dom_mutation.proofs.ReadyTables.{ready-same}
 use Rattle.dom_mutation.proofs.doc.Doc.observer_make.Goals as goal

@@ -1,6 +1,5 @@
-use Rattle.std.proofs.Common.{sym, subst}
-use Rattle.std.proofs.lemmas.Result.{on_ok_weaker}
-use Rattle.dom_mutation.specs.Ready.{IsReady}
+use Rattle.dom_base.proofs.Std.{sym, subst, on_ok_weaker}
+use Rattle.dom_mutation.specs.Definitions.{IsReady}
 use Rattle.dom_mutation.proofs.ReadyCalls.{or-same}
 use Rattle.dom_mutation.proofs.doc.Doc.push_micro.Goals as goal
 

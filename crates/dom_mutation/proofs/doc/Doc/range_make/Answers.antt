@@ -1,7 +1,6 @@
-use Rattle.std.proofs.Common.{sym, subst}
-use Rattle.dom_model.specs.Command.{Command}
-use Rattle.dom_model.specs.Output.{a_range}
-use Rattle.dom_mutation.specs.Doc.{DocState}
+use Rattle.dom_base.proofs.Std.{sym, subst}
+use Rattle.dom_model.proofs.Model.{Command, a_range}
+use Rattle.dom_mutation.specs.Definitions.{DocState}
 use Rattle.dom_mutation.proofs.ReadyCalls.{HasFirst, table-answered, at_first}
 use Rattle.dom_mutation.proofs.ReadyTables.{range_new-ready}
 use Rattle.dom_mutation.proofs.doc.Doc.range_make.Goals as goal

@@ -1,8 +1,6 @@
-use Rattle.std.proofs.Common.{subst, sym}
-use Rattle.dom_model.specs.Ranges.{at, from_to}
-use Rattle.dom_model.specs.World.{part_of}
-use Rattle.dom_mutation.specs.Doc.{DocState, name_in}
-use Rattle.dom_mutation.specs.Ready.{MayStand}
+use Rattle.dom_base.proofs.Std.{subst, sym}
+use Rattle.dom_model.proofs.Model.{at, from_to, part_of}
+use Rattle.dom_mutation.specs.Definitions.{DocState, name_in, MayStand}
 use Rattle.dom_mutation.proofs.ReadyCalls.{range-put}
 use Rattle.dom_mutation.proofs.doc.Doc.range_put.Goals as goal
 

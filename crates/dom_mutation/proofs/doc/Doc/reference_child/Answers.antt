@@ -1,5 +1,5 @@
-use Rattle.std.proofs.Common.{subst, sym}
-use Rattle.dom_mutation.specs.Doc.{DocState, IsChild}
+use Rattle.dom_base.proofs.Std.{subst, sym}
+use Rattle.dom_mutation.specs.Definitions.{DocState, IsChild}
 use Rattle.dom_mutation.proofs.doc.Doc.reference_child.Goals as goal
 
 pub reference_child-requires-clause-child_is_child : goal.reference_child-requires-clause-child_is_child

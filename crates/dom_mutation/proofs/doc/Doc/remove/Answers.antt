@@ -1,5 +1,5 @@
-use Rattle.dom_model.specs.Changes.{remove_plan, observed}
-use Rattle.dom_mutation.specs.Doc.{name_in}
+use Rattle.dom_model.proofs.Model.{remove_plan, observed}
+use Rattle.dom_mutation.specs.Definitions.{name_in}
 use Rattle.dom_mutation.proofs.ReadyCalls.{planned-done}
 use Rattle.dom_mutation.proofs.ReadyPlans.{ready-removing}
 use Rattle.dom_mutation.proofs.doc.Doc.remove.Goals as goal

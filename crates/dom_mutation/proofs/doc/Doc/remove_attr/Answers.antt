@@ -1,5 +1,5 @@
-use Rattle.dom_model.specs.Changes.{unsetting_attribute}
-use Rattle.dom_mutation.specs.Doc.{name_in}
+use Rattle.dom_model.proofs.Model.{unsetting_attribute}
+use Rattle.dom_mutation.specs.Definitions.{name_in}
 use Rattle.dom_mutation.proofs.ReadyCalls.{planned-done}
 use Rattle.dom_mutation.proofs.ReadyPlans.{ready-no_attribute}
 use Rattle.dom_mutation.proofs.doc.Doc.remove_attr.Goals as goal

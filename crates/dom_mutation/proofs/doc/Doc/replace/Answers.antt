@@ -1,8 +1,7 @@
-use Rattle.std.proofs.Common.{sym, ap, ◌∙◌}
-use Rattle.dom_model.specs.Changes.{replace_plan}
-use Rattle.dom_model.specs.Validity.{replace_refusal}
-use Rattle.dom_tree.specs.Forest.{err_of}
-use Rattle.dom_mutation.specs.Doc.{DocState, name_in, owner_in, trees_in}
+use Rattle.dom_base.proofs.Std.{sym, ap, ◌∙◌}
+use Rattle.dom_model.proofs.Model.{replace_plan, replace_refusal}
+use Rattle.dom_tree.specs.Definitions.{err_of}
+use Rattle.dom_mutation.specs.Definitions.{DocState, name_in, owner_in, trees_in}
 use Rattle.dom_mutation.proofs.ReadyCalls.{stands-in, planned-done}
 use Rattle.dom_mutation.proofs.ReadyPlans.{ready-replacing}
 use Rattle.dom_mutation.proofs.doc.Doc.replace.Goals as goal

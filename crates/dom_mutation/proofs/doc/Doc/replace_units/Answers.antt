@@ -1,7 +1,6 @@
-use Rattle.std.proofs.Common.{◌≡◌, true, subst, sym}
-use Rattle.dom_model.specs.TextChanges.{replacing_data}
-use Rattle.dom_model.specs.Tree.{kind_of, has_data}
-use Rattle.dom_mutation.specs.Doc.{DocState, name_in, owner_in, planned, trees_in}
+use Rattle.dom_base.proofs.Std.{◌≡◌, true, subst, sym}
+use Rattle.dom_model.proofs.Model.{replacing_data, kind_of, has_data}
+use Rattle.dom_mutation.specs.Definitions.{DocState, name_in, owner_in, planned, trees_in}
 use Rattle.dom_mutation.proofs.ReadyCalls.{planned-done}
 use Rattle.dom_mutation.proofs.ReadyPlans.{ready-data}
 use Rattle.dom_mutation.proofs.doc.Doc.replace_units.Goals as goal

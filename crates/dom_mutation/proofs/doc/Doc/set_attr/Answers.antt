@@ -1,6 +1,6 @@
-use Rattle.std.proofs.Common.{◌≡◌, ap, subst}
-use Rattle.dom_model.specs.Changes.{setting_attribute}
-use Rattle.dom_mutation.specs.Doc.{DocState, made, name_in, owner_in}
+use Rattle.dom_base.proofs.Std.{◌≡◌, ap, subst}
+use Rattle.dom_model.proofs.Model.{setting_attribute}
+use Rattle.dom_mutation.specs.Definitions.{DocState, made, name_in, owner_in}
 use Rattle.dom_mutation.proofs.ReadyCalls.{planned-done}
 use Rattle.dom_mutation.proofs.ReadyPlans.{ready-attribute}
 use Rattle.dom_mutation.proofs.doc.Doc.set_attr.Goals as goal

@@ -1,7 +1,6 @@
-use Rattle.std.proofs.Common.{ap, ◌∙◌}
-use Rattle.std.proofs.lemmas.Result.{on_ok_weaker}
-use Rattle.dom_model.specs.TextChanges.{replacing_data}
-use Rattle.dom_mutation.specs.Doc.{name_in, owner_in, planned}
+use Rattle.dom_base.proofs.Std.{ap, ◌∙◌, on_ok_weaker}
+use Rattle.dom_model.proofs.Model.{replacing_data}
+use Rattle.dom_mutation.specs.Definitions.{name_in, owner_in, planned}
 use Rattle.dom_mutation.proofs.doc.Doc.set_data.Goals as goal
 
 pub returns-clause-world : goal.returns-clause-world

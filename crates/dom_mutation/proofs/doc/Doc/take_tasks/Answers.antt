@@ -1,5 +1,5 @@
-use Rattle.std.proofs.Common.{sym, subst}
-use Rattle.dom_mutation.specs.Ready.{IsReady}
+use Rattle.dom_base.proofs.Std.{sym, subst}
+use Rattle.dom_mutation.specs.Definitions.{IsReady}
 use Rattle.dom_mutation.proofs.doc.Doc.take_tasks.Goals as goal
 
 pub invariant_of-self : goal.invariant_of-self

@@ -1,8 +1,7 @@
-use Rattle.std.proofs.Common.{refl}
-use Rattle.dom_model.specs.Command.{Command, own}
-use Rattle.dom_model.specs.Output.{a_walker}
-use Rattle.dom_traversal.specs.Filters.{filter_of}
-use Rattle.dom_mutation.specs.Doc.{name_in}
+use Rattle.dom_base.proofs.Std.{refl}
+use Rattle.dom_model.proofs.Model.{Command, own, a_walker}
+use Rattle.dom_traversal.specs.Definitions.{filter_of}
+use Rattle.dom_mutation.specs.Definitions.{name_in}
 use Rattle.dom_mutation.proofs.ReadyCalls.{table-answered}
 use Rattle.dom_mutation.proofs.ReadyTables.{ready-same}
 use Rattle.dom_mutation.proofs.doc.Doc.walk_make.Goals as goal

@@ -1,5 +1,5 @@
-use Rattle.dom_model.specs.Command.{Command, own}
-use Rattle.dom_mutation.specs.Doc.{name_in}
+use Rattle.dom_model.proofs.Model.{Command, own}
+use Rattle.dom_mutation.specs.Definitions.{name_in}
 use Rattle.dom_mutation.proofs.ReadyCalls.{table-ready}
 use Rattle.dom_mutation.proofs.ReadyTables.{walker_set-ready}
 use Rattle.dom_mutation.proofs.doc.Doc.walk_set.Goals as goal

@@ -1,7 +1,6 @@
-use Rattle.std.proofs.Common.{Some, ap, ◌∙◌}
-use Rattle.std.proofs.lemmas.Result.{on_ok_weaker}
-use Rattle.dom_model.specs.Steps.{set_attribute}
-use Rattle.dom_mutation.specs.Doc.{stepped, name_in, owner_in}
+use Rattle.dom_base.proofs.Std.{Some, ap, ◌∙◌, on_ok_weaker}
+use Rattle.dom_model.proofs.Model.{set_attribute}
+use Rattle.dom_mutation.specs.Definitions.{stepped, name_in, owner_in}
 use Rattle.dom_mutation.proofs.doc.attributes.change_attribute.Goals as goal
 
 pub returns : goal.returns

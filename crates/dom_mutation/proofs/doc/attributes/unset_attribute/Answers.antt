@@ -1,17 +1,7 @@
-use Rattle.std.proofs.Common.{◌≡◌, true, [], ◌∷◌, ℕ, Option, Some, None, refl, sym, ap, ◌∙◌}
-use Rattle.std.specs.Prelude.{is_some, OnOk, Result}
-use Rattle.std.specs.Option.{option_map_or}
-use Rattle.std.proofs.lemmas.Result.{on_ok_weaker}
-use Rattle.dom_base.specs.declared.NodeName.{NodeName}
-use Rattle.dom_base.specs.declared.Owner.{Owner}
-use Rattle.dom_model.specs.Changes.{unsetting_attribute}
-use Rattle.dom_model.specs.Names.{Word, DomString}
-use Rattle.dom_model.specs.Output.{attributes}
-use Rattle.dom_model.specs.Steps.{set_attribute, queue_record}
-use Rattle.dom_model.specs.Tree.{attribute_value, node_in}
-use Rattle.dom_model.specs.World.{part_of}
-use Rattle.dom_model.specs.WorldSteps.{world_after}
-use Rattle.dom_mutation.specs.Doc.{DocState, name_in, owner_in, stepped, planned, trees_in}
+use Rattle.dom_base.proofs.Std.{◌≡◌, true, [], ◌∷◌, ℕ, Option, Some, None, refl, sym, ap, ◌∙◌, is_some, OnOk, Result, option_map_or, on_ok_weaker}
+use Rattle.dom_model.proofs.Model.{NodeName, Owner, unsetting_attribute, Word, DomString, attributes, set_attribute, queue_record, attribute_value, node_in}
+use Rattle.dom_model.proofs.Model.{part_of, world_after}
+use Rattle.dom_mutation.specs.Definitions.{DocState, name_in, owner_in, stepped, planned, trees_in}
 use Rattle.dom_mutation.proofs.doc.attributes.unset_attribute.Goals as goal
 
 -- the two steps of an attribute that goes

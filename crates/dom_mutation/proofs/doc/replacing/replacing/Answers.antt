@@ -1,12 +1,7 @@
-use Rattle.std.proofs.Common.{◌≡◌, ◌∷◌, [], ℕ, List, Option, map, option_map, sym, ap, subst, ◌∙◌}
-use Rattle.std.proofs.lemmas.Result.{on_ok_weaker}
-use Rattle.dom_base.specs.declared.NodeName.{NodeName}
-use Rattle.dom_model.specs.Changes.{Plan, ◌and_then◌, doing, suppressed, remove_plan, insert_plan, placed_nodes, reference_child}
-use Rattle.dom_model.specs.Output.{child_list}
-use Rattle.dom_model.specs.Steps.{queue_record}
-use Rattle.dom_model.specs.Tree.{next_sibling, previous_sibling}
-use Rattle.dom_model.specs.World.{part_of}
-use Rattle.dom_parts.specs.Doc.{DocState, AreNodes, name_in, owner_in, planned, stepped, trees_in}
+use Rattle.dom_base.proofs.Std.{◌≡◌, ◌∷◌, [], ℕ, List, Option, map, option_map, sym, ap, subst, ◌∙◌, on_ok_weaker}
+use Rattle.dom_model.proofs.Model.{NodeName, Plan, ◌and_then◌, doing, suppressed, remove_plan, insert_plan, placed_nodes, reference_child, child_list}
+use Rattle.dom_model.proofs.Model.{queue_record, next_sibling, previous_sibling, part_of}
+use Rattle.dom_parts.specs.Definitions.{DocState, AreNodes, name_in, owner_in, planned, stepped, trees_in}
 use Rattle.dom_parts.proofs.Made.{planned_then}
 use Rattle.dom_parts.proofs.OwnPlans.{plans_then, plans_removing, plans_inserting}
 use Rattle.dom_mutation.proofs.BoundedDocs.{bounds_removed, bounds_at}

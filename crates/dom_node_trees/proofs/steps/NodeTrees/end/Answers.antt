@@ -1,7 +1,6 @@
-use Rattle.std.proofs.Common.{◌<◌, All, length, fold, map, Result, Ok, Err, refl, sym, ap, subst, ◌∙◌}
-use Rattle.std.specs.Prelude.{OnOk}
-use Rattle.dom_model.specs.Names.{name_eq, append_once}
-use Rattle.dom_tree.specs.Forest.{name_at}
+use Rattle.dom_base.proofs.Std.{◌<◌, All, length, fold, map, Result, Ok, Err, refl, sym, ap, subst, ◌∙◌, OnOk}
+use Rattle.dom_model.proofs.Model.{name_eq, append_once}
+use Rattle.dom_tree.specs.Definitions.{name_at}
 use Rattle.dom_node_trees.specs.Signalled.{AreNames}
 use Rattle.dom_node_trees.proofs.NamesByKey.{are_named, names_signalled}
 use Rattle.dom_node_trees.proofs.steps.NodeTrees.end.Goals as goal

@@ -1,5 +1,4 @@
-use Rattle.std.proofs.Common.{◌≡◌, ◌++◌, ◌∷◌, [], refl, arith}
-use Rattle.std.proofs.lemmas.Grind.{common_steps}
+use Rattle.dom_base.proofs.Std.{◌≡◌, ◌++◌, ◌∷◌, [], refl, arith, common_steps}
 use Rattle.dom_node_trees.proofs.NamesByKey.{own_key, one_more}
 use Rattle.dom_node_trees.proofs.steps.NodeTrees.own_slots.Goals as goal
 

@@ -1,6 +1,6 @@
-use Rattle.std.proofs.Common.{◌≡◌, ◌<◌, All, map, take, length}
-use Rattle.dom_model.specs.Names.{node_of}
-use Rattle.dom_tree.specs.Forest.{name_at}
+use Rattle.dom_base.proofs.Std.{◌≡◌, ◌<◌, All, map, take, length}
+use Rattle.dom_model.proofs.Model.{node_of}
+use Rattle.dom_tree.specs.Definitions.{name_at}
 use Rattle.dom_node_trees.proofs.steps.NodeTrees.own_slots.Given as goal
 
 abbrev pub invariant-loop-number : goal.invariant-loop-number

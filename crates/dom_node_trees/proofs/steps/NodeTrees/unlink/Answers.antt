@@ -1,5 +1,5 @@
-use Rattle.std.proofs.Common.{List, sym, subst}
-use Rattle.dom_base.specs.declared.NodeName.{NodeName}
+use Rattle.dom_base.proofs.Std.{List, sym, subst}
+use Rattle.dom_model.proofs.Model.{NodeName}
 use Rattle.dom_slots.specs.declared.step.Step.TheVariants.{Removal}
 use Rattle.dom_node_trees.specs.Signalled.{AreNames}
 use Rattle.dom_node_trees.proofs.Signals.{stepped}

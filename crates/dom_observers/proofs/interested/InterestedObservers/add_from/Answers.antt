@@ -1,10 +1,6 @@
-use Rattle.std.proofs.Common.{◌≡◌, ℕ, Option, Some, None, nat_eq, [], get_or, sym, ap, ◌∙◌, arith}
-use Rattle.std.specs.List.{fold, cons_option}
-use Rattle.std.proofs.lemmas.Bool.{cond-true, cond-false}
-use Rattle.dom_model.specs.Observers.{Registration, fits, asks_for_old}
-use Rattle.dom_observers.specs.Views.{words_of, change_of, registration_of, there_in}
-use Rattle.dom_observers.specs.Taking.{found_by, and_found}
-use Rattle.dom_observers.specs.InterestedObservers.{found_of}
+use Rattle.dom_base.proofs.Std.{◌≡◌, ℕ, Option, Some, None, nat_eq, [], get_or, sym, ap, ◌∙◌, arith, fold, cons_option, cond-true, cond-false}
+use Rattle.dom_model.proofs.Model.{Registration, fits, asks_for_old}
+use Rattle.dom_observers.specs.Definitions.{words_of, change_of, registration_of, there_in, found_by, and_found, found_of}
 use Rattle.dom_observers.proofs.Watching.{picked-next, read}
 use Rattle.dom_observers.proofs.interested.InterestedObservers.add_from.Goals as goal
 use Rattle.dom_observers.proofs.interested.InterestedObservers.add_from.Goals.{in-Some+then-fits+in_ok-add, in-Some+else-fits, in_default}

@@ -1,8 +1,5 @@
-use Rattle.std.proofs.Common.{◌≡◌, take}
-use Rattle.std.specs.List.{fold}
-use Rattle.dom_observers.specs.Views.{change_of}
-use Rattle.dom_observers.specs.Taking.{found_by, picked}
-use Rattle.dom_observers.specs.InterestedObservers.{found_of}
+use Rattle.dom_base.proofs.Std.{◌≡◌, take, fold}
+use Rattle.dom_observers.specs.Definitions.{change_of, found_by, picked, found_of}
 use Rattle.dom_observers.proofs.interested.InterestedObservers.add_from.Given as goal
 
 abbrev pub invariant-loop-place : goal.invariant-loop-place

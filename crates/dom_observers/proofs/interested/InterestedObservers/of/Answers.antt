@@ -1,10 +1,6 @@
-use Rattle.std.proofs.Common.{eqb, Some, sym, ap, subst, ◌∙◌}
-use Rattle.std.specs.List.{fold}
-use Rattle.dom_model.specs.Observers.{target_of}
-use Rattle.dom_observers.specs.Views.{change_of}
-use Rattle.dom_observers.specs.Taking.{Found, none_found, found_by, found_at, picked}
-use Rattle.dom_observers.specs.InterestedObservers.{found_of}
-use Rattle.dom_observers.specs.Watching.{looked_at}
+use Rattle.dom_base.proofs.Std.{eqb, Some, sym, ap, subst, ◌∙◌, fold}
+use Rattle.dom_model.proofs.Model.{target_of}
+use Rattle.dom_observers.specs.Definitions.{change_of, Found, none_found, found_by, found_at, picked, found_of, looked_at}
 use Rattle.dom_observers.proofs.Ascending.{climbs-fewer}
 use Rattle.dom_observers.proofs.Watching.{HasGathered, gathers-first, gathers-more, gathers-all}
 use Rattle.dom_observers.proofs.interested.InterestedObservers.of.Goals as goal

@@ -1,8 +1,6 @@
-use Rattle.std.proofs.Common.{length}
-use Rattle.dom_model.specs.Observers.{target_of}
-use Rattle.dom_observers.specs.Views.{change_of}
-use Rattle.dom_observers.specs.Taking.{none_found, found_at}
-use Rattle.dom_observers.specs.InterestedObservers.{found_of}
+use Rattle.dom_base.proofs.Std.{length}
+use Rattle.dom_model.proofs.Model.{target_of}
+use Rattle.dom_observers.specs.Definitions.{change_of, none_found, found_at, found_of}
 use Rattle.dom_observers.proofs.Ascending.{above}
 use Rattle.dom_observers.proofs.Watching.{HasGathered}
 use Rattle.dom_observers.proofs.interested.InterestedObservers.of.Given as goal

@@ -1,7 +1,6 @@
-use Rattle.std.proofs.Common.{ℕ, ltb, length, cond, sym, ap, ◌∙◌}
+use Rattle.dom_base.proofs.Std.{ℕ, ltb, length, cond, sym, ap, ◌∙◌}
 use Rattle.dom_observers.specs.declared.observers.Observers.TheInside.{Inside}
-use Rattle.dom_observers.specs.Tables.{TablesOf, disconnected}
-use Rattle.dom_observers.specs.Owners.{all_tables}
+use Rattle.dom_observers.specs.Definitions.{TablesOf, disconnected, all_tables}
 use Rattle.dom_observers.proofs.Lookups.{rewritten, had, had-none, kept-changes, untouched, below_none}
 use Rattle.dom_observers.proofs.observers.Observers.disconnect.Goals as goal
 

@@ -1,6 +1,5 @@
-use Rattle.std.proofs.Common.{ℕ, sym, ap, ◌∙◌}
-use Rattle.std.specs.Prelude.{is_some, slice_get}
-use Rattle.dom_observers.specs.Tables.{TablesOf}
+use Rattle.dom_base.proofs.Std.{ℕ, sym, ap, ◌∙◌, is_some, slice_get}
+use Rattle.dom_observers.specs.Definitions.{TablesOf}
 use Rattle.dom_observers.proofs.Lookups.{had, had-none}
 use Rattle.dom_observers.proofs.observers.Observers.has.Goals as goal
 

@@ -1,6 +1,6 @@
-use Rattle.std.proofs.Common.{ℕ, not, sym, ap, ◌∙◌}
-use Rattle.dom_model.specs.Names.{is_empty}
-use Rattle.dom_observers.specs.Tables.{TablesOf}
+use Rattle.dom_base.proofs.Std.{ℕ, not, sym, ap, ◌∙◌}
+use Rattle.dom_model.proofs.Model.{is_empty}
+use Rattle.dom_observers.specs.Definitions.{TablesOf}
 use Rattle.dom_observers.proofs.Lookups.{had, had-none}
 use Rattle.dom_observers.proofs.observers.Observers.is_watched.Goals as goal
 

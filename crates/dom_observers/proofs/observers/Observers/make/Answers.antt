@@ -1,19 +1,8 @@
-use Rattle.std.proofs.Common.{◌≡◌, ℕ, true, false, length, sym, ap, ◌∙◌, subst}
-use Rattle.std.specs.Prelude.{IfOk, is_some, Result, Ok, Err, ◌↔◌}
-use Rattle.std.specs.Result.{IsErrAnd}
-use Rattle.dom_base.specs.declared.Fault.{Fault}
-use Rattle.std.specs.Map.{lookup}
-use Rattle.std.proofs.lemmas.Bool.{true≢false}
-use Rattle.std.proofs.lemmas.Result.{on_ok_weaker, on_err_weaker}
-use Rattle.dom_base.specs.declared.Fault.TheVariants.{Refused, Memory}
-use Rattle.dom_base.specs.declared.Refusal.TheVariants.{Limit}
-use Rattle.dom_model.specs.Names.{owner_eq}
-use Rattle.dom_model.specs.CommandRefusals.{past_limit}
+use Rattle.dom_base.proofs.Std.{◌≡◌, ℕ, true, false, length, sym, ap, ◌∙◌, subst, IfOk, is_some, Result, Ok, Err, ◌↔◌, IsErrAnd, lookup, true≢false}
+use Rattle.dom_base.proofs.Std.{on_ok_weaker, on_err_weaker}
+use Rattle.dom_model.proofs.Model.{Fault, Refused, Memory, Limit, owner_eq, past_limit}
 use Rattle.dom_observers.specs.declared.observers.Observers.TheInside.{Inside}
-use Rattle.dom_observers.specs.Tables.{TablesOf, with_observer}
-use Rattle.dom_observers.specs.TablesByOwner.{TablesByOwner}
-use Rattle.dom_observers.specs.Owners.{tables_of, all_tables, ChangesTables, KeepsTables}
-use Rattle.dom_observers.specs.TableView.{table_of}
+use Rattle.dom_observers.specs.Definitions.{TablesOf, with_observer, TablesByOwner, tables_of, all_tables, ChangesTables, KeepsTables, table_of}
 use Rattle.dom_observers.proofs.Lookups.{rewritten, had, changes-kept, changes-before, lookup-get}
 use Rattle.dom_observers.proofs.observers.Observers.make.Goals as goal
 

@@ -1,11 +1,6 @@
-use Rattle.std.proofs.Common.{◌≡◌, ℕ, refl, sym, ap, ◌∙◌, subst}
-use Rattle.std.specs.Prelude.{IfOk, map}
-use Rattle.std.proofs.lemmas.Result.{on_ok_weaker}
+use Rattle.dom_base.proofs.Std.{◌≡◌, ℕ, refl, sym, ap, ◌∙◌, subst, IfOk, map, on_ok_weaker}
 use Rattle.dom_observers.specs.declared.observers.Observers.TheInside.{Inside}
-use Rattle.dom_observers.specs.Tables.{TablesOf, notices, notified}
-use Rattle.dom_observers.specs.Owners.{tables_of, all_tables, ChangesTables}
-use Rattle.dom_observers.specs.Views.{notice_of}
-use Rattle.dom_observers.specs.TableView.{table_of}
+use Rattle.dom_observers.specs.Definitions.{TablesOf, notices, notified, tables_of, all_tables, ChangesTables, notice_of, table_of}
 use Rattle.dom_observers.proofs.Lookups.{rewritten, had, had-none, untouched-changes}
 use Rattle.dom_observers.proofs.observers.Observers.notify.Goals as goal
 

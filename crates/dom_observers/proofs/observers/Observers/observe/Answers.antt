@@ -1,15 +1,7 @@
-use Rattle.std.proofs.Common.{◌≡◌, ℕ, true, false, ltb, length, nat_eq, refl, sym, ap, ◌∙◌, subst}
-use Rattle.std.specs.Prelude.{◌↔◌, Err}
-use Rattle.std.proofs.lemmas.Bool.{true≢false}
-use Rattle.dom_base.specs.declared.Fault.TheVariants.{Refused}
-use Rattle.dom_base.specs.declared.Refusal.TheVariants.{Unknown, TypeFault}
-use Rattle.dom_model.specs.Observers.{options_of, asks_for_nothing}
-use Rattle.std.proofs.lemmas.Result.{on_ok_weaker, on_err_weaker}
+use Rattle.dom_base.proofs.Std.{◌≡◌, ℕ, true, false, ltb, length, nat_eq, refl, sym, ap, ◌∙◌, subst, ◌↔◌, Err, true≢false, on_ok_weaker, on_err_weaker}
+use Rattle.dom_model.proofs.Model.{Refused, Unknown, TypeFault, options_of, asks_for_nothing}
 use Rattle.dom_observers.specs.declared.observers.Observers.TheInside.{Inside}
-use Rattle.dom_observers.specs.Tables.{TablesOf, observing}
-use Rattle.dom_observers.specs.Owners.{tables_of, all_tables, ChangesTables, KeepsTables}
-use Rattle.dom_observers.specs.Views.{words_of}
-use Rattle.dom_observers.specs.TableView.{table_of}
+use Rattle.dom_observers.specs.Definitions.{TablesOf, observing, tables_of, all_tables, ChangesTables, KeepsTables, words_of, table_of}
 use Rattle.dom_observers.proofs.Lookups.{rewritten, had, had-none, changes-kept, untouched, below_none}
 use Rattle.dom_observers.proofs.observers.Observers.observe.Goals as goal
 

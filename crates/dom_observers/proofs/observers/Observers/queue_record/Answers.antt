@@ -1,17 +1,8 @@
-use Rattle.std.proofs.Common.{◌≡◌, ℕ, false, nat_eq, List, [], refl, sym, ap, subst}
-use Rattle.std.specs.Prelude.{IfOk}
-use Rattle.std.proofs.lemmas.Result.{on_ok_weaker}
-use Rattle.dom_base.specs.declared.Owner.{Owner}
-use Rattle.dom_base.specs.declared.NodeName.{NodeName}
-use Rattle.dom_model.specs.Names.{is_empty}
-use Rattle.dom_model.specs.Observers.{target_of}
-use Rattle.dom_tree.specs.Forest.{name_at}
+use Rattle.dom_base.proofs.Std.{◌≡◌, ℕ, false, nat_eq, List, [], refl, sym, ap, subst, IfOk, on_ok_weaker}
+use Rattle.dom_model.proofs.Model.{Owner, NodeName, is_empty, target_of}
+use Rattle.dom_tree.specs.Definitions.{name_at}
 use Rattle.dom_observers.specs.declared.observers.Observers.TheInside.{Inside}
-use Rattle.dom_observers.specs.Tables.{TablesOf, no_tables, told, is_taken}
-use Rattle.dom_observers.specs.Owners.{tables_of, all_tables, ChangesTables}
-use Rattle.dom_observers.specs.Paths.{path_keys}
-use Rattle.dom_observers.specs.Views.{change_of}
-use Rattle.dom_observers.specs.TableView.{table_of}
+use Rattle.dom_observers.specs.Definitions.{TablesOf, no_tables, told, is_taken, tables_of, all_tables, ChangesTables, path_keys, change_of, table_of}
 use Rattle.dom_observers.proofs.Lookups.{rewritten, had, had-none, untouched-changes}
 use Rattle.dom_observers.proofs.Tables.{not_taken, not_told}
 use Rattle.dom_observers.proofs.Gathering.{interested-none}

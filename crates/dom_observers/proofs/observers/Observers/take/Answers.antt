@@ -1,7 +1,6 @@
-use Rattle.std.proofs.Common.{ℕ, refl, sym, ap, ◌∙◌}
-use Rattle.std.specs.Prelude.{slice_get}
+use Rattle.dom_base.proofs.Std.{ℕ, refl, sym, ap, ◌∙◌, slice_get}
 use Rattle.dom_observers.specs.declared.observers.Observers.TheInside.{Inside}
-use Rattle.dom_observers.specs.Tables.{TablesOf, emptied}
+use Rattle.dom_observers.specs.Definitions.{TablesOf, emptied}
 use Rattle.dom_observers.proofs.Lookups.{rewritten, had, had-none, untouched-changes}
 use Rattle.dom_observers.proofs.observers.Observers.take.Goals as goal
 

@@ -1,12 +1,8 @@
-use Rattle.std.proofs.Common.{◌≡◌, nat_eq, [], refl, sym, subst}
-use Rattle.std.proofs.lemmas.Result.{on_ok_weaker}
-use Rattle.dom_base.specs.declared.NodeName.{NodeName}
-use Rattle.dom_tree.specs.Forest.{name_at}
+use Rattle.dom_base.proofs.Std.{◌≡◌, nat_eq, [], refl, sym, subst, on_ok_weaker}
+use Rattle.dom_model.proofs.Model.{NodeName}
+use Rattle.dom_tree.specs.Definitions.{name_at}
 use Rattle.dom_observers.specs.declared.observers.Observers.TheInside.{Inside}
-use Rattle.dom_observers.specs.Tables.{no_tables, left}
-use Rattle.dom_observers.specs.Owners.{tables_of, all_tables, ChangesTables}
-use Rattle.dom_observers.specs.Paths.{path_keys}
-use Rattle.dom_observers.specs.TableView.{table_of}
+use Rattle.dom_observers.specs.Definitions.{no_tables, left, tables_of, all_tables, ChangesTables, path_keys, table_of}
 use Rattle.dom_observers.proofs.Lookups.{rewritten, untouched-changes}
 use Rattle.dom_observers.proofs.Tables.{none_left}
 use Rattle.dom_observers.proofs.Gathering.{copies-none}

@@ -1,9 +1,5 @@
-use Rattle.std.proofs.Common.{true, map, sym, ap, ◌∙◌, rules, tests}
-use Rattle.std.specs.Prelude.{string_bytes}
-use Rattle.std.specs.Option.{option_map, option_map_or}
-use Rattle.std.proofs.lemmas.Iterator.{YieldsList-from_slice}
-use Rattle.std.proofs.lemmas.Iterator.Search.{any_from_yields_List}
-use Rattle.dom_model.specs.Names.{text_eq, is_in}
+use Rattle.dom_base.proofs.Std.{true, map, sym, ap, ◌∙◌, rules, tests, string_bytes, option_map, option_map_or, YieldsList-from_slice, any_from_yields_List}
+use Rattle.dom_model.proofs.Model.{text_eq, is_in}
 use Rattle.dom_observers.proofs.Folds.{list_any_of_map}
 use Rattle.dom_observers.proofs.options.Options.let_pass.Goals as goal
 

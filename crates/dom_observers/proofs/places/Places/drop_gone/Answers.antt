@@ -1,8 +1,5 @@
-use Rattle.std.proofs.Common.{ℕ, Bool, sym, subst, rules, tests}
-use Rattle.std.specs.Prelude.{is_some}
-use Rattle.std.proofs.lemmas.Fn.{filter_same}
-use Rattle.dom_observers.specs.Views.{there_in}
-use Rattle.dom_observers.specs.Watching.{places_in, AreThinned}
+use Rattle.dom_base.proofs.Std.{ℕ, Bool, sym, subst, rules, tests, is_some, filter_same}
+use Rattle.dom_observers.specs.Definitions.{there_in, places_in, AreThinned}
 use Rattle.dom_observers.proofs.Thinning.{thinned-all}
 use Rattle.dom_observers.proofs.places.Places.drop_gone.Goals as goal
 

@@ -1,11 +1,8 @@
-use Rattle.std.proofs.Common.{◌++◌, ◌∷◌, [], false, nat_eq, refl, sym, ap, ◌∙◌, subst}
-use Rattle.std.specs.List.{list_any}
-use Rattle.std.proofs.lemmas.List.Elements.{filter_map-append}
-use Rattle.dom_model.specs.Observers.{is_asked_for}
+use Rattle.dom_base.proofs.Std.{◌++◌, ◌∷◌, [], false, nat_eq, refl, sym, ap, ◌∙◌, subst, list_any, filter_map-append}
+use Rattle.dom_model.proofs.Model.{is_asked_for}
 use Rattle.dom_observers.specs.declared.registered.Registered.{Registered}
 use Rattle.dom_observers.specs.declared.registered.Source.TheVariants.{AskedFor}
-use Rattle.dom_observers.specs.Views.{words_of, registration_of, unless_gone, those_there}
-use Rattle.dom_observers.specs.Watching.{AreKept}
+use Rattle.dom_observers.specs.Definitions.{words_of, registration_of, unless_gone, those_there, AreKept}
 use Rattle.dom_observers.proofs.Keeping.{kept-append}
 use Rattle.dom_observers.proofs.Once.{once-new}
 use Rattle.dom_observers.proofs.registrations.Registrations.add.Goals as goal

@@ -1,9 +1,6 @@
-use Rattle.std.proofs.Common.{◌≡◌, ℕ, List, ◌++◌, nat_eq, filter, map, ap, ◌∙◌, subst, sym}
-use Rattle.std.proofs.lemmas.List.Elements.{filter_map-append}
-use Rattle.dom_model.specs.Observers.{Registration, registrations_on, transients_for}
-use Rattle.dom_observers.specs.Paths.{path_keys}
-use Rattle.dom_observers.specs.Views.{registration_of, unless_gone, those_there}
-use Rattle.dom_observers.specs.Watching.{AreNoted, AreKept}
+use Rattle.dom_base.proofs.Std.{◌≡◌, ℕ, List, ◌++◌, nat_eq, filter, map, ap, ◌∙◌, subst, sym, filter_map-append}
+use Rattle.dom_model.proofs.Model.{Registration, registrations_on, transients_for}
+use Rattle.dom_observers.specs.Definitions.{path_keys, registration_of, unless_gone, those_there, AreNoted, AreKept}
 use Rattle.dom_observers.proofs.Keeping.{kept-append}
 use Rattle.dom_observers.proofs.Once.{AreOnce, once-copies}
 use Rattle.dom_observers.proofs.Watching.{noted-now, all-now, copied}

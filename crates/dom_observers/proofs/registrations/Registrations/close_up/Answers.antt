@@ -1,8 +1,6 @@
-use Rattle.std.proofs.Common.{◌≡◌, ◌&&◌, not, List, length, filter, sym, ap, ◌∙◌, subst, arith, rules, tests}
-use Rattle.std.proofs.lemmas.Fn.{filter_same}
+use Rattle.dom_base.proofs.Std.{◌≡◌, ◌&&◌, not, List, length, filter, sym, ap, ◌∙◌, subst, arith, rules, tests, filter_same}
 use Rattle.dom_observers.specs.declared.registered.Registered.{Registered}
-use Rattle.dom_observers.specs.Removals.{goes}
-use Rattle.dom_observers.specs.Views.{registration_of, those_there}
+use Rattle.dom_observers.specs.Definitions.{goes, registration_of, those_there}
 use Rattle.dom_observers.proofs.Leaving.{there-kept, kept-there}
 use Rattle.dom_observers.proofs.Once.{AreOnce, once-filter}
 use Rattle.dom_observers.proofs.registrations.Registrations.close_up.Goals as goal

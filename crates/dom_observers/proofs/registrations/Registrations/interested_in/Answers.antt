@@ -1,13 +1,7 @@
-use Rattle.std.proofs.Common.{◌≡◌, ℕ, nat_eq, cond, ap, ◌∙◌}
-use Rattle.std.specs.List.{fold, filter, list_any}
-use Rattle.std.proofs.lemmas.Result.{IfOk-weaker}
-use Rattle.dom_model.specs.Observers.{Registration, interested, record_for, target_of, without_old}
+use Rattle.dom_base.proofs.Std.{◌≡◌, ℕ, nat_eq, cond, ap, ◌∙◌, fold, filter, list_any, IfOk-weaker}
+use Rattle.dom_model.proofs.Model.{Registration, interested, record_for, target_of, without_old}
 use Rattle.dom_observers.specs.declared.interested.InterestedObservers.{InterestedObservers}
-use Rattle.dom_observers.specs.InterestedObservers.{found_of, record_of}
-use Rattle.dom_observers.specs.Paths.{path_keys}
-use Rattle.dom_observers.specs.Taking.{Found, none_found, found_by, found_at, picked}
-use Rattle.dom_observers.specs.Views.{change_of}
-use Rattle.dom_observers.specs.Watching.{places_at}
+use Rattle.dom_observers.specs.Definitions.{found_of, record_of, path_keys, Found, none_found, found_by, found_at, picked, change_of, places_at}
 use Rattle.dom_observers.proofs.Gathering.{walk-observers, walk-with_old}
 use Rattle.dom_observers.proofs.Watching.{noted-now, all-now, picked-on, found-on}
 use Rattle.dom_observers.proofs.registrations.Registrations.interested_in.Goals.{After-of}

@@ -1,6 +1,6 @@
-use Rattle.std.proofs.Common.{◌≡◌, List, length, refl, sym, subst, arith}
+use Rattle.dom_base.proofs.Std.{◌≡◌, List, length, refl, sym, subst, arith}
 use Rattle.dom_observers.specs.declared.registered.Registered.{Registered}
-use Rattle.dom_observers.specs.Views.{those_there}
+use Rattle.dom_observers.specs.Definitions.{those_there}
 use Rattle.dom_observers.proofs.Once.{AreOnce}
 use Rattle.dom_observers.proofs.registrations.Registrations.new.Goals as goal
 

@@ -1,9 +1,7 @@
-use Rattle.std.proofs.Common.{◌≡◌, true, false, nat_eq, refl, sym, ap, ◌∙◌, subst}
-use Rattle.std.specs.Option.{option_map_or}
-use Rattle.dom_model.specs.Observers.{is_asked_for, with_registration}
+use Rattle.dom_base.proofs.Std.{◌≡◌, true, false, nat_eq, refl, sym, ap, ◌∙◌, subst, option_map_or}
+use Rattle.dom_model.proofs.Model.{is_asked_for, with_registration}
 use Rattle.dom_observers.specs.declared.options.Options.{Options}
-use Rattle.dom_observers.specs.Views.{words_of, those_there, there_in}
-use Rattle.dom_observers.specs.Watching.{AreNoted, IsPlaceOf}
+use Rattle.dom_observers.specs.Definitions.{words_of, those_there, there_in, AreNoted, IsPlaceOf}
 use Rattle.dom_observers.proofs.Leaving.{passing-read}
 use Rattle.dom_observers.proofs.Renewing.{IsRenewal, renewed, kept-renewed}
 use Rattle.dom_observers.proofs.Watching.{noted-now}

@@ -1,11 +1,7 @@
-use Rattle.std.proofs.Common.{◌≡◌, ℕ, ◌+◌, not, false, filter, Result, Ok, Err, sym, ap, ◌∙◌}
-use Rattle.std.specs.Prelude.{OnOk, is_err}
-use Rattle.std.proofs.lemmas.Bool.{true≢false}
-use Rattle.dom_model.specs.Observers.{Registration}
-use Rattle.dom_observers.specs.Removals.{goes}
+use Rattle.dom_base.proofs.Std.{◌≡◌, ℕ, ◌+◌, not, false, filter, Result, Ok, Err, sym, ap, ◌∙◌, OnOk, is_err, true≢false}
+use Rattle.dom_model.proofs.Model.{Registration}
+use Rattle.dom_observers.specs.Definitions.{goes, those_there, AreKept}
 use Rattle.dom_observers.proofs.Keeping.{removed-all, removed-noted, removed-kept}
-use Rattle.dom_observers.specs.Views.{those_there}
-use Rattle.dom_observers.specs.Watching.{AreKept}
 use Rattle.dom_observers.proofs.Watching.{noted-now, all-now}
 use Rattle.dom_observers.proofs.registrations.Registrations.remove.Goals.{After-drop_gone}
 use Rattle.dom_observers.proofs.registrations.Registrations.remove.Goals as goal

@@ -1,8 +1,5 @@
-use Rattle.std.proofs.Common.{◌≡◌, true, false, sym, ◌∙◌, subst, arith}
-use Rattle.std.specs.Option.{option_map_or}
-use Rattle.std.proofs.lemmas.Option.{slice_get_within}
-use Rattle.dom_observers.specs.Removals.{goes}
-use Rattle.dom_observers.specs.Views.{there_in}
+use Rattle.dom_base.proofs.Std.{◌≡◌, true, false, sym, ◌∙◌, subst, arith, option_map_or, slice_get_within}
+use Rattle.dom_observers.specs.Definitions.{goes, there_in}
 use Rattle.dom_observers.proofs.Leaving.{left-one, left-none, passing, passing-read}
 use Rattle.dom_observers.proofs.removal.Removal.take_at.Goals as goal
 

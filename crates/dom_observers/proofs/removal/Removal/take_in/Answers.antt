@@ -1,6 +1,5 @@
-use Rattle.std.proofs.Common.{◌+◌, sym, subst, arith}
-use Rattle.std.proofs.lemmas.List.{take_all, take_more}
-use Rattle.dom_observers.specs.Removals.{HaveLeft}
+use Rattle.dom_base.proofs.Std.{◌+◌, sym, subst, arith, take_all, take_more}
+use Rattle.dom_observers.specs.Definitions.{HaveLeft}
 use Rattle.dom_observers.proofs.Leaving.{left-first, left-more, there-fewer}
 use Rattle.dom_observers.proofs.removal.Removal.take_in.Goals as goal
 

@@ -1,5 +1,5 @@
-use Rattle.std.proofs.Common.{take}
-use Rattle.dom_observers.specs.Removals.{HaveLeft}
+use Rattle.dom_base.proofs.Std.{take}
+use Rattle.dom_observers.specs.Definitions.{HaveLeft}
 use Rattle.dom_observers.proofs.removal.Removal.take_in.Given as goal
 
 abbrev pub invariant-loop-place : goal.invariant-loop-place

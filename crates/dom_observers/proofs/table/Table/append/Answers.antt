@@ -1,12 +1,7 @@
-use Rattle.std.proofs.Common.{◌≡◌, ℕ, ◌≤◌, ◌++◌, ◌∷◌, [], inl, inr, List, length, map, set, refl, sym, ap, ◌∙◌, arith}
-use Rattle.std.specs.Prelude.{unwrap_or, option_map}
-use Rattle.std.proofs.lemmas.Option.{slice_get-map, slice_get_read}
-use Rattle.std.proofs.lemmas.Bool.{cases_lt, false≢true}
-use Rattle.std.proofs.lemmas.List.{set_past, map-set, map_push, length-map}
-use Rattle.dom_model.specs.Output.{Change}
-use Rattle.dom_observers.specs.Tables.{TablesOf, queue_at}
-use Rattle.dom_observers.specs.Views.{change_of}
-use Rattle.dom_observers.specs.TableView.{table_of}
+use Rattle.dom_base.proofs.Std.{◌≡◌, ℕ, ◌≤◌, ◌++◌, ◌∷◌, [], inl, inr, List, length, map, set, refl, sym, ap, ◌∙◌, arith, unwrap_or, option_map, slice_get-map}
+use Rattle.dom_base.proofs.Std.{slice_get_read, cases_lt, false≢true, set_past, map-set, map_push, length-map}
+use Rattle.dom_model.proofs.Model.{Change}
+use Rattle.dom_observers.specs.Definitions.{TablesOf, queue_at, change_of, table_of}
 use Rattle.dom_observers.proofs.table.Table.append.Goals as goal
 
 pub returns-in_ok-push-in-Some : goal.returns-in_ok-push-in-Some

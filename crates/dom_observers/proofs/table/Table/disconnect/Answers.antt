@@ -1,11 +1,6 @@
-use Rattle.std.proofs.Common.{ℕ, List, [], map, sym, ap, ◌∙◌}
-use Rattle.std.specs.Prelude.{slice_get, is_some}
-use Rattle.std.proofs.lemmas.Bool.{lt-ltb}
-use Rattle.dom_model.specs.Observers.{Registration, without_observer}
-use Rattle.dom_model.specs.Output.{Change}
-use Rattle.dom_observers.specs.Tables.{TablesOf}
-use Rattle.dom_observers.specs.Views.{change_of}
-use Rattle.dom_observers.specs.TableView.{table_of}
+use Rattle.dom_base.proofs.Std.{ℕ, List, [], map, sym, ap, ◌∙◌, slice_get, is_some, lt-ltb}
+use Rattle.dom_model.proofs.Model.{Registration, without_observer, Change}
+use Rattle.dom_observers.specs.Definitions.{TablesOf, change_of, table_of}
 use Rattle.dom_observers.proofs.Tables.{set-none, none_from, there_from, is_some-map}
 use Rattle.dom_observers.proofs.table.Table.disconnect.Goals as goal
 

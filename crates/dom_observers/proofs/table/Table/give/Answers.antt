@@ -1,7 +1,6 @@
-use Rattle.std.proofs.Common.{ℕ, List, nat_eq, ap, ◌∙◌}
-use Rattle.dom_model.specs.Names.{append_once}
-use Rattle.dom_observers.specs.Tables.{TablesOf}
-use Rattle.dom_observers.specs.TableView.{table_of}
+use Rattle.dom_base.proofs.Std.{ℕ, List, nat_eq, ap, ◌∙◌}
+use Rattle.dom_model.proofs.Model.{append_once}
+use Rattle.dom_observers.specs.Definitions.{TablesOf, table_of}
 use Rattle.dom_observers.proofs.table.Table.give.Goals as goal
 
 pub returns : goal.returns

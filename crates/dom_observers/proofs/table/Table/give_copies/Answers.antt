@@ -1,12 +1,6 @@
-use Rattle.std.proofs.Common.{ℕ, get_or, cond, sym, ap, ◌∙◌, arith}
-use Rattle.std.specs.List.{fold}
-use Rattle.std.proofs.lemmas.List.{take_all}
-use Rattle.std.proofs.lemmas.List.Sums.{fold_more}
-use Rattle.dom_model.specs.Observers.{without_old}
-use Rattle.dom_observers.specs.Tables.{TablesOf, given}
-use Rattle.dom_observers.specs.InterestedObservers.{record_of}
-use Rattle.dom_observers.specs.Views.{change_of}
-use Rattle.dom_observers.specs.TableView.{table_of}
+use Rattle.dom_base.proofs.Std.{ℕ, get_or, cond, sym, ap, ◌∙◌, arith, fold, take_all, fold_more}
+use Rattle.dom_model.proofs.Model.{without_old}
+use Rattle.dom_observers.specs.Definitions.{TablesOf, given, record_of, change_of, table_of}
 use Rattle.dom_observers.proofs.table.Table.give_copies.Goals as goal
 
 pub loop-observer-preserved : goal.loop-observer-preserved

@@ -1,9 +1,5 @@
-use Rattle.std.proofs.Common.{◌≡◌, take}
-use Rattle.std.specs.List.{fold}
-use Rattle.dom_observers.specs.Tables.{given}
-use Rattle.dom_observers.specs.Views.{change_of}
-use Rattle.dom_observers.specs.TableView.{table_of}
-use Rattle.dom_observers.specs.InterestedObservers.{record_of}
+use Rattle.dom_base.proofs.Std.{◌≡◌, take, fold}
+use Rattle.dom_observers.specs.Definitions.{given, change_of, table_of, record_of}
 use Rattle.dom_observers.proofs.table.Table.give_copies.Given as goal
 
 abbrev pub invariant-loop-observer : goal.invariant-loop-observer

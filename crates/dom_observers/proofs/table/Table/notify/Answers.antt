@@ -1,12 +1,7 @@
-use Rattle.std.proofs.Common.{◌≡◌, ℕ, ◌++◌, ◌∷◌, [], List, take, map, set, get_or, eqb, sym, ap, ◌∙◌, subst, refl, arith}
-use Rattle.std.specs.List.{fold, IsDistinct}
-use Rattle.std.proofs.lemmas.List.{map_push, map_more, take_all}
-use Rattle.std.proofs.lemmas.List.Sums.{fold_more}
-use Rattle.dom_model.specs.Output.{Change}
-use Rattle.dom_model.specs.Observers.{Registration, without_transients}
-use Rattle.dom_observers.specs.Tables.{TablesOf, queue_at}
-use Rattle.dom_observers.specs.Views.{change_of, notice_of}
-use Rattle.dom_observers.specs.TableView.{table_of}
+use Rattle.dom_base.proofs.Std.{◌≡◌, ℕ, ◌++◌, ◌∷◌, [], List, take, map, set, get_or, eqb, sym, ap, ◌∙◌, subst, refl, arith, fold, IsDistinct, map_push}
+use Rattle.dom_base.proofs.Std.{map_more, take_all, fold_more}
+use Rattle.dom_model.proofs.Model.{Change, Registration, without_transients}
+use Rattle.dom_observers.specs.Definitions.{TablesOf, queue_at, change_of, notice_of, table_of}
 use Rattle.dom_observers.proofs.Tables.{queue_at-emptied, not_before, unwrapped}
 use Rattle.dom_observers.proofs.table.Table.notify.Goals as goal
 

@@ -1,8 +1,5 @@
-use Rattle.std.proofs.Common.{◌≡◌, take, map, [], set}
-use Rattle.std.specs.List.{fold}
-use Rattle.dom_observers.specs.Tables.{queue_at}
-use Rattle.dom_observers.specs.Views.{notice_of}
-use Rattle.dom_observers.specs.TableView.{table_of}
+use Rattle.dom_base.proofs.Std.{◌≡◌, take, map, [], set, fold}
+use Rattle.dom_observers.specs.Definitions.{queue_at, notice_of, table_of}
 use Rattle.dom_observers.proofs.table.Table.notify.Given as goal
 
 abbrev pub invariant-loop-observer : goal.invariant-loop-observer

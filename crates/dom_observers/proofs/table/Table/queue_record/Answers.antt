@@ -1,10 +1,6 @@
-use Rattle.std.proofs.Common.{◌≡◌, ℕ, List, fold, ap, ◌∙◌, subst, OnOk}
-use Rattle.dom_model.specs.Observers.{Registration, target_of}
-use Rattle.dom_observers.specs.InterestedObservers.{record_of}
-use Rattle.dom_observers.specs.Paths.{path_keys}
-use Rattle.dom_observers.specs.Tables.{TablesOf, given}
-use Rattle.dom_observers.specs.TableView.{table_of}
-use Rattle.dom_observers.specs.Views.{change_of}
+use Rattle.dom_base.proofs.Std.{◌≡◌, ℕ, List, fold, ap, ◌∙◌, subst, OnOk}
+use Rattle.dom_model.proofs.Model.{Registration, target_of}
+use Rattle.dom_observers.specs.Definitions.{record_of, path_keys, TablesOf, given, table_of, change_of}
 use Rattle.dom_observers.proofs.Tables.{told-fold}
 use Rattle.dom_observers.proofs.table.Table.queue_record.Goals as goal
 

@@ -1,9 +1,6 @@
-use Rattle.std.proofs.Common.{ℕ, List, map, set, ap, ◌∙◌}
-use Rattle.std.proofs.lemmas.List.{map-set}
-use Rattle.dom_model.specs.Output.{Change}
-use Rattle.dom_observers.specs.Tables.{TablesOf}
-use Rattle.dom_observers.specs.Views.{change_of}
-use Rattle.dom_observers.specs.TableView.{table_of}
+use Rattle.dom_base.proofs.Std.{ℕ, List, map, set, ap, ◌∙◌, map-set}
+use Rattle.dom_model.proofs.Model.{Change}
+use Rattle.dom_observers.specs.Definitions.{TablesOf, change_of, table_of}
 use Rattle.dom_observers.proofs.table.Table.take.Goals as goal
 
 pub returns-clause-tables : goal.returns-clause-tables

@@ -1,4 +1,4 @@
-use Rattle.std.proofs.Common.{refl}
+use Rattle.dom_base.proofs.Std.{refl}
 use Rattle.dom_observers.proofs.Watching.{noted-thinned}
 use Rattle.dom_observers.proofs.watched.Watched.drop_gone.Goals as goal
 

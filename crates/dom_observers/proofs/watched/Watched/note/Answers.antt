@@ -1,10 +1,8 @@
-use Rattle.std.proofs.Common.{◌≡◌, ◌+◌, ◌&&◌, ◌++◌, ◌∷◌, [], true, eqb, cond, map, get_or, refl, sym, ap, ◌∙◌, subst, arith}
-use Rattle.std.proofs.lemmas.List.{get_or-map}
-use Rattle.dom_model.specs.Names.{is_in}
+use Rattle.dom_base.proofs.Std.{◌≡◌, ◌+◌, ◌&&◌, ◌++◌, ◌∷◌, [], true, eqb, cond, map, get_or, refl, sym, ap, ◌∙◌, subst, arith, get_or-map}
+use Rattle.dom_model.proofs.Model.{is_in}
 use Rattle.dom_observers.specs.declared.options.Options.{Options}
 use Rattle.dom_observers.specs.declared.owned.Owned.{Owned}
-use Rattle.dom_observers.specs.Views.{registration_of}
-use Rattle.dom_observers.specs.Watching.{places_at, is_marked, among}
+use Rattle.dom_observers.specs.Definitions.{registration_of, places_at, is_marked, among}
 use Rattle.dom_observers.proofs.Watching.{noted-next}
 use Rattle.dom_observers.proofs.watched.Watched.note.Goals as goal
 

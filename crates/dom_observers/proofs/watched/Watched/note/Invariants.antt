@@ -1,5 +1,5 @@
-use Rattle.std.proofs.Common.{◌≡◌}
-use Rattle.dom_observers.specs.Watching.{AreNoted}
+use Rattle.dom_base.proofs.Std.{◌≡◌}
+use Rattle.dom_observers.specs.Definitions.{AreNoted}
 use Rattle.dom_observers.proofs.watched.Watched.note.Given as goal
 
 -- the next place is the first that is not noted

@@ -1,13 +1,9 @@
-use Rattle.std.proofs.Common.{◌<◌, length, refl, sym, ap, ◌∙◌}
-use Rattle.std.specs.Prelude.{nat_lt}
-use Rattle.dom_model.specs.Tree.{node_in}
-use Rattle.dom_model.specs.World.{part_of, component_made}
-use Rattle.dom_model.proofs.OwnerLaws.{component_made-no_page}
-use Rattle.dom_tree.specs.Forest.{name_at}
-use Rattle.dom_traversal.specs.Cursors.{cursors_of}
-use Rattle.dom_observers.specs.Owners.{tables_of as observers_of}
-use Rattle.dom_parts.specs.AllTables.{tables_with_trees}
-use Rattle.dom_parts.specs.Doc.{all_tables, owner_in}
+use Rattle.dom_base.proofs.Std.{◌<◌, length, refl, sym, ap, ◌∙◌, nat_lt}
+use Rattle.dom_model.proofs.Model.{node_in, part_of, component_made, component_made-no_page}
+use Rattle.dom_tree.specs.Definitions.{name_at}
+use Rattle.dom_traversal.specs.Definitions.{cursors_of}
+use Rattle.dom_observers.specs.Definitions.{tables_of as observers_of}
+use Rattle.dom_parts.specs.Definitions.{tables_with_trees, all_tables, owner_in}
 use Rattle.dom_parts.proofs.HeldNodes.{given_up}
 use Rattle.dom_parts.proofs.Attachable.{accepted, next_is_for, new_owner, held_then, names_then, world_then}
 use Rattle.dom_parts.proofs.OwnersOfNodes.{nodes_there}

@@ -1,12 +1,8 @@
-use Rattle.std.proofs.Common.{◌≡◌, ℕ, ◌<◌, ◌≤◌, ◌^◌, List, length, refl, sym, ap, subst, ◌∙◌, arith, rules, true≢false}
-use Rattle.dom_model.specs.Names.{name_eq}
-use Rattle.dom_model.specs.Tree.{node_in}
-use Rattle.dom_model.specs.TreeChanges.{change_node, replaced, with_text, with_data_replaced}
+use Rattle.dom_base.proofs.Std.{◌≡◌, ℕ, ◌<◌, ◌≤◌, ◌^◌, List, length, refl, sym, ap, subst, ◌∙◌, arith, rules, true≢false}
+use Rattle.dom_model.proofs.Model.{name_eq, node_in, change_node, replaced, with_text, with_data_replaced, replace_data}
 use Rattle.dom_slots.proofs.Recast.{keeps_if, slots-recast}
-use Rattle.dom_tree.specs.Forest.{name_at}
-use Rattle.dom_parts.specs.Doc.{IsDoc, named_trees, all_tables, state_from, name_in, owner_in, stepped}
-use Rattle.dom_model.specs.Steps.{replace_data}
-use Rattle.dom_parts.specs.AllTables.{with_live}
+use Rattle.dom_tree.specs.Definitions.{name_at}
+use Rattle.dom_parts.specs.Definitions.{IsDoc, named_trees, all_tables, state_from, name_in, owner_in, stepped, with_live}
 use Rattle.dom_parts.proofs.RangedStates.{data_asks, data_done}
 use Rattle.dom_parts.proofs.Shown.{shown, known}
 use Rattle.dom_parts.proofs.Spliced.{data_changed}

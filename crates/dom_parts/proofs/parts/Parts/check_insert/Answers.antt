@@ -1,9 +1,8 @@
-use Rattle.std.proofs.Common.{ap, ◌∙◌, subst, option_map, ◌≡◌}
-use Rattle.std.specs.Option.{ForSome}
-use Rattle.dom_model.specs.Validity.{pre_insert_refusal}
-use Rattle.dom_tree.specs.Forest.{name_at, err_of}
+use Rattle.dom_base.proofs.Std.{ap, ◌∙◌, subst, option_map, ◌≡◌, ForSome}
+use Rattle.dom_model.proofs.Model.{pre_insert_refusal}
+use Rattle.dom_tree.specs.Definitions.{name_at, err_of}
 use Rattle.dom_tree.proofs.Owned.{insertion_own}
-use Rattle.dom_parts.specs.Doc.{name_in, owner_in, trees_in}
+use Rattle.dom_parts.specs.Definitions.{name_in, owner_in, trees_in}
 use Rattle.dom_parts.proofs.Shown.{known, own_in_part, of_owner}
 use Rattle.dom_parts.proofs.parts.Parts.check_insert.Goals as goal
 

@@ -1,6 +1,5 @@
-use Rattle.std.proofs.Common.{ap}
-use Rattle.dom_model.specs.Names.{first_of}
-use Rattle.dom_model.specs.Tree.{children_of}
+use Rattle.dom_base.proofs.Std.{ap}
+use Rattle.dom_model.proofs.Model.{first_of, children_of}
 use Rattle.dom_parts.proofs.OwnNodes.{first_near}
 use Rattle.dom_parts.proofs.Shown.{read_from}
 use Rattle.dom_parts.proofs.parts.Parts.first.Goals as goal

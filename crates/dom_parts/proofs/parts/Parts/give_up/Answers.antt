@@ -1,6 +1,6 @@
-use Rattle.dom_traversal.specs.Cursors.{cursors_of}
-use Rattle.dom_observers.specs.Owners.{tables_of as observers_of}
-use Rattle.dom_parts.specs.AllTables.{tables_with_trees}
+use Rattle.dom_traversal.specs.Definitions.{cursors_of}
+use Rattle.dom_observers.specs.Definitions.{tables_of as observers_of}
+use Rattle.dom_parts.specs.Definitions.{tables_with_trees}
 use Rattle.dom_parts.proofs.HeldNodes.{given_up, nothing_shown}
 use Rattle.dom_parts.proofs.parts.Parts.give_up.Goals as goal
 

@@ -1,6 +1,5 @@
-use Rattle.std.proofs.Common.{Option, Some, None, option_map, ap, ◌∙◌, ◌≡◌, refl}
-use Rattle.std.specs.Prelude.{is_some}
-use Rattle.dom_model.specs.Tree.{attribute_value, node_in}
+use Rattle.dom_base.proofs.Std.{Option, Some, None, option_map, ap, ◌∙◌, ◌≡◌, refl, is_some}
+use Rattle.dom_model.proofs.Model.{attribute_value, node_in}
 use Rattle.dom_parts.proofs.Shown.{shown}
 use Rattle.dom_parts.proofs.parts.Parts.has_attr.Goals as goal
 

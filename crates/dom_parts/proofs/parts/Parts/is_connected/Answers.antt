@@ -1,12 +1,8 @@
-use Rattle.std.proofs.Common.{◌≡◌, ap, sym, subst, ◌∙◌}
-use Rattle.dom_base.specs.declared.NodeName.{NodeName}
-use Rattle.dom_model.specs.Names.{owner_depth}
-use Rattle.dom_model.specs.Tree.{is_document, kind_of, root_of}
-use Rattle.dom_model.specs.World.{is_connected}
-use Rattle.dom_slots.specs.Shadows.{shadows}
-use Rattle.dom_tree.specs.Forest.{name_at}
-use Rattle.dom_parts.specs.Doc.{DocState, name_in}
-use Rattle.dom_parts.specs.Hosting.{outermost_root}
+use Rattle.dom_base.proofs.Std.{◌≡◌, ap, sym, subst, ◌∙◌}
+use Rattle.dom_model.proofs.Model.{NodeName, owner_depth, is_document, kind_of, root_of, is_connected}
+use Rattle.dom_slots.specs.Definitions.{shadows}
+use Rattle.dom_tree.specs.Definitions.{name_at}
+use Rattle.dom_parts.specs.Definitions.{DocState, name_in, outermost_root}
 use Rattle.dom_parts.proofs.Connected.{connected_held}
 use Rattle.dom_parts.proofs.parts.Parts.is_connected.Goals as goal
 

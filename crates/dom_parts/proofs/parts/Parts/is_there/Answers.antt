@@ -1,7 +1,5 @@
-use Rattle.std.proofs.Common.{◌≢◌, true≢false, sym, ap, ◌∙◌}
-use Rattle.std.specs.Prelude.{nat_lt}
-use Rattle.dom_base.specs.declared.Owner.TheVariants.{Page}
-use Rattle.dom_model.specs.World.{is_there}
+use Rattle.dom_base.proofs.Std.{◌≢◌, true≢false, sym, ap, ◌∙◌, nat_lt}
+use Rattle.dom_model.proofs.Model.{Page, is_there}
 use Rattle.dom_parts.proofs.OwnersOfNodes.{page_there, nodes_there}
 use Rattle.dom_parts.proofs.parts.Parts.is_there.Goals as goal
 use Rattle.dom_parts.proofs.parts.Parts.is_there.Goals.{in-Page, in_default}

@@ -1,7 +1,7 @@
-use Rattle.std.proofs.Common.{◌≡◌, false, not, List, [], ◌∷◌, refl, sym, ap, ◌∙◌}
-use Rattle.dom_model.specs.Names.{is_empty}
-use Rattle.dom_tree.specs.Forest.{name_at}
-use Rattle.dom_observers.specs.Owners.{tables_of}
+use Rattle.dom_base.proofs.Std.{◌≡◌, false, not, List, [], ◌∷◌, refl, sym, ap, ◌∙◌}
+use Rattle.dom_model.proofs.Model.{is_empty}
+use Rattle.dom_tree.specs.Definitions.{name_at}
+use Rattle.dom_observers.specs.Definitions.{tables_of}
 use Rattle.dom_parts.proofs.Shown.{untold}
 use Rattle.dom_parts.proofs.parts.Parts.is_watched.Goals as goal
 

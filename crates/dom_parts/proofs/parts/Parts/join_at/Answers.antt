@@ -1,14 +1,8 @@
-use Rattle.std.proofs.Common.{◌≡◌, ◌+◌, ◌<◌, ◌^◌, ℕ, length, refl, ap, subst, ◌∙◌, arith}
-use Rattle.std.specs.Prelude.{nat_eq}
-use Rattle.dom_model.specs.Names.{name_eq}
-use Rattle.dom_model.specs.Ranges.{after_join}
-use Rattle.dom_model.specs.Steps.{join_at}
-use Rattle.dom_model.specs.Tree.{index_of, length_of}
-use Rattle.dom_model.specs.World.{part_of}
+use Rattle.dom_base.proofs.Std.{◌≡◌, ◌+◌, ◌<◌, ◌^◌, ℕ, length, refl, ap, subst, ◌∙◌, arith, nat_eq}
+use Rattle.dom_model.proofs.Model.{name_eq, after_join, join_at, index_of, length_of, part_of}
 use Rattle.dom_ranges.proofs.Naming.{join-named}
-use Rattle.dom_tree.specs.Forest.{NamedTrees, name_at}
-use Rattle.dom_parts.specs.AllTables.{AllTables}
-use Rattle.dom_parts.specs.Doc.{DocState, IsDoc, name_in, owner_in, trees_in, state_from, stepped, all_tables}
+use Rattle.dom_tree.specs.Definitions.{NamedTrees, name_at}
+use Rattle.dom_parts.specs.Definitions.{AllTables, DocState, IsDoc, name_in, owner_in, trees_in, state_from, stepped, all_tables}
 use Rattle.dom_parts.proofs.RangeRules.{join_rule}
 use Rattle.dom_parts.proofs.RangedStates.{MovesEnds, ends_moved, join_asks}
 use Rattle.dom_parts.proofs.Shown.{known, shown}

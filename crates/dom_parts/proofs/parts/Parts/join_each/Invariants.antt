@@ -1,4 +1,4 @@
-use Rattle.std.proofs.Common.{drop}
+use Rattle.dom_base.proofs.Std.{drop}
 use Rattle.dom_parts.proofs.JoinedEach.{Joins}
 use Rattle.dom_parts.proofs.parts.Parts.join_each.Given as goal
 

@@ -1,18 +1,11 @@
-use Rattle.std.proofs.Common.{◌≡◌, ◌<◌, ◌≤◌, length, true, false, arith, subst, sym}
-use Rattle.std.specs.Prelude.{count_by}
-use Rattle.dom_model.specs.Names.{name_eq}
-use Rattle.dom_worlds.specs.Worlds.{IsPart}
-use Rattle.dom_model.specs.Tree.{Node, Trees, nodes, has_node}
-use Rattle.dom_model.specs.World.{part_of, is_there}
-use Rattle.dom_tree.specs.Owners.{trees_of_owner, AreOf}
-use Rattle.dom_laws.proofs.Counts.{times_count}
+use Rattle.dom_base.proofs.Std.{◌≡◌, ◌<◌, ◌≤◌, length, true, false, arith, subst, sym, count_by}
+use Rattle.dom_model.proofs.Model.{name_eq, Node, Trees, nodes, has_node, part_of, is_there, past_limit}
+use Rattle.dom_worlds.specs.Definitions.{IsPart}
+use Rattle.dom_tree.specs.Definitions.{trees_of_owner, AreOf, name_at}
+use Rattle.dom_laws.proofs.Laws.{times_count}
 use Rattle.dom_tree.proofs.Standing.{Once-forest, once_own}
-use Rattle.dom_tree.specs.Forest.{name_at}
-use Rattle.dom_parts.specs.Contents.{world_of}
-use Rattle.dom_parts.specs.Doc.{DocState, owner_in, contents, all_tables}
-use Rattle.dom_parts.specs.Hosting.{IsAlone}
+use Rattle.dom_parts.specs.Definitions.{world_of, DocState, owner_in, contents, all_tables, IsAlone}
 use Rattle.dom_tree.proofs.Owned.{AreOf-own}
-use Rattle.dom_model.specs.CommandRefusals.{past_limit}
 use Rattle.dom_parts.proofs.DocInvariant.{are_hosts}
 use Rattle.dom_parts.proofs.HostedWorlds.{makers_hosted}
 use Rattle.dom_parts.proofs.Limits.{within_limit}

@@ -1,7 +1,6 @@
-use Rattle.std.proofs.Common.{◌≡◌, subst}
-use Rattle.dom_model.specs.Steps.{make_room}
-use Rattle.dom_model.specs.Tree.{index_of}
-use Rattle.dom_parts.specs.Doc.{DocState, name_in, owner_in, trees_in, stepped}
+use Rattle.dom_base.proofs.Std.{◌≡◌, subst}
+use Rattle.dom_model.proofs.Model.{make_room, index_of}
+use Rattle.dom_parts.specs.Definitions.{DocState, name_in, owner_in, trees_in, stepped}
 use Rattle.dom_parts.proofs.parts.Parts.make_room.Goals as goal
 
 pub returns : goal.returns

@@ -1,12 +1,8 @@
-use Rattle.std.proofs.Common.{◌<◌, ℕ, length, refl, ap, ◌∙◌}
-use Rattle.std.specs.Prelude.{nat_eq}
-use Rattle.dom_model.specs.Names.{name_eq}
-use Rattle.dom_model.specs.Ranges.{after_insert}
-use Rattle.dom_model.specs.Steps.{make_room}
-use Rattle.dom_model.specs.Tree.{index_of}
+use Rattle.dom_base.proofs.Std.{◌<◌, ℕ, length, refl, ap, ◌∙◌, nat_eq}
+use Rattle.dom_model.proofs.Model.{name_eq, after_insert, make_room, index_of}
 use Rattle.dom_ranges.proofs.Naming.{insert-named}
-use Rattle.dom_tree.specs.Forest.{name_at}
-use Rattle.dom_parts.specs.Doc.{name_in, owner_in, stepped, all_tables}
+use Rattle.dom_tree.specs.Definitions.{name_at}
+use Rattle.dom_parts.specs.Definitions.{name_in, owner_in, stepped, all_tables}
 use Rattle.dom_parts.proofs.RangeRules.{insert_rule}
 use Rattle.dom_parts.proofs.RangedStates.{MovesEnds, ends_moved, room_asks}
 use Rattle.dom_parts.proofs.Shown.{known, shown}

@@ -1,7 +1,6 @@
-use Rattle.std.proofs.Common.{◌≡◌, true, sym, ap, subst, ◌∙◌}
-use Rattle.dom_model.specs.Part.{Part}
-use Rattle.dom_model.specs.World.{part_of, is_there}
-use Rattle.dom_parts.specs.Doc.{DocState, all_tables, contents}
+use Rattle.dom_base.proofs.Std.{◌≡◌, true, sym, ap, subst, ◌∙◌}
+use Rattle.dom_model.proofs.Model.{Part, part_of, is_there}
+use Rattle.dom_parts.specs.Definitions.{DocState, all_tables, contents}
 use Rattle.dom_parts.proofs.Worlds.{part_at}
 use Rattle.dom_parts.proofs.parts.Parts.node_count.Goals as goal
 

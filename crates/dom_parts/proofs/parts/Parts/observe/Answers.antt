@@ -1,7 +1,6 @@
-use Rattle.std.proofs.Common.{◌≡◌, ◌<◌, length}
-use Rattle.dom_observers.specs.Owners.{tables_of}
-use Rattle.dom_observers.specs.Views.{words_of}
-use Rattle.dom_parts.specs.Doc.{owner_in}
+use Rattle.dom_base.proofs.Std.{◌≡◌, ◌<◌, length}
+use Rattle.dom_observers.specs.Definitions.{tables_of, words_of}
+use Rattle.dom_parts.specs.Definitions.{owner_in}
 use Rattle.dom_parts.proofs.Shown.{known}
 use Rattle.dom_parts.proofs.Observing.{same_if, refused_known, faults_known, observed_held, observed_world}
 use Rattle.dom_parts.proofs.parts.Parts.observe.Goals as goal

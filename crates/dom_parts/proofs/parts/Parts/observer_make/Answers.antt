@@ -1,9 +1,6 @@
-use Rattle.std.proofs.Common.{◌≡◌, true, Err, subst}
-use Rattle.std.specs.Prelude.{◌↔◌}
-use Rattle.dom_base.specs.declared.Fault.TheVariants.{Refused}
-use Rattle.dom_base.specs.declared.Refusal.TheVariants.{Limit}
-use Rattle.dom_model.specs.CommandRefusals.{past_limit}
-use Rattle.dom_observers.specs.Owners.{tables_of}
+use Rattle.dom_base.proofs.Std.{◌≡◌, true, Err, subst, ◌↔◌}
+use Rattle.dom_model.proofs.Model.{Refused, Limit, past_limit}
+use Rattle.dom_observers.specs.Definitions.{tables_of}
 use Rattle.dom_parts.proofs.Observing.{made_held, made_world, count_is, same_if}
 use Rattle.dom_parts.proofs.parts.Parts.observer_make.Goals as goal
 

@@ -1,10 +1,8 @@
-use Rattle.std.proofs.Common.{false, refl, sym, ap, ◌∙◌}
-use Rattle.dom_base.specs.declared.NodeName.{NodeName}
-use Rattle.dom_tree.specs.Forest.{name_at}
-use Rattle.dom_observers.specs.Owners.{tables_of}
-use Rattle.dom_observers.specs.Views.{change_of}
-use Rattle.dom_model.specs.Observers.{target_of}
-use Rattle.dom_parts.specs.Doc.{NamesNodes}
+use Rattle.dom_base.proofs.Std.{false, refl, sym, ap, ◌∙◌}
+use Rattle.dom_model.proofs.Model.{NodeName, target_of}
+use Rattle.dom_tree.specs.Definitions.{name_at}
+use Rattle.dom_observers.specs.Definitions.{tables_of, change_of}
+use Rattle.dom_parts.specs.Definitions.{NamesNodes}
 use Rattle.dom_parts.proofs.Shown.{known}
 use Rattle.dom_parts.proofs.Observing.{none_held}
 use Rattle.dom_parts.proofs.Records.{record_held, record_state, notify_held, notify_state}

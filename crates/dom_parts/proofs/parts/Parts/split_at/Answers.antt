@@ -1,15 +1,9 @@
-use Rattle.std.proofs.Common.{◌≡◌, ◌<◌, ℕ, length, Some, refl, subst, arith}
-use Rattle.std.specs.Prelude.{nat_eq}
-use Rattle.std.proofs.lemmas.Option.{same_Some}
-use Rattle.dom_base.specs.declared.Owner.{Owner}
-use Rattle.dom_model.specs.Names.{name_eq}
-use Rattle.dom_model.specs.Ranges.{after_split}
-use Rattle.dom_model.specs.Steps.{split_at}
-use Rattle.dom_ranges.specs.Rules.{Fits}
-use Rattle.dom_ranges.specs.Tables.{EachRange, BothEnds, ranges_of}
+use Rattle.dom_base.proofs.Std.{◌≡◌, ◌<◌, ℕ, length, Some, refl, subst, arith, nat_eq, same_Some}
+use Rattle.dom_model.proofs.Model.{Owner, name_eq, after_split, split_at}
+use Rattle.dom_ranges.specs.Definitions.{Fits, EachRange, BothEnds, ranges_of}
 use Rattle.dom_ranges.proofs.Naming.{split-named}
-use Rattle.dom_tree.specs.Forest.{name_at}
-use Rattle.dom_parts.specs.Doc.{owner_in, contents, all_tables}
+use Rattle.dom_tree.specs.Definitions.{name_at}
+use Rattle.dom_parts.specs.Definitions.{owner_in, contents, all_tables}
 use Rattle.dom_parts.proofs.RangeRules.{split_rule}
 use Rattle.dom_parts.proofs.RangedFits.{split_fits}
 use Rattle.dom_parts.proofs.RangedStates.{MovesEnds, ends_moved}

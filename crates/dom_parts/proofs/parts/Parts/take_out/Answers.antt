@@ -1,7 +1,6 @@
-use Rattle.std.proofs.Common.{◌≡◌, subst}
-use Rattle.std.specs.Prelude.{OnOk}
-use Rattle.dom_model.specs.Steps.{take_out}
-use Rattle.dom_parts.specs.Doc.{DocState, name_in, owner_in, stepped}
+use Rattle.dom_base.proofs.Std.{◌≡◌, subst, OnOk}
+use Rattle.dom_model.proofs.Model.{take_out}
+use Rattle.dom_parts.specs.Definitions.{DocState, name_in, owner_in, stepped}
 use Rattle.dom_parts.proofs.parts.Parts.take_out.Goals as goal
 
 pub returns : goal.returns

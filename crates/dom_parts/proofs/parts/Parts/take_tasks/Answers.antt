@@ -1,8 +1,7 @@
-use Rattle.std.proofs.Common.{[], sym, subst, ◌∙◌}
-use Rattle.std.specs.List.{AllByRecursion}
+use Rattle.dom_base.proofs.Std.{[], sym, subst, ◌∙◌, AllByRecursion}
 use Rattle.dom_parts.proofs.Tasks.{tasks_are, queued}
 use Rattle.dom_parts.proofs.DocInvariant.{held_tasks}
-use Rattle.dom_parts.specs.Doc.{all_tables, IsDue, world_from}
+use Rattle.dom_parts.specs.Definitions.{all_tables, IsDue, world_from}
 use Rattle.dom_parts.proofs.parts.Parts.take_tasks.Goals as goal
 
 pub invariant_of-self : goal.invariant_of-self

@@ -1,6 +1,6 @@
-use Rattle.dom_model.specs.Command.{Command}
-use Rattle.dom_traversal.specs.Cursors.{cursors_of}
-use Rattle.dom_parts.specs.Doc.{all_tables}
+use Rattle.dom_model.proofs.Model.{Command}
+use Rattle.dom_traversal.specs.Definitions.{cursors_of}
+use Rattle.dom_parts.specs.Definitions.{all_tables}
 use Rattle.dom_parts.proofs.Passing.{walk_there, walks_of, the_walker, Moves, walk_moves}
 use Rattle.dom_parts.proofs.parts.Parts.walk.Goals as goal
 

@@ -1,11 +1,9 @@
-use Rattle.std.proofs.Common.{◌<◌, [], length, sym, ap, subst, ◌∙◌}
-use Rattle.dom_model.specs.Command.{Command}
-use Rattle.dom_model.specs.Output.{a_node}
-use Rattle.dom_model.specs.Effects.{Effect}
-use Rattle.dom_tree.specs.Forest.{name_at}
+use Rattle.dom_base.proofs.Std.{◌<◌, [], length, sym, ap, subst, ◌∙◌}
+use Rattle.dom_model.proofs.Model.{Command, a_node, Effect}
+use Rattle.dom_tree.specs.Definitions.{name_at}
 use Rattle.dom_parts.proofs.Cursors.{with_own, walk_at_effect}
 use Rattle.dom_parts.proofs.Passing.{there_walk, walk_there, the_walker, reads, name_known}
-use Rattle.dom_parts.specs.Doc.{all_tables}
+use Rattle.dom_parts.specs.Definitions.{all_tables}
 use Rattle.dom_parts.proofs.parts.Parts.walk_at.Goals as goal
 
 pub walker_at-requires : goal.walker_at-requires

@@ -1,15 +1,13 @@
-use Rattle.std.proofs.Common.{◌≡◌, ◌<◌, length}
-use Rattle.std.specs.Prelude.{slice_get, slice_set}
-use Rattle.dom_model.specs.Command.{Command, own}
-use Rattle.dom_model.specs.Output.{nothing}
-use Rattle.dom_tree.specs.Forest.{name_at}
-use Rattle.dom_traversal.specs.Cursors.{cursors_of}
-use Rattle.dom_parts.specs.Doc.{owner_in, all_tables}
+use Rattle.dom_base.proofs.Std.{◌≡◌, ◌<◌, length, slice_get, slice_set}
+use Rattle.dom_model.proofs.Model.{Command, own, nothing}
+use Rattle.dom_tree.specs.Definitions.{name_at}
+use Rattle.dom_traversal.specs.Definitions.{cursors_of}
+use Rattle.dom_parts.specs.Definitions.{owner_in, all_tables}
 use Rattle.dom_parts.proofs.Shown.{known}
 use Rattle.dom_parts.proofs.Cursors.{walk_set_effect}
 use Rattle.dom_parts.proofs.Passing.{there_walk, walk_there, writes, held_written, walk_moved}
 use Rattle.dom_parts.proofs.parts.Parts.walk_set.Goals as goal
-use Rattle.dom_laws.proofs.Options.{was_some}
+use Rattle.dom_laws.proofs.Laws.{was_some}
 
 pub set_walker-requires : goal.set_walker-requires
 set_walker-requires c =

@@ -1,10 +1,7 @@
-use Rattle.std.proofs.Common.{◌≡◌, ◌+◌, [], length, refl, ap, ◌∙◌, arith}
-use Rattle.std.proofs.lemmas.List.{length_push}
-use Rattle.dom_model.specs.Slots.{slots_among}
-use Rattle.dom_model.specs.Tree.{Node, subtree}
-use Rattle.dom_base.specs.declared.Kind.TheVariants.{Shadow}
-use Rattle.dom_tree.specs.Forest.{name_at, next_name, node_from}
-use Rattle.dom_slots.specs.Kept.{HasOneMore}
+use Rattle.dom_base.proofs.Std.{◌≡◌, ◌+◌, [], length, refl, ap, ◌∙◌, arith, length_push}
+use Rattle.dom_model.proofs.Model.{slots_among, Node, subtree, Shadow}
+use Rattle.dom_tree.specs.Definitions.{name_at, next_name, node_from}
+use Rattle.dom_slots.specs.Definitions.{HasOneMore}
 use Rattle.dom_slots.proofs.Added.{slots-more}
 use Rattle.dom_parts.proofs.parts.attaching.attach_root.Goals as goal
 

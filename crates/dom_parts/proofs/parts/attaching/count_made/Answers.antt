@@ -1,7 +1,6 @@
-use Rattle.std.proofs.Common.{◌≢◌, ◌+◌, ◌/◌, ap, ◌∙◌, arith}
-use Rattle.dom_base.specs.declared.Owner.{Owner}
-use Rattle.dom_model.specs.World.{component_made}
-use Rattle.dom_tree.specs.Forest.{count_of}
+use Rattle.dom_base.proofs.Std.{◌≢◌, ◌+◌, ◌/◌, ap, ◌∙◌, arith}
+use Rattle.dom_model.proofs.Model.{Owner, component_made}
+use Rattle.dom_tree.specs.Definitions.{count_of}
 use Rattle.dom_parts.proofs.parts.attaching.count_made.Goals as goal
 
 -- a component that has nodes: so have all before it

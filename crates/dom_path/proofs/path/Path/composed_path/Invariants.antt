@@ -1,5 +1,5 @@
-use Rattle.std.proofs.Common.{◌≡◌, take}
-use Rattle.dom_path.specs.PathNodes.{shown_nodes}
+use Rattle.dom_base.proofs.Std.{◌≡◌, take}
+use Rattle.dom_path.specs.Definitions.{shown_nodes}
 use Rattle.dom_path.proofs.path.Path.composed_path.Given as goal
 
 abbrev pub invariant-loop-item : goal.invariant-loop-item

@@ -1,5 +1,4 @@
-use Rattle.std.proofs.Common.{◌≡◌, ◌||◌, not, true, sym, ◌∙◌}
-use Rattle.std.specs.Prelude.{nat_eq}
+use Rattle.dom_base.proofs.Std.{◌≡◌, ◌||◌, not, true, sym, ◌∙◌, nat_eq}
 use Rattle.dom_worlds.proofs.ListLemmas.{or-first, or-second}
 use Rattle.dom_path.proofs.Steps.{up-host}
 use Rattle.dom_path.proofs.path_node.PathNode.above.Goals as goal

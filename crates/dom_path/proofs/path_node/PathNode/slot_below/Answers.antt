@@ -1,11 +1,9 @@
-use Rattle.std.proofs.Common.{◌≡◌, None, refl, sym, ap, subst, ◌∙◌}
-use Rattle.std.specs.Prelude.{option_map}
-use Rattle.dom_tree.specs.Forest.{name_at}
-use Rattle.dom_slots.specs.Hosts.{root_named}
-use Rattle.dom_slots.specs.Shadows.{shadows}
+use Rattle.dom_base.proofs.Std.{◌≡◌, None, refl, sym, ap, subst, ◌∙◌, option_map}
+use Rattle.dom_tree.specs.Definitions.{name_at}
+use Rattle.dom_slots.specs.Definitions.{root_named, shadows}
 use Rattle.dom_slots.proofs.Hosted.{root-named, root-node, slot-no_root}
 use Rattle.dom_path.specs.declared.path_node.SlotBelow.{SlotBelow}
-use Rattle.dom_path.specs.PathNodes.{IsSlotBelow}
+use Rattle.dom_path.specs.Definitions.{IsSlotBelow}
 use Rattle.dom_path.proofs.path_node.PathNode.slot_below.Goals as goal
 
 pub returns-in_err-root-clause-value : goal.returns-in_err-root-clause-value

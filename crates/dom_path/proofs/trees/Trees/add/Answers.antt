@@ -1,5 +1,4 @@
-use Rattle.std.proofs.Common.{◌++◌, None, sym, ap, ◌∙◌, arith, true≢false}
-use Rattle.std.specs.Prelude.{is_some, option_to_list}
+use Rattle.dom_base.proofs.Std.{◌++◌, None, sym, ap, ◌∙◌, arith, true≢false, is_some, option_to_list}
 use Rattle.dom_path.proofs.Goings.{outside-nested, outside-more, outside-last}
 use Rattle.dom_path.proofs.Nesting.{grows-none}
 use Rattle.dom_path.proofs.trees.Trees.add.Goals as goal

@@ -1,7 +1,6 @@
-use Rattle.std.proofs.Common.{◌≡◌, true, false, sym, subst, ◌∙◌}
-use Rattle.std.specs.Prelude.{nat_eq}
-use Rattle.dom_model.specs.Names.{is_in}
-use Rattle.dom_path.specs.Nests.{AreNested, roots_around}
+use Rattle.dom_base.proofs.Std.{◌≡◌, true, false, sym, subst, ◌∙◌, nat_eq}
+use Rattle.dom_model.proofs.Model.{is_in}
+use Rattle.dom_path.specs.Definitions.{AreNested, roots_around}
 use Rattle.dom_path.proofs.Nesting.{hiding-is}
 use Rattle.dom_path.proofs.trees.Trees.hiding_host.Goals as goal
 

@@ -1,5 +1,5 @@
-use Rattle.std.proofs.Common.{◌≡◌, ◌<◌, length}
-use Rattle.dom_path.specs.Nests.{seen_from}
+use Rattle.dom_base.proofs.Std.{◌≡◌, ◌<◌, length}
+use Rattle.dom_path.specs.Definitions.{seen_from}
 use Rattle.dom_path.proofs.trees.Trees.seen_from.Given as goal
 
 abbrev pub invariant-loop-host : goal.invariant-loop-host

@@ -1,4 +1,4 @@
-use Rattle.std.proofs.Common.{◌≡◌, ◌≤◌, length, drop}
+use Rattle.dom_base.proofs.Std.{◌≡◌, ◌≤◌, length, drop}
 use Rattle.dom_range_ops.proofs.pieces.paths.parting.Given as goal
 
 abbrev pub invariant-loop-left : goal.invariant-loop-left

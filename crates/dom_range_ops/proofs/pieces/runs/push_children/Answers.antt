@@ -1,11 +1,8 @@
-use Rattle.std.proofs.Common.{map, take, drop, sym, ap, subst, ◌∙◌}
-use Rattle.std.specs.Prelude.{if◌then◌else◌}
-use Rattle.std.specs.Option.{option_map}
-use Rattle.std.proofs.lemmas.Result.{on_ok_weaker}
-use Rattle.dom_model.specs.Tree.{children_of}
-use Rattle.dom_tree.specs.Forest.{name_at}
+use Rattle.dom_base.proofs.Std.{map, take, drop, sym, ap, subst, ◌∙◌, if◌then◌else◌, option_map, on_ok_weaker}
+use Rattle.dom_model.proofs.Model.{children_of}
+use Rattle.dom_tree.specs.Definitions.{name_at}
 use Rattle.dom_tree.proofs.Standing.{Once-forest, Has-forest}
-use Rattle.dom_range_ops.specs.Pieces.{Adds, whole_item}
+use Rattle.dom_range_ops.specs.Definitions.{Adds, whole_item}
 use Rattle.dom_range_ops.proofs.PieceRuns.{run-before, run-behind}
 use Rattle.dom_range_ops.proofs.pieces.runs.push_children.Goals as goal
 

@@ -1,9 +1,7 @@
-use Rattle.std.proofs.Common.{true≢false, sym, ap, ◌∙◌}
-use Rattle.std.specs.Option.{option_map}
-use Rattle.dom_model.specs.Names.{name_eq, items_after}
-use Rattle.dom_model.specs.Tree.{siblings}
-use Rattle.dom_tree.specs.Forest.{name_at}
-use Rattle.dom_range_ops.specs.Pieces.{from_sibling, up_to}
+use Rattle.dom_base.proofs.Std.{true≢false, sym, ap, ◌∙◌, option_map}
+use Rattle.dom_model.proofs.Model.{name_eq, items_after, siblings}
+use Rattle.dom_tree.specs.Definitions.{name_at}
+use Rattle.dom_range_ops.specs.Definitions.{from_sibling, up_to}
 use Rattle.dom_range_ops.proofs.PieceRuns.{passes-first, passes-more, passes-fewer, passes-all, up-to-here, up-to-none}
 use Rattle.dom_range_ops.proofs.pieces.runs.push_siblings.Goals as goal
 

@@ -1,8 +1,7 @@
-use Rattle.std.proofs.Common.{length}
-use Rattle.std.specs.Option.{option_map}
-use Rattle.dom_range_ops.specs.Pieces.{from_sibling}
+use Rattle.dom_base.proofs.Std.{length, option_map}
+use Rattle.dom_range_ops.specs.Definitions.{from_sibling}
 use Rattle.dom_range_ops.proofs.PieceRuns.{Passes}
-use Rattle.dom_tree.specs.Forest.{name_at}
+use Rattle.dom_tree.specs.Definitions.{name_at}
 use Rattle.dom_range_ops.proofs.pieces.runs.push_siblings.Given as goal
 
 abbrev pub invariant-loop-at : goal.invariant-loop-at

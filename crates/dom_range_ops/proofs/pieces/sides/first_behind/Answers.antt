@@ -1,8 +1,6 @@
-use Rattle.std.proofs.Common.{drop, sym, ap, ◌∙◌}
-use Rattle.std.specs.Option.{option_map_or, option_copied}
-use Rattle.dom_model.specs.Names.{first_of}
-use Rattle.dom_model.specs.Tree.{children_of, next_sibling}
-use Rattle.dom_tree.specs.Forest.{name_at}
+use Rattle.dom_base.proofs.Std.{drop, sym, ap, ◌∙◌, option_map_or, option_copied}
+use Rattle.dom_model.proofs.Model.{first_of, children_of, next_sibling}
+use Rattle.dom_tree.specs.Definitions.{name_at}
 use Rattle.dom_range_ops.proofs.PieceSteps.{last-named}
 use Rattle.dom_range_ops.proofs.pieces.sides.first_behind.Goals as goal
 

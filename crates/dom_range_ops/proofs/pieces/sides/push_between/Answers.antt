@@ -1,13 +1,8 @@
-use Rattle.std.proofs.Common.{map, sym, ap, subst, ◌∙◌}
-use Rattle.std.specs.Option.{option_map}
-use Rattle.std.proofs.lemmas.Result.{on_ok_weaker}
-use Rattle.dom_model.specs.Extract.{common_ancestor}
-use Rattle.dom_model.specs.Ranges.{is_contained}
-use Rattle.dom_model.specs.Tree.{children_of}
-use Rattle.dom_laws.proofs.Lists.{filter-none}
-use Rattle.dom_tree.specs.Forest.{name_at}
-use Rattle.dom_range_ops.specs.Pieces.{Adds, whole_item, from_sibling, up_to, first_from}
-use Rattle.dom_range_ops.specs.Texts.{range_at_points}
+use Rattle.dom_base.proofs.Std.{map, sym, ap, subst, ◌∙◌, option_map, on_ok_weaker}
+use Rattle.dom_model.proofs.Model.{common_ancestor, is_contained, children_of}
+use Rattle.dom_laws.proofs.Laws.{filter-none}
+use Rattle.dom_tree.specs.Definitions.{name_at}
+use Rattle.dom_range_ops.specs.Definitions.{Adds, whole_item, from_sibling, up_to, first_from, range_at_points}
 use Rattle.dom_range_ops.proofs.PieceLaws.{run-between}
 use Rattle.dom_range_ops.proofs.PieceMiddle.{none-contained}
 use Rattle.dom_range_ops.proofs.PieceRuns.{adds-none}

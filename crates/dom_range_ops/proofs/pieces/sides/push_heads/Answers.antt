@@ -1,7 +1,6 @@
-use Rattle.std.proofs.Common.{◌≡◌, suc, ◌-◌, ◌<◌, length, map, drop, sym, subst, ◌∙◌, arith}
-use Rattle.std.proofs.lemmas.Grind.{get_or_default_zero}
-use Rattle.dom_tree.specs.Forest.{name_at}
-use Rattle.dom_range_ops.specs.Pieces.{Adds, heads}
+use Rattle.dom_base.proofs.Std.{◌≡◌, suc, ◌-◌, ◌<◌, length, map, drop, sym, subst, ◌∙◌, arith, get_or_default_zero}
+use Rattle.dom_tree.specs.Definitions.{name_at}
+use Rattle.dom_range_ops.specs.Definitions.{Adds, heads}
 use Rattle.dom_range_ops.proofs.PieceRuns.{adds-none, adds-on}
 use Rattle.dom_range_ops.proofs.PieceSteps.{heads-keys, heads-last}
 use Rattle.dom_range_ops.proofs.pieces.sides.push_heads.Goals as goal

@@ -1,6 +1,6 @@
-use Rattle.std.proofs.Common.{◌-◌, ◌≤◌, length, map, drop}
-use Rattle.dom_tree.specs.Forest.{name_at}
-use Rattle.dom_range_ops.specs.Pieces.{Adds, heads}
+use Rattle.dom_base.proofs.Std.{◌-◌, ◌≤◌, length, map, drop}
+use Rattle.dom_tree.specs.Definitions.{name_at}
+use Rattle.dom_range_ops.specs.Definitions.{Adds, heads}
 use Rattle.dom_range_ops.proofs.pieces.sides.push_heads.Given as goal
 
 abbrev pub invariant-loop-at : goal.invariant-loop-at

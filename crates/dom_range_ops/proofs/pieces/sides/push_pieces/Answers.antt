@@ -1,12 +1,7 @@
-use Rattle.std.proofs.Common.{true, false, map, sym, subst}
-use Rattle.std.specs.Prelude.{filter}
-use Rattle.std.proofs.lemmas.Result.{on_ok_weaker}
-use Rattle.dom_model.specs.Extract.{common_ancestor}
-use Rattle.dom_model.specs.Ranges.{is_contained}
-use Rattle.dom_model.specs.Tree.{children_of}
-use Rattle.dom_tree.specs.Forest.{name_at}
-use Rattle.dom_range_ops.specs.Pieces.{Adds, whole_item, side_items}
-use Rattle.dom_range_ops.specs.Texts.{range_at_points}
+use Rattle.dom_base.proofs.Std.{true, false, map, sym, subst, filter, on_ok_weaker}
+use Rattle.dom_model.proofs.Model.{common_ancestor, is_contained, children_of}
+use Rattle.dom_tree.specs.Definitions.{name_at}
+use Rattle.dom_range_ops.specs.Definitions.{Adds, whole_item, side_items, range_at_points}
 use Rattle.dom_range_ops.proofs.PieceLaws.{items-between}
 use Rattle.dom_range_ops.proofs.PieceRuns.{adds-on}
 use Rattle.dom_range_ops.proofs.pieces.sides.push_pieces.Goals as goal

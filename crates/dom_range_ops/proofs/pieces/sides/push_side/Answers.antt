@@ -1,9 +1,7 @@
-use Rattle.std.proofs.Common.{◌≡◌, length, map, not, sym, subst, ◌∙◌, arith, true≢false}
-use Rattle.std.proofs.lemmas.Bool.{eq-eqb}
-use Rattle.std.proofs.lemmas.Result.{on_ok_weaker}
-use Rattle.dom_model.specs.Ranges.{at}
-use Rattle.dom_tree.specs.Forest.{name_at}
-use Rattle.dom_range_ops.specs.Pieces.{Adds, heads, tails, end_items}
+use Rattle.dom_base.proofs.Std.{◌≡◌, length, map, not, sym, subst, ◌∙◌, arith, true≢false, eq-eqb, on_ok_weaker}
+use Rattle.dom_model.proofs.Model.{at}
+use Rattle.dom_tree.specs.Definitions.{name_at}
+use Rattle.dom_range_ops.specs.Definitions.{Adds, heads, tails, end_items}
 use Rattle.dom_range_ops.proofs.PieceRuns.{adds-on}
 use Rattle.dom_range_ops.proofs.PieceSteps.{side-some}
 use Rattle.dom_range_ops.proofs.pieces.sides.push_side.Goals as goal

@@ -1,7 +1,6 @@
-use Rattle.std.proofs.Common.{◌≡◌, suc, ◌+◌, ◌-◌, ◌<◌, length, map, drop, ◌∙◌, arith}
-use Rattle.std.proofs.lemmas.Grind.{get_or_default_zero}
-use Rattle.dom_tree.specs.Forest.{name_at}
-use Rattle.dom_range_ops.specs.Pieces.{tails}
+use Rattle.dom_base.proofs.Std.{◌≡◌, suc, ◌+◌, ◌-◌, ◌<◌, length, map, drop, ◌∙◌, arith, get_or_default_zero}
+use Rattle.dom_tree.specs.Definitions.{name_at}
+use Rattle.dom_range_ops.specs.Definitions.{tails}
 use Rattle.dom_range_ops.proofs.PieceRuns.{partway-first, partway-more, partway-all}
 use Rattle.dom_range_ops.proofs.PieceSteps.{tails-keys, tails-last}
 use Rattle.dom_range_ops.proofs.pieces.sides.push_tails.Goals as goal

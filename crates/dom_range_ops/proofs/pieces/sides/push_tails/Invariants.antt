@@ -1,7 +1,7 @@
-use Rattle.std.proofs.Common.{◌-◌, map, drop}
-use Rattle.dom_tree.specs.Forest.{name_at}
+use Rattle.dom_base.proofs.Std.{◌-◌, map, drop}
+use Rattle.dom_tree.specs.Definitions.{name_at}
 use Rattle.dom_range_ops.proofs.PieceRuns.{Partway}
-use Rattle.dom_range_ops.specs.Pieces.{tails}
+use Rattle.dom_range_ops.specs.Definitions.{tails}
 use Rattle.dom_range_ops.proofs.pieces.sides.push_tails.Given as goal
 
 abbrev pub invariant-loop-at : goal.invariant-loop-at

@@ -1,8 +1,5 @@
-use Rattle.std.proofs.Common.{◌≡◌, ◌≢◌, true≢false, refl, sym, subst, slice_set, Some, None, ◌∙◌}
-use Rattle.std.specs.HashMap.{get}
-use Rattle.std.specs.Option.{IsSome}
-use Rattle.std.specs.Vec.{with_item}
-use Rattle.dom_base.specs.declared.Owner.TheVariants.{Page}
+use Rattle.dom_base.proofs.Std.{◌≡◌, ◌≢◌, true≢false, refl, sym, subst, slice_set, Some, None, ◌∙◌, get, IsSome, with_item}
+use Rattle.dom_model.proofs.Model.{Page}
 use Rattle.dom_base.specs.contracts.OwnerPartialEq.TheImpl as OwnerImpl
 use Rattle.dom_ranges.specs.declared.numbers.Numbers.{Numbers}
 use Rattle.dom_ranges.proofs.SlotLists.{slots-written}

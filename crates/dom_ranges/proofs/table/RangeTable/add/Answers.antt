@@ -1,12 +1,10 @@
-use Rattle.std.proofs.Common.{◌≡◌, ℕ, List, [], ◌∷◌, ◌++◌, true, false, IsSome, sym, subst, refl, ap, ◌∙◌, length, Option, Result, Ok, Err, OnErr, arith}
+use Rattle.dom_base.proofs.Std.{◌≡◌, ℕ, List, [], ◌∷◌, ◌++◌, true, false, IsSome, sym, subst, refl, ap, ◌∙◌, length, Option, Result, Ok, Err, OnErr, arith}
+use Rattle.dom_base.proofs.Std.{IsPermutation}
 use Rattle.slab.specs.Slab.{get, Slab}
-use Rattle.dom_model.specs.Ranges.{at}
+use Rattle.dom_model.proofs.Model.{at}
 use Rattle.dom_ranges.specs.declared.table.Points.{Points}
-use Rattle.dom_ranges.specs.Tables.{ranges_of}
-use Rattle.dom_ranges.specs.RangeSlots.{HaveNumbers}
-use Rattle.std.specs.List.Sorted.{IsPermutation}
+use Rattle.dom_ranges.specs.Definitions.{ranges_of, HaveNumbers, IsListed, IsSortedByPoint, end_in}
 use Rattle.dom_ranges.specs.declared.ends.RangeEnd.{RangeEnd}
-use Rattle.dom_ranges.specs.Listed.{IsListed, IsSortedByPoint, end_in}
 use Rattle.dom_ranges.proofs.Listing.{IsListed-added, IsListed-same}
 use Rattle.dom_ranges.proofs.Writing.{Shows, Shows-view, Shows-same, HaveNumbers-same, HaveNumbers-pushed, ranges-shown, ranges-pushed, length-ranges}
 use Rattle.dom_ranges.proofs.table.RangeTable.add.Goals as goal

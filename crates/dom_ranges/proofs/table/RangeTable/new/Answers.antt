@@ -1,5 +1,5 @@
-use Rattle.std.proofs.Common.{ap, ◌∙◌, map}
-use Rattle.dom_ranges.specs.RangeSlots.{range_kept}
+use Rattle.dom_base.proofs.Std.{ap, ◌∙◌, map}
+use Rattle.dom_ranges.specs.Definitions.{range_kept}
 use Rattle.dom_ranges.proofs.Holding.{ranges_of-shown}
 use Rattle.dom_ranges.proofs.table.RangeTable.new.Goals as goal
 

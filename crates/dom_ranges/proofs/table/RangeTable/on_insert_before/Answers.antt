@@ -1,11 +1,7 @@
-use Rattle.std.proofs.Common.{ℕ, sym, ap, subst, ◌∙◌}
-use Rattle.std.specs.Prelude.{nat_eq}
-use Rattle.dom_base.specs.declared.Owner.{Owner}
-use Rattle.dom_model.specs.Ranges.{after_insert}
-use Rattle.dom_model.specs.Tree.{index_of}
-use Rattle.dom_tree.specs.Forest.{name_at}
-use Rattle.dom_ranges.specs.Rules.{Fits}
-use Rattle.dom_ranges.specs.Tables.{EachRange, BothEnds, ranges_of, ends_by}
+use Rattle.dom_base.proofs.Std.{ℕ, sym, ap, subst, ◌∙◌, nat_eq}
+use Rattle.dom_model.proofs.Model.{Owner, after_insert, index_of}
+use Rattle.dom_tree.specs.Definitions.{name_at}
+use Rattle.dom_ranges.specs.Definitions.{Fits, EachRange, BothEnds, ranges_of, ends_by}
 use Rattle.dom_ranges.proofs.Leaving.{insert-none, ends-kept}
 use Rattle.dom_ranges.proofs.table.RangeTable.on_insert_before.Goals as goal
 

@@ -1,10 +1,7 @@
-use Rattle.std.proofs.Common.{sym, subst, ◌∙◌}
-use Rattle.std.specs.Prelude.{nat_eq}
-use Rattle.dom_model.specs.Ranges.{after_join}
-use Rattle.dom_model.specs.Tree.{index_of}
-use Rattle.dom_tree.specs.Forest.{name_at}
-use Rattle.dom_ranges.specs.Rules.{Fits}
-use Rattle.dom_ranges.specs.Tables.{ranges_of}
+use Rattle.dom_base.proofs.Std.{sym, subst, ◌∙◌, nat_eq}
+use Rattle.dom_model.proofs.Model.{after_join, index_of}
+use Rattle.dom_tree.specs.Definitions.{name_at}
+use Rattle.dom_ranges.specs.Definitions.{Fits, ranges_of}
 use Rattle.dom_ranges.proofs.Leaving.{join-near, ends-alike}
 use Rattle.dom_ranges.proofs.table.RangeTable.on_join_child.Goals as goal
 

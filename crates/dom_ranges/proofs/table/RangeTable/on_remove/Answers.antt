@@ -1,13 +1,7 @@
-use Rattle.std.proofs.Common.{Option, refl, ap, ◌∙◌}
-use Rattle.std.specs.Option.{option_map_or}
-use Rattle.dom_base.specs.declared.NodeName.{NodeName}
-use Rattle.dom_model.specs.Names.{name_eq}
-use Rattle.dom_model.specs.Ranges.{after_removal}
-use Rattle.dom_model.specs.Tree.{is_inclusive_ancestor, index_of}
-use Rattle.dom_tree.specs.Forest.{name_at}
-use Rattle.dom_ranges.specs.Naming.{named_ends_by}
-use Rattle.dom_ranges.specs.Settings.{named_ranges}
-use Rattle.dom_ranges.specs.Tables.{ranges_of}
+use Rattle.dom_base.proofs.Std.{Option, refl, ap, ◌∙◌, option_map_or}
+use Rattle.dom_model.proofs.Model.{NodeName, name_eq, after_removal, is_inclusive_ancestor, index_of}
+use Rattle.dom_tree.specs.Definitions.{name_at}
+use Rattle.dom_ranges.specs.Definitions.{named_ends_by, named_ranges, ranges_of}
 use Rattle.dom_ranges.proofs.Naming.{removal-named}
 use Rattle.dom_ranges.proofs.table.RangeTable.on_remove.Goals as goal
 

@@ -1,7 +1,5 @@
-use Rattle.std.proofs.Common.{ap, sym, ◌∙◌}
-use Rattle.std.specs.Option.{option_map}
-use Rattle.dom_ranges.specs.Tables.{range_from}
-use Rattle.dom_ranges.specs.RangeSlots.{range_kept}
+use Rattle.dom_base.proofs.Std.{ap, sym, ◌∙◌, option_map}
+use Rattle.dom_ranges.specs.Definitions.{range_from, range_kept}
 use Rattle.dom_ranges.proofs.Writing.{Shows-view, range_in-held}
 use Rattle.dom_ranges.proofs.table.RangeTable.points.Goals as goal
 

@@ -1,5 +1,5 @@
 -- The words of `dispatch` are read one after the other.
-use Rattle.std.proofs.Common.{Option, Some, None}
+use Rattle.dom_base.proofs.Std.{Option, Some, None}
 use Rattle.dom_model.specs.Command as model
 use Rattle.dom_reader.specs.Views.{word_view, event_view}
 use Rattle.dom_reader.proofs.Lasts.{made_at_end}

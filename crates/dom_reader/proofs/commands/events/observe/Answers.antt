@@ -1,5 +1,5 @@
 -- The words of `observe` are read one after the other.
-use Rattle.std.proofs.Common.{refl}
+use Rattle.dom_base.proofs.Std.{refl}
 use Rattle.dom_reader.proofs.commands.events.observe.Goals as goal
 
 pub returns : goal.returns

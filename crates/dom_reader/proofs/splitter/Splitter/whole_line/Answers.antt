@@ -1,7 +1,5 @@
 -- The first line feed ends the line.
-use Rattle.std.proofs.Common.{◌≡◌, ◌+◌, ◌-◌, ◌∙◌, [], length, take, drop, sym, arith}
-use Rattle.std.proofs.lemmas.Bool.{eqb-true}
-use Rattle.std.proofs.lemmas.List.{take_all, length-drop, nil_from_length}
+use Rattle.dom_base.proofs.Std.{◌≡◌, ◌+◌, ◌-◌, ◌∙◌, [], length, take, drop, sym, arith, eqb-true, take_all, length-drop, nil_from_length}
 use Rattle.dom_reader.proofs.WholeLines.{whole_line-at}
 use Rattle.dom_reader.proofs.splitter.Splitter.whole_line.Goals as goal
 

@@ -1,9 +1,8 @@
 -- Some is seen.
-use Rattle.std.proofs.Common.{ap, ◌∙◌}
-use Rattle.std.specs.List.{list_any}
-use Rattle.dom_model.specs.Selectors.{complex_matches}
-use Rattle.dom_tree.specs.Forest.{name_at}
-use Rattle.dom_selectors.specs.Views.{complex_view}
+use Rattle.dom_base.proofs.Std.{ap, ◌∙◌, list_any}
+use Rattle.dom_model.proofs.Model.{complex_matches}
+use Rattle.dom_tree.specs.Definitions.{name_at}
+use Rattle.dom_selectors.specs.Definitions.{complex_view}
 use Rattle.dom_selectors.proofs.Anywhere.{any_seen}
 use Rattle.dom_selectors.proofs.selector.Selector.matches.Goals as goal
 

@@ -1,16 +1,11 @@
 -- The nodes that match are taken, one after another.
-use Rattle.std.proofs.Common.{◌≡◌, ◌<◌, Bool, [], ◌∷◌, ◌++◌, length, refl, sym, ap, subst, ◌∙◌, arith}
-use Rattle.std.specs.Prelude.{map, filter, All}
-use Rattle.std.specs.Option.{option_map}
-use Rattle.std.proofs.lemmas.List.Elements.{All-push}
-use Rattle.dom_base.specs.declared.NodeName.{NodeName}
-use Rattle.dom_model.specs.Selectors.{selector_matches}
-use Rattle.dom_tree.specs.Forest.{name_at}
+use Rattle.dom_base.proofs.Std.{◌≡◌, ◌<◌, Bool, [], ◌∷◌, ◌++◌, length, refl, sym, ap, subst, ◌∙◌, arith, map, filter, All, option_map, All-push}
+use Rattle.dom_model.proofs.Model.{NodeName, selector_matches}
+use Rattle.dom_tree.specs.Definitions.{name_at, StandsIn}
 use Rattle.dom_laws.specs.Within.{from_node}
-use Rattle.dom_tree.specs.Within.{StandsIn}
-use Rattle.dom_laws.proofs.Shapes.{above-itself}
+use Rattle.dom_laws.proofs.Laws.{above-itself}
 use Rattle.dom_tree.proofs.Searching.{IsWithin-key, following_step, length-behind}
-use Rattle.dom_selectors.specs.Views.{selector_view}
+use Rattle.dom_selectors.specs.Definitions.{selector_view}
 use Rattle.dom_selectors.proofs.QueryLaws.{behind_top, taken, left_out}
 use Rattle.dom_selectors.proofs.selector.Selector.query_all.Goals as goal
 use Rattle.dom_selectors.proofs.selector.Selector.query_all.Goals.{then-matches+in_ok-push, else-matches}

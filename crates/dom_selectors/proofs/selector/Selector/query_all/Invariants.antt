@@ -1,12 +1,9 @@
 -- Those found and those still to be found are all.
-use Rattle.std.proofs.Common.{◌≡◌, ◌<◌, ◌++◌, length}
-use Rattle.std.specs.Prelude.{filter, map, All}
-use Rattle.std.specs.Option.{option_map, ForSome}
-use Rattle.dom_model.specs.Selectors.{selector_matches, query_all}
-use Rattle.dom_tree.specs.Forest.{name_at}
+use Rattle.dom_base.proofs.Std.{◌≡◌, ◌<◌, ◌++◌, length, filter, map, All, option_map, ForSome}
+use Rattle.dom_model.proofs.Model.{selector_matches, query_all}
+use Rattle.dom_tree.specs.Definitions.{name_at, StandsIn}
 use Rattle.dom_laws.specs.Within.{from_node}
-use Rattle.dom_tree.specs.Within.{StandsIn}
-use Rattle.dom_selectors.specs.Views.{selector_view}
+use Rattle.dom_selectors.specs.Definitions.{selector_view}
 use Rattle.dom_selectors.proofs.selector.Selector.query_all.Given as goal
 
 abbrev pub invariant-loop-at : goal.invariant-loop-at

@@ -1,5 +1,5 @@
-use Rattle.std.proofs.Common.{◌≡◌, ℕ, length}
-use Rattle.dom_slots.specs.KeyMaps.{list_at}
+use Rattle.dom_base.proofs.Std.{◌≡◌, ℕ, length}
+use Rattle.dom_slots.specs.Definitions.{list_at}
 use Rattle.dom_slots.proofs.key_lists.KeyLists.reach.Given as goal
 
 abbrev pub invariant-loop : goal.invariant-loop

@@ -1,6 +1,5 @@
-use Rattle.std.proofs.Common.{ap, ◌∙◌, rules}
-use Rattle.std.specs.Prelude.{slice_set}
-use Rattle.dom_slots.specs.NodeSlots.{slots_at}
+use Rattle.dom_base.proofs.Std.{ap, ◌∙◌, rules, slice_set}
+use Rattle.dom_slots.specs.Definitions.{slots_at}
 use Rattle.dom_slots.specs.declared.key_lists.KeyLists.{KeyLists}
 use Rattle.dom_slots.proofs.InLine.{put-in-line}
 use Rattle.dom_slots.proofs.node_slots.NodeSlots.put.Goals as goal

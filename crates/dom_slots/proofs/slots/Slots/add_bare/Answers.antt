@@ -1,10 +1,7 @@
-use Rattle.std.proofs.Common.{◌≡◌, ◌&&◌, ◌++◌, Bool, true, List, [], ◌∷◌, sym, ap, subst, ◌∙◌}
-use Rattle.std.specs.Prelude.{if◌then◌else◌}
-use Rattle.dom_base.specs.declared.NodeName.{NodeName}
-use Rattle.dom_tree.specs.Forest.{name_at}
-use Rattle.dom_slots.specs.Renewals.{AreRenewed}
-use Rattle.dom_slots.specs.Shadows.{shadows, is_bare_at}
-use Rattle.dom_slots.specs.Steps.{is_move}
+use Rattle.dom_base.proofs.Std.{◌≡◌, ◌&&◌, ◌++◌, Bool, true, List, [], ◌∷◌, sym, ap, subst, ◌∙◌, if◌then◌else◌}
+use Rattle.dom_model.proofs.Model.{NodeName}
+use Rattle.dom_tree.specs.Definitions.{name_at}
+use Rattle.dom_slots.specs.Definitions.{AreRenewed, shadows, is_bare_at, is_move}
 use Rattle.dom_slots.proofs.Renewing.{told-more}
 use Rattle.dom_slots.proofs.slots.Slots.add_bare.Goals as goal
 

@@ -1,8 +1,6 @@
-use Rattle.std.proofs.Common.{◌≡◌, [], map, ap, sym, subst, ◌∙◌}
-use Rattle.std.specs.Prelude.{IfOk}
-use Rattle.std.specs.Option.{option_map_or}
-use Rattle.dom_tree.specs.Forest.{name_at}
-use Rattle.dom_slots.specs.Shadows.{shadows, assigned_under}
+use Rattle.dom_base.proofs.Std.{◌≡◌, [], map, ap, sym, subst, ◌∙◌, IfOk, option_map_or}
+use Rattle.dom_tree.specs.Definitions.{name_at}
+use Rattle.dom_slots.specs.Definitions.{shadows, assigned_under}
 use Rattle.dom_slots.proofs.Hosted.{host-found, host-node}
 use Rattle.dom_slots.proofs.slots.Slots.assigned_now.Goals as goal
 

@@ -1,16 +1,9 @@
-use Rattle.std.proofs.Common.{◌≡◌, ◌<◌, ◌&&◌, ◌∷◌, ◌++◌, Bool, All, length, map, sym, ap, subst, ◌∙◌, arith}
-use Rattle.std.specs.Prelude.{filter}
-use Rattle.std.specs.Option.{option_map}
-use Rattle.std.proofs.lemmas.List.{append-nil}
-use Rattle.dom_base.specs.declared.NodeName.{NodeName}
-use Rattle.dom_model.specs.Names.{name_eq, items_after}
-use Rattle.dom_model.specs.Slots.{slot_name}
-use Rattle.dom_model.specs.Tree.{node_in, children_of}
-use Rattle.dom_tree.specs.Forest.{name_at}
-use Rattle.dom_laws.proofs.Children.{parent-of_child}
+use Rattle.dom_base.proofs.Std.{◌≡◌, ◌<◌, ◌&&◌, ◌∷◌, ◌++◌, Bool, All, length, map, sym, ap, subst, ◌∙◌, arith, filter, option_map, append-nil}
+use Rattle.dom_model.proofs.Model.{NodeName, name_eq, items_after, slot_name, node_in, children_of}
+use Rattle.dom_tree.specs.Definitions.{name_at}
+use Rattle.dom_laws.proofs.Laws.{parent-of_child, filter-none}
 use Rattle.dom_tree.proofs.Standing.{Once-forest, Has-forest}
-use Rattle.dom_laws.proofs.Lists.{filter-none}
-use Rattle.dom_slots.specs.Shadows.{shadows, is_assigned_at, looks_for}
+use Rattle.dom_slots.specs.Definitions.{shadows, is_assigned_at, looks_for}
 use Rattle.dom_slots.proofs.Firsts.{assigned-first}
 use Rattle.dom_slots.proofs.Siblings.{from_item, first_step, goes-on}
 use Rattle.dom_slots.proofs.Walks.{collect-yes, collect-no}

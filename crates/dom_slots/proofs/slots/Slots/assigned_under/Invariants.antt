@@ -1,9 +1,7 @@
-use Rattle.std.proofs.Common.{◌≡◌, ◌<◌, ◌++◌, length, map, All}
-use Rattle.std.specs.Prelude.{filter}
-use Rattle.std.specs.Option.{option_map, ForSome}
-use Rattle.dom_model.specs.Tree.{children_of}
-use Rattle.dom_tree.specs.Forest.{name_at}
-use Rattle.dom_slots.specs.Shadows.{shadows, is_assigned_at}
+use Rattle.dom_base.proofs.Std.{◌≡◌, ◌<◌, ◌++◌, length, map, All, filter, option_map, ForSome}
+use Rattle.dom_model.proofs.Model.{children_of}
+use Rattle.dom_tree.specs.Definitions.{name_at}
+use Rattle.dom_slots.specs.Definitions.{shadows, is_assigned_at}
 use Rattle.dom_slots.proofs.Siblings.{from_item, IsChild}
 use Rattle.dom_slots.proofs.slots.Slots.assigned_under.Given as goal
 

@@ -1,15 +1,9 @@
-use Rattle.std.proofs.Common.{◌≡◌, ◌<◌, ◌++◌, ◌∷◌, [], List, Some, length, ap, sym, subst, ◌∙◌, arith}
-use Rattle.std.specs.Prelude.{nat_eq, if◌then◌else◌}
-use Rattle.std.proofs.lemmas.List.{map-append}
-use Rattle.std.proofs.lemmas.Grind.{common_steps}
+use Rattle.dom_base.proofs.Std.{◌≡◌, ◌<◌, ◌++◌, ◌∷◌, [], List, Some, length, ap, sym, subst, ◌∙◌, arith, nat_eq, if◌then◌else◌, map-append, common_steps}
 use Rattle.dom_slots.specs.declared.slots.Attached.{Attached}
-use Rattle.dom_slots.specs.Hosts.{ShadowHost, HostsAreNodes, host_of_root, root_of_host}
-use Rattle.dom_slots.specs.Tables.{IsTableOf}
-use Rattle.dom_base.specs.declared.NodeName.{NodeName}
-use Rattle.dom_tree.specs.Forest.{name_at}
+use Rattle.dom_slots.specs.Definitions.{ShadowHost, HostsAreNodes, host_of_root, root_of_host, IsTableOf, SlotsNow, host_in, hosts_in}
+use Rattle.dom_model.proofs.Model.{NodeName}
+use Rattle.dom_tree.specs.Definitions.{name_at}
 use Rattle.dom_tree.proofs.Standing.{Once-forest}
-use Rattle.dom_slots.specs.Kept.{SlotsNow}
-use Rattle.dom_slots.specs.Fields.{host_in, hosts_in}
 use Rattle.dom_slots.proofs.Kept.{found-more}
 use Rattle.dom_slots.proofs.Attaching.{same_assigned, bare_unassigned}
 use Rattle.dom_slots.proofs.slots.Slots.attach.Goals as goal

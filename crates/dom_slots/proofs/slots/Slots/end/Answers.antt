@@ -1,17 +1,8 @@
-use Rattle.std.proofs.Common.{◌≡◌, true, Result, Ok, Err, map, filter, sym, ap, subst, ◌∙◌}
-use Rattle.std.specs.Prelude.{IfOk}
-use Rattle.std.specs.Option.{option_map}
-use Rattle.std.proofs.lemmas.Bool.{and_parts}
-use Rattle.std.proofs.lemmas.Result.{IfOk-weaker}
-use Rattle.dom_model.specs.Tree.{Trees}
-use Rattle.dom_tree.specs.Forest.{NamedTrees, name_at}
-use Rattle.dom_slots.specs.Hosts.{HostsAreNodes}
-use Rattle.dom_slots.specs.Kept.{SlotsNow, StandsOnce, AreSlotsOf, IsEndOf}
-use Rattle.dom_slots.specs.Insides.{own_slots, IsInside}
-use Rattle.dom_slots.specs.Renewals.{AreRenewed}
-use Rattle.dom_slots.specs.Shadows.{shadows, shadow_trees, is_changed_at}
-use Rattle.dom_slots.specs.Steps.{step_node, step_signals, is_apart}
-use Rattle.dom_slots.specs.Tables.{IsTableOf}
+use Rattle.dom_base.proofs.Std.{◌≡◌, true, Result, Ok, Err, map, filter, sym, ap, subst, ◌∙◌, IfOk, option_map, and_parts, IfOk-weaker}
+use Rattle.dom_model.proofs.Model.{Trees}
+use Rattle.dom_tree.specs.Definitions.{NamedTrees, name_at}
+use Rattle.dom_slots.specs.Definitions.{HostsAreNodes, SlotsNow, StandsOnce, AreSlotsOf, IsEndOf, own_slots, IsInside, AreRenewed, shadows, shadow_trees}
+use Rattle.dom_slots.specs.Definitions.{is_changed_at, step_node, step_signals, is_apart, IsTableOf}
 use Rattle.dom_slots.proofs.Apart.{apart-but-for, apart-table, apart-keys}
 use Rattle.dom_slots.proofs.Ended.{none-renewed}
 use Rattle.dom_slots.proofs.Inside.{inside-but-for, inside-table, inside-keys, inside-nodes}

@@ -1,6 +1,5 @@
-use Rattle.std.proofs.Common.{ap, ◌∙◌}
-use Rattle.dom_slots.specs.Hosts.{host_of_root}
-use Rattle.dom_slots.specs.Kept.{SlotsNow}
+use Rattle.dom_base.proofs.Std.{ap, ◌∙◌}
+use Rattle.dom_slots.specs.Definitions.{host_of_root, SlotsNow}
 use Rattle.dom_slots.proofs.slots.Slots.host_of.Goals as goal
 
 pub returns : goal.returns

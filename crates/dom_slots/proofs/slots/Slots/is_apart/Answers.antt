@@ -1,11 +1,7 @@
-use Rattle.std.proofs.Common.{◌≡◌, true, ◌&&◌, refl, sym, ap, ◌∙◌, true≢false}
-use Rattle.std.specs.Prelude.{is_none}
-use Rattle.std.specs.Option.{option_map}
-use Rattle.dom_model.specs.Tree.{parent_of}
-use Rattle.dom_tree.specs.Forest.{name_at}
-use Rattle.dom_slots.specs.Hosts.{host_named, host_of_root}
-use Rattle.dom_slots.specs.Shadows.{shadows}
-use Rattle.dom_slots.specs.Steps.{step_node, is_outside}
+use Rattle.dom_base.proofs.Std.{◌≡◌, true, ◌&&◌, refl, sym, ap, ◌∙◌, true≢false, is_none, option_map}
+use Rattle.dom_model.proofs.Model.{parent_of}
+use Rattle.dom_tree.specs.Definitions.{name_at}
+use Rattle.dom_slots.specs.Definitions.{host_named, host_of_root, shadows, step_node, is_outside}
 use Rattle.dom_slots.proofs.Choices.{all-three, second-fails}
 use Rattle.dom_slots.proofs.Ended.{node-within}
 use Rattle.dom_slots.proofs.Hosted.{none-found}

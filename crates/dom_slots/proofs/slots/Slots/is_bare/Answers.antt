@@ -1,14 +1,7 @@
-use Rattle.std.proofs.Common.{◌≡◌, ℕ, ◌&&◌, ◌==◌, not, [], ◌∷◌, List, length, map, refl, sym, ap, ◌∙◌, suc, arith}
-use Rattle.std.proofs.lemmas.Bool.{ne_eqb}
-use Rattle.std.specs.Prelude.{is_some}
-use Rattle.std.specs.Vec.{vec_len}
-use Rattle.dom_base.specs.declared.NodeName.{NodeName}
-use Rattle.dom_model.specs.Names.{is_empty}
-use Rattle.dom_model.specs.Slots.{is_slot_element}
-use Rattle.dom_model.specs.Tree.{node_in, root_of}
-use Rattle.dom_tree.specs.Forest.{name_at}
-use Rattle.dom_slots.specs.Hosts.{host_named}
-use Rattle.dom_slots.specs.Shadows.{shadows, assigned_at}
+use Rattle.dom_base.proofs.Std.{◌≡◌, ℕ, ◌&&◌, ◌==◌, not, [], ◌∷◌, List, length, map, refl, sym, ap, ◌∙◌, suc, arith, ne_eqb, is_some, vec_len}
+use Rattle.dom_model.proofs.Model.{NodeName, is_empty, is_slot_element, node_in, root_of}
+use Rattle.dom_tree.specs.Definitions.{name_at}
+use Rattle.dom_slots.specs.Definitions.{host_named, shadows, assigned_at}
 use Rattle.dom_slots.proofs.Choices.{all-three, second-fails}
 use Rattle.dom_slots.proofs.Hosted.{is_some-named, host-found}
 use Rattle.dom_slots.proofs.slots.Slots.is_bare.Goals as goal

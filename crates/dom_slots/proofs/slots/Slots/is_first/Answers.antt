@@ -1,12 +1,7 @@
-use Rattle.std.proofs.Common.{◌≡◌, None, Some, sym, ap, ◌∙◌}
-use Rattle.std.specs.Prelude.{Option, find, option_to_list}
-use Rattle.std.specs.Option.{option_map, option_and_then}
-use Rattle.dom_base.specs.declared.NodeName.{NodeName}
-use Rattle.dom_model.specs.Names.{DomString, name_eq, is_in}
-use Rattle.dom_model.specs.Slots.{has_slot_name, slot_name}
-use Rattle.dom_model.specs.Tree.{Node, node_in, nodes, subtree}
-use Rattle.dom_tree.specs.Forest.{name_at}
-use Rattle.dom_slots.specs.Hosts.{root_named}
+use Rattle.dom_base.proofs.Std.{◌≡◌, None, Some, sym, ap, ◌∙◌, Option, find, option_to_list, option_map, option_and_then}
+use Rattle.dom_model.proofs.Model.{NodeName, DomString, name_eq, is_in, has_slot_name, slot_name, Node, node_in, nodes, subtree}
+use Rattle.dom_tree.specs.Definitions.{name_at}
+use Rattle.dom_slots.specs.Definitions.{root_named}
 use Rattle.dom_slots.proofs.Hosted.{root-named, root-node, found-test}
 use Rattle.dom_slots.proofs.slots.Slots.is_first.Goals as goal
 

@@ -1,8 +1,5 @@
-use Rattle.std.proofs.Common.{◌≡◌, List, [], ◌∷◌, length, sym, ap, ◌∙◌, refl, arith}
-use Rattle.std.specs.Vec.{vec_len}
-use Rattle.std.proofs.lemmas.Bool.{eqb-true}
-use Rattle.dom_slots.specs.Fields.{hosts_in}
-use Rattle.dom_slots.specs.Kept.{SlotsNow}
+use Rattle.dom_base.proofs.Std.{◌≡◌, List, [], ◌∷◌, length, sym, ap, ◌∙◌, refl, arith, vec_len, eqb-true}
+use Rattle.dom_slots.specs.Definitions.{hosts_in, SlotsNow}
 use Rattle.dom_slots.proofs.slots.Slots.is_hostless.Goals as goal
 
 -- a list of no length

@@ -1,6 +1,5 @@
-use Rattle.std.proofs.Common.{Some, sym, ap, ◌∙◌}
-use Rattle.std.specs.Option.{option_map}
-use Rattle.dom_tree.specs.Forest.{name_at}
+use Rattle.dom_base.proofs.Std.{Some, sym, ap, ◌∙◌, option_map}
+use Rattle.dom_tree.specs.Definitions.{name_at}
 use Rattle.dom_slots.proofs.Hosted.{host-found}
 use Rattle.dom_slots.proofs.Joining.{same-option}
 use Rattle.dom_slots.proofs.slots.Slots.is_of_parent.Goals as goal

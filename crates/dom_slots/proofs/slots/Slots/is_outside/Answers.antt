@@ -1,8 +1,6 @@
-use Rattle.std.proofs.Common.{sym, ap, ◌∙◌}
-use Rattle.std.specs.Option.{option_map}
-use Rattle.dom_tree.specs.Forest.{name_at}
-use Rattle.dom_slots.specs.Shadows.{shadows}
-use Rattle.dom_slots.specs.Steps.{is_outside}
+use Rattle.dom_base.proofs.Std.{sym, ap, ◌∙◌, option_map}
+use Rattle.dom_tree.specs.Definitions.{name_at}
+use Rattle.dom_slots.specs.Definitions.{shadows, is_outside}
 use Rattle.dom_slots.proofs.Hosted.{none-found}
 use Rattle.dom_slots.proofs.slots.Slots.is_outside.Goals as goal
 

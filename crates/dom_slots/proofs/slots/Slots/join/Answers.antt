@@ -1,14 +1,9 @@
-use Rattle.std.proofs.Common.{◌≡◌, ℕ, ◌++◌, true, not, filter, sym, ap, subst, ◌∙◌}
-use Rattle.std.specs.Prelude.{nat_eq, if◌then◌else◌, option_to_list, OnOk}
-use Rattle.std.specs.Option.{option_map}
-use Rattle.std.proofs.lemmas.Result.{on_ok_weaker}
-use Rattle.dom_model.specs.Names.{append_once, list_eq}
-use Rattle.dom_tree.specs.Forest.{name_at}
+use Rattle.dom_base.proofs.Std.{◌≡◌, ℕ, ◌++◌, true, not, filter, sym, ap, subst, ◌∙◌, nat_eq, if◌then◌else◌, option_to_list, OnOk, option_map, on_ok_weaker}
+use Rattle.dom_model.proofs.Model.{append_once, list_eq}
+use Rattle.dom_tree.specs.Definitions.{name_at}
 use Rattle.dom_tree.proofs.Standing.{Once-forest, Has-forest}
 use Rattle.node_arena.specs.Nodes.{insert_before}
-use Rattle.dom_slots.specs.Kept.{SlotsNow}
-use Rattle.dom_slots.specs.Renewals.{AreRenewed, Renews}
-use Rattle.dom_slots.specs.Tables.{SlotTable, list_of}
+use Rattle.dom_slots.specs.Definitions.{SlotsNow, AreRenewed, Renews, SlotTable, list_of}
 use Rattle.dom_slots.proofs.Joining.{inserted-differs, joined, not-listed, joined-inside}
 use Rattle.dom_slots.proofs.Leaving.{at-slot}
 use Rattle.dom_slots.proofs.Renewing.{renewed-more}

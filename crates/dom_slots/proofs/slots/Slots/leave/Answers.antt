@@ -1,8 +1,6 @@
-use Rattle.std.proofs.Common.{◌≡◌, ap, sym, ◌∙◌}
-use Rattle.std.specs.Prelude.{nat_eq, if◌then◌else◌}
-use Rattle.std.proofs.lemmas.Result.{on_ok_weaker}
-use Rattle.dom_model.specs.Names.{append_once}
-use Rattle.dom_slots.specs.Kept.{SlotsNow}
+use Rattle.dom_base.proofs.Std.{◌≡◌, ap, sym, ◌∙◌, nat_eq, if◌then◌else◌, on_ok_weaker}
+use Rattle.dom_model.proofs.Model.{append_once}
+use Rattle.dom_slots.specs.Definitions.{SlotsNow}
 use Rattle.dom_slots.proofs.Leaving.{renews-left}
 use Rattle.dom_slots.proofs.slots.Slots.leave.Goals as goal
 

@@ -1,14 +1,8 @@
-use Rattle.std.proofs.Common.{◌≡◌, ℕ, ◌<◌, ◌++◌, [], Some, length, map, filter, sym, ap, subst, ◌∙◌}
-use Rattle.std.specs.Prelude.{option_to_list}
-use Rattle.std.specs.Option.{option_map}
-use Rattle.dom_base.specs.declared.NodeName.{NodeName}
-use Rattle.dom_tree.specs.Forest.{name_at}
+use Rattle.dom_base.proofs.Std.{◌≡◌, ℕ, ◌<◌, ◌++◌, [], Some, length, map, filter, sym, ap, subst, ◌∙◌, option_to_list, option_map}
+use Rattle.dom_model.proofs.Model.{NodeName}
+use Rattle.dom_tree.specs.Definitions.{name_at}
 use Rattle.node_arena.specs.Nodes.{without}
-use Rattle.dom_slots.specs.Insides.{own_slots}
-use Rattle.dom_slots.specs.Renewals.{AreRenewed, names_but}
-use Rattle.dom_slots.specs.Shadows.{shadows, slot_at, assigned_at}
-use Rattle.dom_slots.specs.Steps.{step_node}
-use Rattle.dom_slots.specs.Tables.{list_of}
+use Rattle.dom_slots.specs.Definitions.{own_slots, AreRenewed, names_but, shadows, slot_at, assigned_at, step_node, list_of}
 use Rattle.dom_slots.proofs.Joining.{same-option}
 use Rattle.dom_slots.proofs.Parting.{leaves-right, joins-right, both-slots, both-stay}
 use Rattle.dom_slots.proofs.slots.Slots.moved_signals.Goals as goal

@@ -1,10 +1,8 @@
-use Rattle.std.proofs.Common.{inl, None, refl, ap, ◌∙◌}
-use Rattle.std.proofs.lemmas.Result.{IfOk-weaker}
-use Rattle.dom_model.specs.Slots.{slots_among}
-use Rattle.dom_model.specs.Tree.{subtree}
-use Rattle.dom_tree.specs.Forest.{name_at}
-use Rattle.dom_laws.proofs.Lists.{filter-all}
-use Rattle.dom_slots.specs.Insides.{is_called}
+use Rattle.dom_base.proofs.Std.{inl, None, refl, ap, ◌∙◌, IfOk-weaker}
+use Rattle.dom_model.proofs.Model.{slots_among, subtree}
+use Rattle.dom_tree.specs.Definitions.{name_at}
+use Rattle.dom_laws.proofs.Laws.{filter-all}
+use Rattle.dom_slots.specs.Definitions.{is_called}
 use Rattle.dom_slots.proofs.slots.Slots.moved_slots.Goals as goal
 
 pub returns-clause-value : goal.returns-clause-value

@@ -1,12 +1,7 @@
-use Rattle.std.proofs.Common.{◌≡◌, ◌++◌, [], ℕ, map, filter, sym, ap, subst, ◌∙◌}
-use Rattle.std.specs.Prelude.{option_to_list}
-use Rattle.std.specs.Option.{option_map}
-use Rattle.std.proofs.lemmas.List.Elements.{filter-append}
-use Rattle.dom_base.specs.declared.NodeName.{NodeName}
-use Rattle.dom_tree.specs.Forest.{name_at}
-use Rattle.dom_slots.specs.Renewals.{AreRenewed}
-use Rattle.dom_slots.specs.Shadows.{shadows, slot_at}
-use Rattle.dom_slots.specs.Steps.{step_node}
+use Rattle.dom_base.proofs.Std.{◌≡◌, ◌++◌, [], ℕ, map, filter, sym, ap, subst, ◌∙◌, option_to_list, option_map, filter-append}
+use Rattle.dom_model.proofs.Model.{NodeName}
+use Rattle.dom_tree.specs.Definitions.{name_at}
+use Rattle.dom_slots.specs.Definitions.{AreRenewed, shadows, slot_at, step_node}
 use Rattle.dom_slots.proofs.Signalled.{listed, listed-named}
 use Rattle.dom_slots.proofs.slots.Slots.own_signals.Goals as goal
 

@@ -1,8 +1,6 @@
-use Rattle.std.proofs.Common.{map, refl, sym, subst, ◌∙◌}
-use Rattle.std.proofs.lemmas.List.{take_all}
-use Rattle.dom_tree.specs.Forest.{name_at}
-use Rattle.dom_slots.specs.Hosts.{HostsAreNodes}
-use Rattle.dom_slots.specs.Renewals.{Renews}
+use Rattle.dom_base.proofs.Std.{map, refl, sym, subst, ◌∙◌, take_all}
+use Rattle.dom_tree.specs.Definitions.{name_at}
+use Rattle.dom_slots.specs.Definitions.{HostsAreNodes, Renews}
 use Rattle.dom_slots.proofs.Renewing.{renews-none, renews-next}
 use Rattle.dom_slots.proofs.slots.Slots.renew.Goals as goal
 

@@ -1,6 +1,6 @@
-use Rattle.std.proofs.Common.{◌≡◌, map, take}
-use Rattle.dom_tree.specs.Forest.{name_at}
-use Rattle.dom_slots.specs.Renewals.{Renews}
+use Rattle.dom_base.proofs.Std.{◌≡◌, map, take}
+use Rattle.dom_tree.specs.Definitions.{name_at}
+use Rattle.dom_slots.specs.Definitions.{Renews}
 use Rattle.dom_slots.proofs.slots.Slots.renew.Given as goal
 
 abbrev pub invariant-loop-slot : goal.invariant-loop-slot

@@ -1,8 +1,6 @@
-use Rattle.std.proofs.Common.{◌≡◌, ℕ, Bool, List, not, refl, sym, ap, ◌∙◌}
-use Rattle.std.specs.Prelude.{nat_eq, if◌then◌else◌}
-use Rattle.dom_model.specs.Names.{append_once, list_eq}
-use Rattle.dom_slots.specs.Kept.{SlotsNow}
-use Rattle.dom_slots.specs.Tables.{SlotTable, list_of}
+use Rattle.dom_base.proofs.Std.{◌≡◌, ℕ, Bool, List, not, refl, sym, ap, ◌∙◌, nat_eq, if◌then◌else◌}
+use Rattle.dom_model.proofs.Model.{append_once, list_eq}
+use Rattle.dom_slots.specs.Definitions.{SlotsNow, SlotTable, list_of}
 use Rattle.dom_slots.proofs.Renewing.{renewed-more, renewed-stays}
 use Rattle.dom_slots.proofs.slots.Slots.renew_as.Goals as goal
 

@@ -1,15 +1,9 @@
-use Rattle.std.proofs.Common.{◌≡◌, ◌++◌, map, filter, sym, ap, subst, ◌∙◌}
-use Rattle.std.proofs.lemmas.Bool.{eqb-true, or_right}
-use Rattle.std.proofs.lemmas.List.Folds.{list_any-append}
-use Rattle.std.proofs.lemmas.Result.{on_ok_weaker}
-use Rattle.dom_model.specs.Names.{name_eq, is_in}
-use Rattle.dom_model.specs.Slots.{slots_among}
-use Rattle.dom_model.specs.Tree.{root_of, subtree}
-use Rattle.dom_tree.specs.Forest.{name_at}
+use Rattle.dom_base.proofs.Std.{◌≡◌, ◌++◌, map, filter, sym, ap, subst, ◌∙◌, eqb-true, or_right, list_any-append, on_ok_weaker}
+use Rattle.dom_model.proofs.Model.{name_eq, is_in, slots_among, root_of, subtree}
+use Rattle.dom_tree.specs.Definitions.{name_at}
 use Rattle.dom_tree.proofs.Standing.{Once-forest, Has-forest}
-use Rattle.dom_laws.proofs.Lists.{In, is_in-from}
-use Rattle.dom_slots.specs.Insides.{tree_slots}
-use Rattle.dom_slots.specs.Renewals.{Renews}
+use Rattle.dom_laws.proofs.Laws.{In, is_in-from}
+use Rattle.dom_slots.specs.Definitions.{tree_slots, Renews}
 use Rattle.dom_slots.proofs.Attaching.{to_filter}
 use Rattle.dom_slots.proofs.Renewing.{renewed-again}
 use Rattle.dom_slots.proofs.TreeSlots.{below-root}

@@ -1,13 +1,7 @@
-use Rattle.std.proofs.Common.{◌≡◌, [], filter, sym, ap, subst, ◌∙◌}
-use Rattle.std.specs.Prelude.{OnOk}
-use Rattle.std.specs.Option.{option_map, option_map_or}
-use Rattle.std.proofs.lemmas.Bool.{eqb-true}
-use Rattle.std.proofs.lemmas.Result.{on_ok_weaker}
-use Rattle.dom_model.specs.Slots.{slots_among}
-use Rattle.dom_model.specs.Tree.{root_of, subtree}
-use Rattle.dom_tree.specs.Forest.{name_at}
-use Rattle.dom_slots.specs.Insides.{is_called, tree_slots, AreSilent}
-use Rattle.dom_slots.specs.Renewals.{AreRenewed, Renews}
+use Rattle.dom_base.proofs.Std.{◌≡◌, [], filter, sym, ap, subst, ◌∙◌, OnOk, option_map, option_map_or, eqb-true, on_ok_weaker}
+use Rattle.dom_model.proofs.Model.{slots_among, root_of, subtree}
+use Rattle.dom_tree.specs.Definitions.{name_at}
+use Rattle.dom_slots.specs.Definitions.{is_called, tree_slots, AreSilent, AreRenewed, Renews}
 use Rattle.dom_slots.proofs.Attaching.{in_filter}
 use Rattle.dom_slots.proofs.Renewing.{renewed-right}
 use Rattle.dom_slots.proofs.TreeSlots.{slot-key}

@@ -1,18 +1,9 @@
-use Rattle.std.proofs.Common.{◌≡◌, inr, true, ◌++◌, map, filter, sym, ap, subst, ◌∙◌, append_assoc, true≢false}
-use Rattle.std.proofs.lemmas.Bool.{or_left, or_right, true_from_ne_false}
-use Rattle.std.proofs.lemmas.List.Elements.{filter-append}
-use Rattle.std.proofs.lemmas.List.Folds.{list_any-append}
-use Rattle.std.proofs.lemmas.Result.{on_ok_weaker}
-use Rattle.std.specs.Option.{option_map}
-use Rattle.dom_base.specs.declared.NodeName.{NodeName}
-use Rattle.dom_model.specs.Names.{name_eq, is_in}
-use Rattle.dom_model.specs.Slots.{slots_among}
-use Rattle.dom_model.specs.Tree.{subtree}
-use Rattle.dom_tree.specs.Forest.{name_at}
-use Rattle.dom_laws.proofs.Lists.{filter-all, is_in-from}
-use Rattle.dom_slots.specs.Insides.{is_called, tree_slots, slots_around, left_slots, AreRight, AreSilent}
-use Rattle.dom_slots.specs.Renewals.{AreRenewed}
-use Rattle.dom_slots.specs.Steps.{step_node}
+use Rattle.dom_base.proofs.Std.{◌≡◌, inr, true, ◌++◌, map, filter, sym, ap, subst, ◌∙◌, append_assoc, true≢false, or_left, or_right, true_from_ne_false}
+use Rattle.dom_base.proofs.Std.{filter-append, list_any-append, on_ok_weaker, option_map}
+use Rattle.dom_model.proofs.Model.{NodeName, name_eq, is_in, slots_among, subtree}
+use Rattle.dom_tree.specs.Definitions.{name_at}
+use Rattle.dom_laws.proofs.Laws.{filter-all, is_in-from}
+use Rattle.dom_slots.specs.Definitions.{is_called, tree_slots, slots_around, left_slots, AreRight, AreSilent, AreRenewed, step_node}
 use Rattle.dom_slots.proofs.slots.Slots.renew_moved.Goals as goal
 
 pub returns-clause-renewed : goal.returns-clause-renewed

@@ -1,16 +1,9 @@
-use Rattle.std.proofs.Common.{◌≡◌, ℕ, ◌<◌, Bool, List, filter, Some, length, map, refl, sym, ap, subst, ◌∙◌}
-use Rattle.std.specs.Prelude.{OnOk}
-use Rattle.std.specs.Option.{option_map}
-use Rattle.dom_base.specs.declared.NodeName.{NodeName}
-use Rattle.dom_model.specs.Slots.{slots_among}
-use Rattle.dom_model.specs.Tree.{root_of, subtree}
-use Rattle.dom_tree.specs.Forest.{NamedTrees, name_at}
+use Rattle.dom_base.proofs.Std.{◌≡◌, ℕ, ◌<◌, Bool, List, filter, Some, length, map, refl, sym, ap, subst, ◌∙◌, OnOk, option_map}
+use Rattle.dom_model.proofs.Model.{NodeName, slots_among, root_of, subtree}
+use Rattle.dom_tree.specs.Definitions.{NamedTrees, name_at}
 use Rattle.dom_tree.proofs.Standing.{Once-forest, Has-forest}
-use Rattle.dom_laws.proofs.Lists.{In}
-use Rattle.dom_slots.specs.Hosts.{host_named, root_named}
-use Rattle.dom_slots.specs.Insides.{tree_slots}
-use Rattle.dom_slots.specs.Renewals.{Renews}
-use Rattle.dom_slots.specs.Waiting.{waiting_under}
+use Rattle.dom_laws.proofs.Laws.{In}
+use Rattle.dom_slots.specs.Definitions.{host_named, root_named, tree_slots, Renews, waiting_under}
 use Rattle.dom_slots.proofs.Hosted.{host-found, root-named, host-node}
 use Rattle.dom_slots.proofs.Joining.{same-option}
 use Rattle.dom_slots.proofs.Serving.{all-served}

@@ -1,15 +1,8 @@
-use Rattle.std.proofs.Common.{◌≡◌, ℕ, ◌<◌, ◌+◌, ◌∷◌, [], Bool, true, false, List, All, map, drop, length, refl, sym, ap, subst, ◌∙◌}
-use Rattle.std.specs.Prelude.{if◌then◌else◌}
-use Rattle.std.proofs.lemmas.List.{take_all, drop_more}
-use Rattle.std.proofs.lemmas.List.Elements.{All-nil}
-use Rattle.dom_model.specs.Names.{text_eq}
-use Rattle.dom_model.specs.Slots.{slot_name}
-use Rattle.dom_model.specs.Tree.{node_in}
-use Rattle.dom_tree.specs.Forest.{NamedTrees, name_at}
-use Rattle.dom_slots.specs.Hosts.{ShadowHost}
-use Rattle.dom_slots.specs.Renewals.{Renews}
-use Rattle.dom_slots.specs.Shadows.{shadows, assigned_at}
-use Rattle.dom_slots.specs.Waiting.{waiting_under, Serves}
+use Rattle.dom_base.proofs.Std.{◌≡◌, ℕ, ◌<◌, ◌+◌, ◌∷◌, [], Bool, true, false, List, All, map, drop, length, refl, sym, ap, subst, ◌∙◌, if◌then◌else◌, take_all}
+use Rattle.dom_base.proofs.Std.{drop_more, All-nil}
+use Rattle.dom_model.proofs.Model.{text_eq, slot_name, node_in}
+use Rattle.dom_tree.specs.Definitions.{NamedTrees, name_at}
+use Rattle.dom_slots.specs.Definitions.{ShadowHost, Renews, shadows, assigned_at, waiting_under, Serves}
 use Rattle.dom_slots.proofs.Renewing.{renews-none, renews-next}
 use Rattle.dom_slots.proofs.slots.Slots.renew_waiting.Goals as goal
 

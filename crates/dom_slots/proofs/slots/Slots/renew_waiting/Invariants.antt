@@ -1,7 +1,6 @@
-use Rattle.std.proofs.Common.{◌≡◌, ℕ, ◌<◌, List, All, map, take, drop, length}
-use Rattle.dom_tree.specs.Forest.{name_at}
-use Rattle.dom_slots.specs.Renewals.{Renews}
-use Rattle.dom_slots.specs.Waiting.{waiting_under, Serves}
+use Rattle.dom_base.proofs.Std.{◌≡◌, ℕ, ◌<◌, List, All, map, take, drop, length}
+use Rattle.dom_tree.specs.Definitions.{name_at}
+use Rattle.dom_slots.specs.Definitions.{Renews, waiting_under, Serves}
 use Rattle.dom_slots.proofs.slots.Slots.renew_waiting.Given as goal
 
 abbrev pub invariant-loop-slot : goal.invariant-loop-slot

@@ -1,6 +1,5 @@
-use Rattle.std.proofs.Common.{ap, ◌∙◌}
-use Rattle.dom_slots.specs.Hosts.{root_of_host}
-use Rattle.dom_slots.specs.Kept.{SlotsNow}
+use Rattle.dom_base.proofs.Std.{ap, ◌∙◌}
+use Rattle.dom_slots.specs.Definitions.{root_of_host, SlotsNow}
 use Rattle.dom_slots.proofs.slots.Slots.root_of.Goals as goal
 
 pub returns : goal.returns

@@ -1,7 +1,6 @@
-use Rattle.std.proofs.Common.{ap, sym, ◌∙◌}
-use Rattle.std.specs.Option.{option_map}
-use Rattle.dom_tree.specs.Forest.{name_at}
-use Rattle.dom_slots.specs.Shadows.{shadows}
+use Rattle.dom_base.proofs.Std.{ap, sym, ◌∙◌, option_map}
+use Rattle.dom_tree.specs.Definitions.{name_at}
+use Rattle.dom_slots.specs.Definitions.{shadows}
 use Rattle.dom_slots.proofs.Hosted.{root-named, root-node, slot-rootless, slot-searched}
 use Rattle.dom_slots.proofs.slots.Slots.slot_now.Goals as goal
 

@@ -1,9 +1,6 @@
-use Rattle.std.proofs.Common.{◌≡◌, ◌<◌, true, length, ap, subst}
-use Rattle.std.specs.Prelude.{nat_eq}
-use Rattle.std.proofs.lemmas.Option.{same_Some}
-use Rattle.dom_model.specs.Names.{is_in}
-use Rattle.dom_slots.specs.Kept.{SlotsNow}
-use Rattle.dom_slots.specs.Tables.{SlotTable, list_of}
+use Rattle.dom_base.proofs.Std.{◌≡◌, ◌<◌, true, length, ap, subst, nat_eq, same_Some}
+use Rattle.dom_model.proofs.Model.{is_in}
+use Rattle.dom_slots.specs.Definitions.{SlotsNow, SlotTable, list_of}
 use Rattle.dom_slots.proofs.Assigned.{listed-node, listed-slot}
 use Rattle.dom_slots.proofs.slots.Slots.slot_of.Goals.{In-Some}
 use Rattle.dom_slots.proofs.slots.Slots.slot_of.Goals as goal

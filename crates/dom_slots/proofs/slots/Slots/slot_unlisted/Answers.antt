@@ -1,7 +1,5 @@
-use Rattle.std.proofs.Common.{◌≡◌, false, None, Some, Option, refl, sym, ap, ◌∙◌, true≢false}
-use Rattle.std.specs.Prelude.{is_some}
-use Rattle.std.specs.Option.{option_map}
-use Rattle.dom_tree.specs.Forest.{name_at}
+use Rattle.dom_base.proofs.Std.{◌≡◌, false, None, Some, Option, refl, sym, ap, ◌∙◌, true≢false, is_some, option_map}
+use Rattle.dom_tree.specs.Definitions.{name_at}
 use Rattle.dom_tree.proofs.Standing.{Once-forest, Has-forest}
 use Rattle.dom_slots.proofs.Hosted.{root-named, root-node, host-found, slot-rootless}
 use Rattle.dom_slots.proofs.Joining.{same-option}

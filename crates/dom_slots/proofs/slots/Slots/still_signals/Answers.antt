@@ -1,8 +1,6 @@
-use Rattle.std.proofs.Common.{inl, ◌++◌, filter, sym, ap, subst, ◌∙◌}
-use Rattle.std.proofs.lemmas.Option.{same_Some, none-some}
-use Rattle.dom_tree.specs.Forest.{name_at}
-use Rattle.dom_slots.specs.Insides.{own_slots, bare_around, MovesNone, MayMove, IsInside}
-use Rattle.dom_slots.specs.Renewals.{AreRenewed}
+use Rattle.dom_base.proofs.Std.{inl, ◌++◌, filter, sym, ap, subst, ◌∙◌, same_Some, none-some}
+use Rattle.dom_tree.specs.Definitions.{name_at}
+use Rattle.dom_slots.specs.Definitions.{own_slots, bare_around, MovesNone, MayMove, IsInside, AreRenewed}
 use Rattle.dom_slots.proofs.slots.Slots.still_signals.Goals.{in-Some+in_ok-add_bare, in_default}
 use Rattle.dom_slots.proofs.slots.Slots.still_signals.Goals as goal
 

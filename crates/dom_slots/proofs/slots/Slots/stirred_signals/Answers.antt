@@ -1,9 +1,6 @@
-use Rattle.std.proofs.Common.{◌≡◌, ◌++◌, filter, sym, ap, subst, ◌∙◌}
-use Rattle.std.proofs.lemmas.Option.{same_Some, none-some}
-use Rattle.dom_tree.specs.Forest.{name_at}
-use Rattle.dom_slots.specs.Insides.{own_slots, bare_around, MayMove, IsInside}
-use Rattle.dom_slots.specs.Kept.{SlotsNow}
-use Rattle.dom_slots.specs.Renewals.{AreRenewed}
+use Rattle.dom_base.proofs.Std.{◌≡◌, ◌++◌, filter, sym, ap, subst, ◌∙◌, same_Some, none-some}
+use Rattle.dom_tree.specs.Definitions.{name_at}
+use Rattle.dom_slots.specs.Definitions.{own_slots, bare_around, MayMove, IsInside, SlotsNow, AreRenewed}
 use Rattle.dom_slots.proofs.slots.Slots.stirred_signals.Goals as goal
 use Rattle.dom_slots.proofs.slots.Slots.stirred_signals.Goals.{in-Some+in_ok-add_bare+in_ok-renew_moved, in_default}
 

@@ -1,10 +1,7 @@
-use Rattle.std.proofs.Common.{◌≡◌, inl, inr, ℕ, List, [], ◌∷◌, true, map, length, get_or, sym, ap, ◌∙◌, arith, true≢false}
-use Rattle.dom_base.specs.declared.NodeName.{NodeName}
-use Rattle.dom_model.specs.Names.{text_eq, name_eq, is_in}
-use Rattle.dom_model.specs.Slots.{slot_name}
-use Rattle.dom_model.specs.Tree.{node_in}
-use Rattle.dom_tree.specs.Forest.{name_at}
-use Rattle.dom_laws.proofs.Lists.{In-from}
+use Rattle.dom_base.proofs.Std.{◌≡◌, inl, inr, ℕ, List, [], ◌∷◌, true, map, length, get_or, sym, ap, ◌∙◌, arith, true≢false}
+use Rattle.dom_model.proofs.Model.{NodeName, text_eq, name_eq, is_in, slot_name, node_in}
+use Rattle.dom_tree.specs.Definitions.{name_at}
+use Rattle.dom_laws.proofs.Laws.{In-from}
 use Rattle.dom_slots.proofs.Firsts.{text_same}
 use Rattle.dom_slots.proofs.slots.inside.moved_name.Goals as goal
 

@@ -1,8 +1,5 @@
-use Rattle.std.proofs.Common.{sym, ap, subst, ◌∙◌}
-use Rattle.std.specs.Prelude.{nat_eq, if◌then◌else◌}
-use Rattle.dom_slots.specs.KeyMaps.{list_at}
-use Rattle.dom_slots.specs.NodeSlots.{slots_in}
-use Rattle.dom_slots.specs.Tables.{SlotTable, list_of}
+use Rattle.dom_base.proofs.Std.{sym, ap, subst, ◌∙◌, nat_eq, if◌then◌else◌}
+use Rattle.dom_slots.specs.Definitions.{list_at, slots_in, SlotTable, list_of}
 use Rattle.dom_slots.proofs.Mapping.{AreTaken, AreGiven, IsRelisted, agree-inserted}
 use Rattle.dom_slots.proofs.Tables.{changed-found, when-ok}
 use Rattle.dom_slots.proofs.table.Table.insert.Goals as goal

@@ -1,5 +1,5 @@
-use Rattle.std.proofs.Common.{ap, ◌∙◌}
-use Rattle.dom_slots.specs.Tables.{SlotTable, list_of}
+use Rattle.dom_base.proofs.Std.{ap, ◌∙◌}
+use Rattle.dom_slots.specs.Definitions.{SlotTable, list_of}
 use Rattle.dom_slots.proofs.Tables.{list-found}
 use Rattle.dom_slots.proofs.table.Table.list.Goals as goal
 

@@ -1,10 +1,7 @@
-use Rattle.std.proofs.Common.{sym, ap, ◌∙◌}
-use Rattle.std.specs.Prelude.{nat_eq, if◌then◌else◌}
-use Rattle.dom_model.specs.Names.{is_in}
+use Rattle.dom_base.proofs.Std.{sym, ap, ◌∙◌, nat_eq, if◌then◌else◌}
+use Rattle.dom_model.proofs.Model.{is_in}
 use Rattle.node_arena.specs.Nodes.{insert_before}
-use Rattle.dom_slots.specs.KeyMaps.{list_at}
-use Rattle.dom_slots.specs.NodeSlots.{slots_in}
-use Rattle.dom_slots.specs.Tables.{SlotTable, list_of}
+use Rattle.dom_slots.specs.Definitions.{list_at, slots_in, SlotTable, list_of}
 use Rattle.dom_slots.proofs.Mapping.{agree-put}
 use Rattle.dom_slots.proofs.Tables.{changed-found, when-ok}
 use Rattle.dom_slots.proofs.table.Table.put.Goals as goal

@@ -1,8 +1,6 @@
-use Rattle.std.proofs.Common.{◌≡◌, ℕ, sym, ap, ◌∙◌}
-use Rattle.std.specs.Prelude.{nat_eq}
-use Rattle.dom_model.specs.Names.{is_in}
-use Rattle.dom_slots.specs.NodeSlots.{slots_in}
-use Rattle.dom_slots.specs.Tables.{SlotTable, list_of}
+use Rattle.dom_base.proofs.Std.{◌≡◌, ℕ, sym, ap, ◌∙◌, nat_eq}
+use Rattle.dom_model.proofs.Model.{is_in}
+use Rattle.dom_slots.specs.Definitions.{slots_in, SlotTable, list_of}
 use Rattle.dom_slots.proofs.Mapping.{first-member, no-member}
 use Rattle.dom_slots.proofs.Tables.{list-found}
 use Rattle.dom_slots.proofs.table.Table.slot.Goals as goal

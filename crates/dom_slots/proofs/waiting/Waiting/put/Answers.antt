@@ -1,8 +1,5 @@
-use Rattle.std.proofs.Common.{◌++◌, ◌∷◌, [], ap, ◌∙◌}
-use Rattle.std.specs.Prelude.{nat_eq}
-use Rattle.std.specs.Cmp.Lexicographic.{pointwise}
-use Rattle.std.specs.HashMap.{get_by}
-use Rattle.dom_slots.specs.Waiting.{waiting_under}
+use Rattle.dom_base.proofs.Std.{◌++◌, ◌∷◌, [], ap, ◌∙◌, nat_eq, pointwise, get_by}
+use Rattle.dom_slots.specs.Definitions.{waiting_under}
 use Rattle.dom_slots.proofs.Waited.{put-back}
 use Rattle.dom_slots.proofs.waiting.Waiting.put.Goals as goal
 

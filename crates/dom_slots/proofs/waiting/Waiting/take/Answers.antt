@@ -1,6 +1,4 @@
-use Rattle.std.specs.Prelude.{nat_eq}
-use Rattle.std.specs.Cmp.Lexicographic.{pointwise}
-use Rattle.std.specs.HashMap.{get_by}
+use Rattle.dom_base.proofs.Std.{nat_eq, pointwise, get_by}
 use Rattle.dom_slots.proofs.Waited.{taken-away}
 use Rattle.dom_slots.proofs.waiting.Waiting.take.Goals as goal
 

@@ -1,5 +1,5 @@
 -- `with` makes the empty struct, with the total that its clause names. Assumes `Logic`.
-use Rattle.std.proofs.Common.{◌≡◌, ◌+◌, List, [], ◌∷◌, ◌++◌, refl, sym, subst, w64}
+use Rattle.dom_base.proofs.Std.{◌≡◌, ◌+◌, List, [], ◌∷◌, ◌++◌, refl, sym, subst, w64, proved_at, leaves}
 use mir.Val.{Val, vptr, vint, vstruct, vnil}
 use base.Logic.{SProp, ent, emp, id⊢}
 use prog.Wp.{WpFn}
@@ -17,7 +17,6 @@ use denote.Shadow.{pure_i}
 use denote.Steps.{nothing}
 use denote.Triple.Entry.{alive}
 use denote.Triple.Walked.{Stays, stay_dropped, walk_of, Goes-dropped}
-use Rattle.std.proofs.raw_atomic.Walks.{proved_at, leaves}
 use Rattle.dom_streams.specs.contracts.count.Count as count
 use Rattle.dom_streams.specs.contracts.count.Count.with.{ended, clauses}
 use Rattle.dom_streams.specs.contracts.count.Count.with.Key.{name as #self}

@@ -1,13 +1,7 @@
-use Rattle.std.proofs.Common.{◌≡◌, ◌≤◌, [], ◌∷◌, ◌++◌, length, refl, sym, ap, subst, ◌∙◌, arith}
-use Rattle.std.specs.Prelude.{IfOk, Err, ◌↔◌}
-use Rattle.std.specs.Option.{IsSome}
-use Rattle.std.proofs.lemmas.Result.{on_ok_weaker, on_err_weaker}
-use Rattle.dom_base.specs.declared.Fault.TheVariants.{Refused}
-use Rattle.dom_base.specs.declared.Refusal.TheVariants.{Limit}
-use Rattle.dom_traversal.specs.Filters.{filter_of}
+use Rattle.dom_base.proofs.Std.{◌≡◌, ◌≤◌, [], ◌∷◌, ◌++◌, length, refl, sym, ap, subst, ◌∙◌, arith, IfOk, Err, ◌↔◌, IsSome, on_ok_weaker, on_err_weaker}
+use Rattle.dom_model.proofs.Model.{Refused, Limit}
+use Rattle.dom_traversal.specs.Definitions.{filter_of, KeyedTables, cursors_of, with_cursors}
 use Rattle.dom_traversal.specs.declared.cursors.Cursors.TheInside.{Inside}
-use Rattle.dom_traversal.specs.OwnTables.{KeyedTables}
-use Rattle.dom_traversal.specs.Cursors.{cursors_of, with_cursors}
 use Rattle.dom_traversal.proofs.Owners.{had-kept, written-kept, with-same, not_limit}
 use Rattle.dom_traversal.proofs.cursors.Cursors.add_walker.Goals as goal
 

@@ -1,10 +1,6 @@
-use Rattle.std.proofs.Common.{◌≡◌, List, refl, sym, ap, subst, ◌∙◌}
-use Rattle.std.specs.Option.{IsSome}
-use Rattle.dom_traversal.specs.Iterators.{KeyedIterator, IsIteratorOf}
-use Rattle.dom_traversal.specs.Walkers.{KeyedWalker}
+use Rattle.dom_base.proofs.Std.{◌≡◌, List, refl, sym, ap, subst, ◌∙◌, IsSome}
+use Rattle.dom_traversal.specs.Definitions.{KeyedIterator, IsIteratorOf, KeyedWalker, KeyedTables, EachItem, cursors_of, with_cursors}
 use Rattle.dom_traversal.specs.declared.cursors.Cursors.TheInside.{Inside}
-use Rattle.dom_traversal.specs.OwnTables.{KeyedTables, EachItem}
-use Rattle.dom_traversal.specs.Cursors.{cursors_of, with_cursors}
 use Rattle.dom_traversal.proofs.Owners.{had, written, with-own}
 use Rattle.dom_traversal.proofs.cursors.Cursors.leave.Goals as goal
 

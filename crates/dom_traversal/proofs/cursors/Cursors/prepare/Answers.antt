@@ -1,11 +1,8 @@
-use Rattle.std.proofs.Common.{◌≡◌, true, OnErr, sym, ap, ◌∙◌, subst}
-use Rattle.std.specs.Prelude.{is_some, Result, Ok, Err}
-use Rattle.std.specs.Map.{lookup}
-use Rattle.std.specs.HashMap.{get}
+use Rattle.dom_base.proofs.Std.{◌≡◌, true, OnErr, sym, ap, ◌∙◌, subst, is_some, Result, Ok, Err, lookup, get}
 use Rattle.dom_base.specs.contracts.OwnerPartialEq.TheImpl as OwnerImpl
-use Rattle.dom_model.specs.Names.{owner_eq}
+use Rattle.dom_model.proofs.Model.{owner_eq}
 use Rattle.dom_traversal.specs.declared.cursors.Cursors.TheInside.{Inside}
-use Rattle.dom_traversal.specs.Cursors.{AllCursors}
+use Rattle.dom_traversal.specs.Definitions.{AllCursors}
 use Rattle.dom_traversal.proofs.Owners.{had-none, entry, written-none, none_from}
 use Rattle.dom_traversal.proofs.cursors.Cursors.prepare.Goals as goal
 

@@ -1,9 +1,6 @@
-use Rattle.std.proofs.Common.{◌≡◌, true, refl, sym, ap, subst, ◌∙◌}
-use Rattle.std.specs.Prelude.{is_some, slice_get, slice_set}
-use Rattle.std.specs.Option.{IsSome}
+use Rattle.dom_base.proofs.Std.{◌≡◌, true, refl, sym, ap, subst, ◌∙◌, is_some, slice_get, slice_set, IsSome}
 use Rattle.dom_traversal.specs.declared.cursors.Cursors.TheInside.{Inside}
-use Rattle.dom_traversal.specs.OwnTables.{KeyedTables}
-use Rattle.dom_traversal.specs.Cursors.{cursors_of, with_cursors}
+use Rattle.dom_traversal.specs.Definitions.{KeyedTables, cursors_of, with_cursors}
 use Rattle.dom_traversal.proofs.Owners.{had, written}
 use Rattle.dom_traversal.proofs.cursors.Cursors.set_walker.Goals as goal
 

@@ -1,11 +1,8 @@
-use Rattle.std.proofs.Common.{◌≡◌, true, option_map, refl, sym, ap, subst, ◌∙◌}
-use Rattle.std.specs.Prelude.{is_some, slice_get, slice_set}
-use Rattle.std.specs.Option.{ForSome, IsSome}
-use Rattle.dom_tree.specs.Forest.{name_at}
-use Rattle.dom_traversal.specs.Iterators.{iterator_view, iterator_at, IsIteratorOf, iterator_found, stands_before}
+use Rattle.dom_base.proofs.Std.{◌≡◌, true, option_map, refl, sym, ap, subst, ◌∙◌, is_some, slice_get, slice_set, ForSome, IsSome}
+use Rattle.dom_tree.specs.Definitions.{name_at}
+use Rattle.dom_traversal.specs.Definitions.{iterator_view, iterator_at, IsIteratorOf, iterator_found, stands_before, KeyedTables, EachItem, cursors_of}
+use Rattle.dom_traversal.specs.Definitions.{with_cursors}
 use Rattle.dom_traversal.specs.declared.cursors.Cursors.TheInside.{Inside}
-use Rattle.dom_traversal.specs.OwnTables.{KeyedTables, EachItem}
-use Rattle.dom_traversal.specs.Cursors.{cursors_of, with_cursors}
 use Rattle.dom_traversal.proofs.Owners.{had, written}
 use Rattle.dom_traversal.proofs.cursors.Cursors.traverse.Goals as goal
 

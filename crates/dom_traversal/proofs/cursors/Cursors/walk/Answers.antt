@@ -1,12 +1,8 @@
-use Rattle.std.proofs.Common.{◌≡◌, true, option_map, refl, sym, ap, subst, ◌∙◌}
-use Rattle.std.specs.Prelude.{is_some, slice_get, slice_set}
-use Rattle.std.specs.Option.{ForSome, IsSome}
-use Rattle.dom_model.specs.Traversal.{walker_move}
-use Rattle.dom_tree.specs.Forest.{name_at}
-use Rattle.dom_traversal.specs.Walkers.{walker_view, walker_at, IsWalkerOf}
+use Rattle.dom_base.proofs.Std.{◌≡◌, true, option_map, refl, sym, ap, subst, ◌∙◌, is_some, slice_get, slice_set, ForSome, IsSome}
+use Rattle.dom_model.proofs.Model.{walker_move}
+use Rattle.dom_tree.specs.Definitions.{name_at}
+use Rattle.dom_traversal.specs.Definitions.{walker_view, walker_at, IsWalkerOf, KeyedTables, EachItem, cursors_of, with_cursors}
 use Rattle.dom_traversal.specs.declared.cursors.Cursors.TheInside.{Inside}
-use Rattle.dom_traversal.specs.OwnTables.{KeyedTables, EachItem}
-use Rattle.dom_traversal.specs.Cursors.{cursors_of, with_cursors}
 use Rattle.dom_traversal.proofs.Owners.{had, written}
 use Rattle.dom_traversal.proofs.cursors.Cursors.walk.Goals as goal
 

@@ -1,7 +1,5 @@
-use Rattle.std.proofs.Common.{◌≡◌, true, sym, subst}
-use Rattle.std.specs.Prelude.{is_some, slice_get}
-use Rattle.std.specs.Option.{ForSome}
-use Rattle.dom_traversal.specs.OwnTables.{KeyedTables}
+use Rattle.dom_base.proofs.Std.{◌≡◌, true, sym, subst, is_some, slice_get, ForSome}
+use Rattle.dom_traversal.specs.Definitions.{KeyedTables}
 use Rattle.dom_traversal.proofs.Owners.{had}
 use Rattle.dom_traversal.proofs.cursors.Cursors.walker_at.Goals as goal
 

@@ -1,13 +1,7 @@
-use Rattle.std.proofs.Common.{◌≡◌, ℕ, Bool, true, false, List, Option, Some, None, refl, ap, ◌∙◌}
-use Rattle.std.specs.Prelude.{if◌then◌else◌}
-use Rattle.std.specs.Option.{option_map}
-use Rattle.dom_base.specs.declared.Verdict.TheVariants.{Skip}
-use Rattle.dom_model.specs.Command.{Show, NameFilter}
-use Rattle.dom_model.specs.Names.{text_eq}
-use Rattle.dom_model.specs.Traversal.{is_shown, verdict_at}
-use Rattle.dom_model.specs.Tree.{Node, is_element, node_in}
-use Rattle.dom_tree.specs.Forest.{name_at}
-use Rattle.dom_traversal.specs.Filters.{show_of, name_filter_of}
+use Rattle.dom_base.proofs.Std.{◌≡◌, ℕ, Bool, true, false, List, Option, Some, None, refl, ap, ◌∙◌, if◌then◌else◌, option_map}
+use Rattle.dom_model.proofs.Model.{Skip, Show, NameFilter, text_eq, is_shown, verdict_at, Node, is_element, node_in}
+use Rattle.dom_tree.specs.Definitions.{name_at}
+use Rattle.dom_traversal.specs.Definitions.{show_of, name_filter_of}
 use Rattle.dom_traversal.proofs.filter.Filter.answer.Goals as goal
 
 -- what a named filter answers at an element that is shown

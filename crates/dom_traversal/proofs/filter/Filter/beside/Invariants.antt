@@ -1,7 +1,7 @@
-use Rattle.std.proofs.Common.{length}
-use Rattle.dom_model.specs.Tree.{ancestors}
-use Rattle.dom_tree.specs.Forest.{name_at}
-use Rattle.dom_traversal.specs.Filters.{filter_of}
+use Rattle.dom_base.proofs.Std.{length}
+use Rattle.dom_model.proofs.Model.{ancestors}
+use Rattle.dom_tree.specs.Definitions.{name_at}
+use Rattle.dom_traversal.specs.Definitions.{filter_of}
 use Rattle.dom_traversal.proofs.Beside.{HasRisen}
 use Rattle.dom_traversal.proofs.filter.Filter.beside.Given as goal
 

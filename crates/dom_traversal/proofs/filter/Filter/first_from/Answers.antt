@@ -1,6 +1,6 @@
-use Rattle.std.proofs.Common.{sym, ◌∙◌}
-use Rattle.dom_model.specs.Traversal.{accepts}
-use Rattle.dom_traversal.specs.Filters.{filter_of}
+use Rattle.dom_base.proofs.Std.{sym, ◌∙◌}
+use Rattle.dom_model.proofs.Model.{accepts}
+use Rattle.dom_traversal.specs.Definitions.{filter_of}
 use Rattle.dom_tree.proofs.Searching.{following_step, length-behind, left-behind}
 use Rattle.dom_traversal.proofs.filter.Filter.first_from.Goals as goal
 

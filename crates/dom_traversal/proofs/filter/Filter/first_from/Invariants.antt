@@ -1,12 +1,8 @@
-use Rattle.std.proofs.Common.{◌≡◌, length}
-use Rattle.std.specs.Prelude.{filter}
-use Rattle.std.specs.Option.{option_map, ForSome}
-use Rattle.dom_model.specs.Names.{first_of}
-use Rattle.dom_model.specs.Traversal.{accepts}
-use Rattle.dom_tree.specs.Forest.{name_at}
-use Rattle.dom_traversal.specs.Filters.{filter_of}
+use Rattle.dom_base.proofs.Std.{◌≡◌, length, filter, option_map, ForSome}
+use Rattle.dom_model.proofs.Model.{first_of, accepts}
+use Rattle.dom_tree.specs.Definitions.{name_at, StandsIn}
+use Rattle.dom_traversal.specs.Definitions.{filter_of}
 use Rattle.dom_laws.specs.Within.{from_node}
-use Rattle.dom_tree.specs.Within.{StandsIn}
 use Rattle.dom_traversal.proofs.filter.Filter.first_from.Given as goal
 
 abbrev pub invariant-loop-at : goal.invariant-loop-at

@@ -1,15 +1,10 @@
-use Rattle.std.proofs.Common.{◌≡◌, true, ◌∷◌, refl, sym, ap, ◌∙◌}
-use Rattle.std.proofs.lemmas.Bool.{and_from}
-use Rattle.dom_base.specs.declared.NodeName.{NodeName}
-use Rattle.dom_model.specs.Tree.{is_inclusive_ancestor}
-use Rattle.std.specs.Option.{option_map}
-use Rattle.dom_tree.specs.Forest.{name_at}
-use Rattle.dom_traversal.specs.Filters.{filter_of}
-use Rattle.dom_traversal.specs.Walkers.{is_entered}
-use Rattle.dom_laws.proofs.Order.{above-within}
+use Rattle.dom_base.proofs.Std.{◌≡◌, true, ◌∷◌, refl, sym, ap, ◌∙◌, and_from, option_map}
+use Rattle.dom_model.proofs.Model.{NodeName, is_inclusive_ancestor}
+use Rattle.dom_tree.specs.Definitions.{name_at}
+use Rattle.dom_traversal.specs.Definitions.{filter_of, is_entered}
+use Rattle.dom_laws.proofs.Laws.{above-within, none_left}
 use Rattle.dom_tree.proofs.Standing.{IsWithin-forest, Has-forest}
 use Rattle.dom_traversal.proofs.Backward.{alone, descends}
-use Rattle.dom_laws.proofs.Options.{none_left}
 use Rattle.dom_tree.proofs.Searching.{IsWithin-itself}
 use Rattle.dom_traversal.proofs.filter.Filter.lowest.Goals as goal
 

@@ -1,10 +1,7 @@
-use Rattle.std.proofs.Common.{◌≡◌, ◌<◌, ◌++◌, List, length, true, Some}
-use Rattle.std.specs.List.{list_all}
-use Rattle.dom_base.specs.declared.NodeName.{NodeName}
-use Rattle.dom_model.specs.Tree.{ancestors, inclusive_descendants, is_inclusive_ancestor}
-use Rattle.dom_tree.specs.Forest.{name_at}
-use Rattle.dom_traversal.specs.Filters.{filter_of}
-use Rattle.dom_traversal.specs.Walkers.{is_entered}
+use Rattle.dom_base.proofs.Std.{◌≡◌, ◌<◌, ◌++◌, List, length, true, Some, list_all}
+use Rattle.dom_model.proofs.Model.{NodeName, ancestors, inclusive_descendants, is_inclusive_ancestor}
+use Rattle.dom_tree.specs.Definitions.{name_at}
+use Rattle.dom_traversal.specs.Definitions.{filter_of, is_entered}
 use Rattle.dom_laws.specs.Within.{up_to_tree}
 use Rattle.dom_traversal.proofs.filter.Filter.lowest.Given as goal
 

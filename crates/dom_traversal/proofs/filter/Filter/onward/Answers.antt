@@ -1,6 +1,6 @@
-use Rattle.std.proofs.Common.{sym, ap, ◌∙◌}
-use Rattle.dom_model.specs.Names.{first_of}
-use Rattle.dom_traversal.specs.Filters.{filter_of}
+use Rattle.dom_base.proofs.Std.{sym, ap, ◌∙◌}
+use Rattle.dom_model.proofs.Model.{first_of}
+use Rattle.dom_traversal.specs.Definitions.{filter_of}
 use Rattle.dom_traversal.proofs.Aside.{follows_child, behind_leaf}
 use Rattle.dom_traversal.proofs.filter.Filter.onward.Goals as goal
 

@@ -1,11 +1,8 @@
-use Rattle.std.proofs.Common.{◌≡◌, false, refl, sym, ap, subst, ◌∙◌}
-use Rattle.std.specs.Option.{option_map}
-use Rattle.dom_model.specs.Names.{first_of}
-use Rattle.dom_model.specs.Traversal.{Iterator, nodes_ahead}
-use Rattle.dom_model.specs.Tree.{Trees}
-use Rattle.dom_tree.specs.Forest.{name_at}
+use Rattle.dom_base.proofs.Std.{◌≡◌, false, refl, sym, ap, subst, ◌∙◌, option_map}
+use Rattle.dom_model.proofs.Model.{first_of, Iterator, nodes_ahead, Trees}
+use Rattle.dom_tree.specs.Definitions.{name_at}
 use Rattle.dom_laws.specs.Within.{behind}
-use Rattle.dom_traversal.specs.Iterators.{KeyedIterator, iterator_view}
+use Rattle.dom_traversal.specs.Definitions.{KeyedIterator, iterator_view}
 use Rattle.dom_tree.proofs.Searching.{following_step}
 use Rattle.dom_traversal.proofs.iter.Iter.ahead.Goals as goal
 

@@ -1,10 +1,7 @@
-use Rattle.std.proofs.Common.{◌≡◌, ◌<◌, false, Some, subst, sym, ap, ◌∙◌}
-use Rattle.std.specs.Prelude.{filter}
-use Rattle.std.specs.Option.{option_map}
-use Rattle.dom_model.specs.Names.{first_of}
-use Rattle.dom_model.specs.Traversal.{accepts}
-use Rattle.dom_tree.specs.Forest.{name_at}
-use Rattle.dom_traversal.specs.Iterators.{KeyedIterator, iterator_left}
+use Rattle.dom_base.proofs.Std.{◌≡◌, ◌<◌, false, Some, subst, sym, ap, ◌∙◌, filter, option_map}
+use Rattle.dom_model.proofs.Model.{first_of, accepts}
+use Rattle.dom_tree.specs.Definitions.{name_at}
+use Rattle.dom_traversal.specs.Definitions.{KeyedIterator, iterator_left}
 use Rattle.dom_laws.specs.Within.{from_node}
 use Rattle.dom_traversal.proofs.Fewer.{iterator_fewer}
 use Rattle.dom_traversal.proofs.iter.Iter.next.Goals as goal

@@ -1,20 +1,11 @@
-use Rattle.std.proofs.Common.{◌≡◌, ℕ, ◌<◌, length, true, false, Option, Some, refl, sym, ap, subst, ◌∙◌, inl, inr}
-use Rattle.std.specs.Option.{option_map}
-use Rattle.std.proofs.lemmas.Bool.{both_ways}
-use Rattle.dom_model.specs.Names.{last_of}
-use Rattle.dom_model.specs.Tree.{is_inclusive_ancestor}
-use Rattle.dom_tree.specs.Forest.{NamedTrees, name_at}
-use Rattle.dom_tree.specs.Within.{StandsIn}
+use Rattle.dom_base.proofs.Std.{◌≡◌, ℕ, ◌<◌, length, true, false, Option, Some, refl, sym, ap, subst, ◌∙◌, inl, inr, option_map, both_ways}
+use Rattle.dom_model.proofs.Model.{last_of, is_inclusive_ancestor, NodeName}
+use Rattle.dom_tree.specs.Definitions.{NamedTrees, name_at, StandsIn}
 use Rattle.dom_laws.specs.Within.{ahead_of}
-use Rattle.dom_traversal.specs.Iterators.{IsIteratorOf}
-use Rattle.dom_laws.proofs.Lists.{In-from, In-not, is_in-from}
+use Rattle.dom_traversal.specs.Definitions.{IsIteratorOf}
+use Rattle.dom_laws.proofs.Laws.{In-from, In-not, is_in-from, above-within, within-top, none_left, above-chain, beyond-outside, ahead-outside, some_ahead}
 use Rattle.dom_tree.proofs.Standing.{StandOnce, StandAlone, Once-forest, Has-forest}
-use Rattle.dom_laws.proofs.Order.{above-within}
-use Rattle.dom_laws.proofs.Steps.{within-top}
-use Rattle.dom_laws.proofs.Options.{none_left}
-use Rattle.dom_base.specs.declared.NodeName.{NodeName}
 use Rattle.dom_tree.proofs.Searching.{IsWithin-key, preceding_step}
-use Rattle.dom_laws.proofs.Chains.{above-chain, beyond-outside, ahead-outside, some_ahead}
 use Rattle.dom_traversal.proofs.iter.Iter.on_remove.Goals.{Else-not-is_inclusive_ancestor}
 use Rattle.dom_traversal.proofs.iter.Iter.on_remove.Goals as goal
 

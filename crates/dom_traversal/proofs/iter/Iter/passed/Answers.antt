@@ -1,11 +1,8 @@
-use Rattle.std.proofs.Common.{◌≡◌, true, refl, sym, ap, subst, ◌∙◌}
-use Rattle.std.specs.Option.{option_map}
-use Rattle.dom_model.specs.Names.{last_of}
-use Rattle.dom_model.specs.Traversal.{Iterator, nodes_passed}
-use Rattle.dom_model.specs.Tree.{Trees}
-use Rattle.dom_tree.specs.Forest.{name_at}
+use Rattle.dom_base.proofs.Std.{◌≡◌, true, refl, sym, ap, subst, ◌∙◌, option_map}
+use Rattle.dom_model.proofs.Model.{last_of, Iterator, nodes_passed, Trees}
+use Rattle.dom_tree.specs.Definitions.{name_at}
 use Rattle.dom_laws.specs.Within.{ahead_of}
-use Rattle.dom_traversal.specs.Iterators.{KeyedIterator, iterator_view}
+use Rattle.dom_traversal.specs.Definitions.{KeyedIterator, iterator_view}
 use Rattle.dom_tree.proofs.Searching.{preceding_step}
 use Rattle.dom_traversal.proofs.iter.Iter.passed.Goals as goal
 

@@ -1,8 +1,6 @@
-use Rattle.std.proofs.Common.{◌≡◌, ◌⊎◌, List, length, sym, subst, ap, arith}
-use Rattle.std.specs.List.{Contains}
-use Rattle.dom_traversal.specs.Iterators.{KeyedIterator}
+use Rattle.dom_base.proofs.Std.{◌≡◌, ◌⊎◌, List, length, sym, subst, ap, arith, Contains}
+use Rattle.dom_traversal.specs.Definitions.{KeyedIterator, AreListed, reference_at}
 use Rattle.dom_traversal.specs.declared.references.Reference.{Reference}
-use Rattle.dom_traversal.specs.References.{AreListed, reference_at}
 use Rattle.dom_traversal.proofs.Listing.{AreListed-added}
 use Rattle.dom_traversal.proofs.tables.OwnTables.add_iter.Goals as goal
 

@@ -1,14 +1,10 @@
-use Rattle.std.proofs.Common.{inl, inr, Some, refl, sym, subst, ◌∙◌}
-use Rattle.std.specs.Prelude.{slice_get}
-use Rattle.std.proofs.lemmas.Bool.{cases_Bool}
-use Rattle.dom_model.specs.Names.{name_eq, is_in}
-use Rattle.dom_model.specs.Tree.{inclusive_descendants}
-use Rattle.dom_tree.specs.Forest.{name_at}
-use Rattle.dom_laws.proofs.Lists.{In-from, In-not}
+use Rattle.dom_base.proofs.Std.{inl, inr, Some, refl, sym, subst, ◌∙◌, slice_get, cases_Bool}
+use Rattle.dom_model.proofs.Model.{name_eq, is_in, inclusive_descendants}
+use Rattle.dom_tree.specs.Definitions.{name_at}
+use Rattle.dom_laws.proofs.Laws.{In-from, In-not, outside-test}
 use Rattle.dom_tree.proofs.Standing.{Once-forest}
-use Rattle.dom_laws.proofs.Order.{outside-test}
 use Rattle.dom_tree.proofs.Searching.{following_step}
-use Rattle.dom_traversal.specs.OwnTables.{IsLeftIf}
+use Rattle.dom_traversal.specs.Definitions.{IsLeftIf}
 use Rattle.dom_traversal.proofs.Leaving.{may-none, may-may, may-items, may-left, left-may, all-left, left-outside}
 use Rattle.dom_traversal.proofs.Inside.{from_key, all-from_top, top-stands, next-from}
 use Rattle.dom_traversal.proofs.tables.OwnTables.leave.Goals as goal

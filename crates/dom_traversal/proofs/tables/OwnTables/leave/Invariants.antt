@@ -1,13 +1,8 @@
-use Rattle.std.proofs.Common.{◌≡◌, ◌⊎◌, ℕ, Some}
-use Rattle.std.specs.Prelude.{slice_get}
-use Rattle.std.specs.Option.{ForSome}
-use Rattle.dom_model.specs.Tree.{inclusive_descendants}
-use Rattle.dom_tree.specs.Forest.{name_at}
-use Rattle.dom_tree.specs.Within.{StandsIn}
-use Rattle.dom_traversal.specs.Iterators.{KeyedIterator}
-use Rattle.dom_laws.proofs.Lists.{In}
-use Rattle.dom_traversal.specs.OwnTables.{IsLeftIf}
-use Rattle.dom_traversal.specs.References.{MayHaveLeft}
+use Rattle.dom_base.proofs.Std.{◌≡◌, ◌⊎◌, ℕ, Some, slice_get, ForSome}
+use Rattle.dom_model.proofs.Model.{inclusive_descendants}
+use Rattle.dom_tree.specs.Definitions.{name_at, StandsIn}
+use Rattle.dom_traversal.specs.Definitions.{KeyedIterator, IsLeftIf, MayHaveLeft}
+use Rattle.dom_laws.proofs.Laws.{In}
 use Rattle.dom_traversal.proofs.Inside.{from_key}
 use Rattle.dom_traversal.proofs.tables.OwnTables.leave.Given as goal
 

@@ -1,5 +1,5 @@
-use Rattle.std.proofs.Common.{◌≡◌, length, ap, arith}
-use Rattle.dom_traversal.specs.OwnTables.{KeyedTables}
+use Rattle.dom_base.proofs.Std.{◌≡◌, length, ap, arith}
+use Rattle.dom_traversal.specs.Definitions.{KeyedTables}
 use Rattle.dom_traversal.proofs.Leaving.{may-items, all-left, have_left-all}
 use Rattle.dom_traversal.proofs.Listing.{within-got}
 use Rattle.dom_traversal.proofs.tables.OwnTables.leave_each.Goals as goal

@@ -1,10 +1,6 @@
-use Rattle.std.proofs.Common.{◌≡◌, ℕ, ◌<◌, List, Some, length, refl, ap, sym, subst, ◌∙◌, arith, true≢false}
-use Rattle.std.specs.Prelude.{slice_get}
-use Rattle.std.specs.List.{Contains}
-use Rattle.dom_traversal.specs.Iterators.{KeyedIterator}
+use Rattle.dom_base.proofs.Std.{◌≡◌, ℕ, ◌<◌, List, Some, length, refl, ap, sym, subst, ◌∙◌, arith, true≢false, slice_get, Contains}
+use Rattle.dom_traversal.specs.Definitions.{KeyedIterator, KeyedTables, IsLeftIf, AreListed, reference_at}
 use Rattle.dom_traversal.specs.declared.references.Reference.{Reference}
-use Rattle.dom_traversal.specs.OwnTables.{KeyedTables, IsLeftIf}
-use Rattle.dom_traversal.specs.References.{AreListed, reference_at}
 use Rattle.dom_traversal.proofs.Leaving.{may-items, have_left-more, have_left-all}
 use Rattle.dom_traversal.proofs.tables.OwnTables.leave_from.Goals as goal
 

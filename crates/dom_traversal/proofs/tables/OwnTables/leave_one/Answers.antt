@@ -1,10 +1,5 @@
-use Rattle.std.proofs.Common.{◌≡◌, ℕ, ◌<◌, Bool, List, Some, length, get_or, ap, sym, subst, ◌∙◌}
-use Rattle.std.specs.Prelude.{slice_get, slice_set}
-use Rattle.std.specs.List.{Contains}
-use Rattle.std.proofs.lemmas.Option.{slice_get-get_or}
-use Rattle.dom_traversal.specs.Iterators.{KeyedIterator}
-use Rattle.dom_traversal.specs.OwnTables.{KeyedTables, IsLeftIf}
-use Rattle.dom_traversal.specs.References.{MayHaveLeft, reference_at}
+use Rattle.dom_base.proofs.Std.{◌≡◌, ℕ, ◌<◌, Bool, List, Some, length, get_or, ap, sym, subst, ◌∙◌, slice_get, slice_set, Contains, slice_get-get_or}
+use Rattle.dom_traversal.specs.Definitions.{KeyedIterator, KeyedTables, IsLeftIf, MayHaveLeft, reference_at}
 use Rattle.dom_traversal.proofs.Leaving.{left-set, may-set}
 use Rattle.dom_traversal.proofs.Listing.{AreListed-moved}
 use Rattle.dom_traversal.proofs.tables.OwnTables.leave_one.Goals as goal

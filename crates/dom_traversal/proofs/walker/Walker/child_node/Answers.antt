@@ -1,11 +1,8 @@
-use Rattle.std.proofs.Common.{◌≡◌, sym, ap, subst, ◌∙◌}
-use Rattle.std.specs.Option.{option_map, ForSome}
-use Rattle.dom_model.specs.Traversal.{walker_move}
-use Rattle.dom_tree.specs.Forest.{name_at}
-use Rattle.dom_traversal.specs.Directions.{child_move}
-use Rattle.dom_traversal.specs.Filters.{filter_of}
-use Rattle.dom_traversal.specs.Walkers.{KeyedWalker, walker_view, stop_of, IsWalkerOf, Begins, reached_from}
-use Rattle.dom_laws.proofs.Steps.{within-itself}
+use Rattle.dom_base.proofs.Std.{◌≡◌, sym, ap, subst, ◌∙◌, option_map, ForSome}
+use Rattle.dom_model.proofs.Model.{walker_move}
+use Rattle.dom_tree.specs.Definitions.{name_at}
+use Rattle.dom_traversal.specs.Definitions.{child_move, filter_of, KeyedWalker, walker_view, stop_of, IsWalkerOf, Begins, reached_from}
+use Rattle.dom_laws.proofs.Laws.{within-itself}
 use Rattle.dom_traversal.proofs.Climbing.{walker-within}
 use Rattle.dom_traversal.proofs.BeginningBack.{Begins-outer, Child-found}
 use Rattle.dom_traversal.proofs.walker.Walker.child_node.Goals as goal

@@ -1,10 +1,7 @@
-use Rattle.std.proofs.Common.{◌≡◌, Some, sym, subst}
-use Rattle.std.specs.Prelude.{filter}
-use Rattle.std.specs.Option.{option_map, ForSome}
-use Rattle.dom_model.specs.Names.{last_of}
-use Rattle.dom_tree.specs.Forest.{name_at}
-use Rattle.dom_traversal.specs.Filters.{filter_of}
-use Rattle.dom_traversal.specs.Walkers.{KeyedWalker, IsWalkerOf, BeginsBackward, walker_view, is_candidate, stop_of}
+use Rattle.dom_base.proofs.Std.{◌≡◌, Some, sym, subst, filter, option_map, ForSome}
+use Rattle.dom_model.proofs.Model.{last_of}
+use Rattle.dom_tree.specs.Definitions.{name_at}
+use Rattle.dom_traversal.specs.Definitions.{filter_of, KeyedWalker, IsWalkerOf, BeginsBackward, walker_view, is_candidate, stop_of}
 use Rattle.dom_laws.specs.Within.{up_to_tree}
 use Rattle.dom_traversal.proofs.ReachingBack.{ReachesBack-begin, ReachesBack-hit, ReachesBack-step, ReachesBack-shorter, LowestKey, low_stands}
 use Rattle.dom_traversal.proofs.walker.Walker.last_reached.Goals.{After-lowest-low}

@@ -1,8 +1,6 @@
-use Rattle.std.proofs.Common.{length}
-use Rattle.std.specs.Option.{option_map}
-use Rattle.dom_tree.specs.Forest.{name_at}
-use Rattle.dom_traversal.specs.Filters.{filter_of}
-use Rattle.dom_traversal.specs.Walkers.{KeyedWalker}
+use Rattle.dom_base.proofs.Std.{length, option_map}
+use Rattle.dom_tree.specs.Definitions.{name_at}
+use Rattle.dom_traversal.specs.Definitions.{filter_of, KeyedWalker}
 use Rattle.dom_laws.specs.Within.{up_to_tree}
 use Rattle.dom_traversal.proofs.Reaching.{stop_from}
 use Rattle.dom_traversal.proofs.ReachingBack.{ReachesBack}

@@ -1,5 +1,5 @@
-use Rattle.std.proofs.Common.{◌<◌, subst, sym}
-use Rattle.dom_traversal.specs.Walkers.{KeyedWalker, walker_left}
+use Rattle.dom_base.proofs.Std.{◌<◌, subst, sym}
+use Rattle.dom_traversal.specs.Definitions.{KeyedWalker, walker_left}
 use Rattle.dom_traversal.proofs.Fewer.{walker_fewer}
 use Rattle.dom_traversal.proofs.walker.Walker.next.Goals as goal
 

@@ -1,12 +1,9 @@
-use Rattle.std.proofs.Common.{◌<◌, length, Option, Some, sym, ap, subst, ◌∙◌}
-use Rattle.std.specs.Option.{option_map}
-use Rattle.dom_base.specs.declared.NodeName.{NodeName}
-use Rattle.dom_model.specs.Traversal.{Walker}
-use Rattle.dom_tree.specs.Forest.{name_at}
-use Rattle.dom_traversal.specs.Filters.{filter_of}
-use Rattle.dom_traversal.specs.Walkers.{walker_view, IsWalkerOf}
+use Rattle.dom_base.proofs.Std.{◌<◌, length, Option, Some, sym, ap, subst, ◌∙◌, option_map}
+use Rattle.dom_model.proofs.Model.{NodeName, Walker}
+use Rattle.dom_tree.specs.Definitions.{name_at}
+use Rattle.dom_traversal.specs.Definitions.{filter_of, walker_view, IsWalkerOf}
 use Rattle.dom_laws.specs.Within.{from_node}
-use Rattle.dom_laws.proofs.Order.{above-within}
+use Rattle.dom_laws.proofs.Laws.{above-within}
 use Rattle.dom_traversal.proofs.Climbing.{walker-within}
 use Rattle.dom_traversal.proofs.Forward.{shorter-skip, shorter-reject}
 use Rattle.dom_traversal.proofs.Passing.{Comes-begin, ComesNext, ComesNext-skip, ComesNext-reject}

@@ -1,10 +1,7 @@
-use Rattle.std.proofs.Common.{◌<◌, length}
-use Rattle.std.specs.Option.{option_map, ForSome}
-use Rattle.dom_model.specs.Names.{first_of}
-use Rattle.dom_model.specs.Traversal.{Walker, accepts, walker_nodes}
-use Rattle.dom_tree.specs.Forest.{name_at}
-use Rattle.dom_traversal.specs.Filters.{filter_of}
-use Rattle.dom_traversal.specs.Walkers.{walker_view, is_passable}
+use Rattle.dom_base.proofs.Std.{◌<◌, length, option_map, ForSome}
+use Rattle.dom_model.proofs.Model.{first_of, Walker, accepts, walker_nodes}
+use Rattle.dom_tree.specs.Definitions.{name_at}
+use Rattle.dom_traversal.specs.Definitions.{filter_of, walker_view, is_passable}
 use Rattle.dom_laws.specs.Within.{behind, from_node}
 use Rattle.dom_traversal.proofs.Forward.{Comes}
 use Rattle.dom_traversal.proofs.walker.Walker.next_node.Given as goal

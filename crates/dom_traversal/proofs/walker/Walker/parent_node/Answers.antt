@@ -1,9 +1,8 @@
-use Rattle.std.proofs.Common.{sym, ap, subst, ◌∙◌, refl}
+use Rattle.dom_base.proofs.Std.{sym, ap, subst, ◌∙◌, refl}
 use Rattle.dom_base.specs.declared.Move.TheVariants as moves
-use Rattle.dom_model.specs.Traversal.{walker_move}
-use Rattle.dom_tree.specs.Forest.{name_at}
-use Rattle.dom_traversal.specs.Filters.{filter_of}
-use Rattle.dom_traversal.specs.Walkers.{KeyedWalker, walker_view, IsWalkerOf}
+use Rattle.dom_model.proofs.Model.{walker_move}
+use Rattle.dom_tree.specs.Definitions.{name_at}
+use Rattle.dom_traversal.specs.Definitions.{filter_of, KeyedWalker, walker_view, IsWalkerOf}
 use Rattle.dom_traversal.proofs.Climbing.{inner-name, inner-within, climb_ends, parent_step}
 use Rattle.dom_traversal.proofs.Beginning.{move-step}
 use Rattle.dom_traversal.proofs.Parents.{above-hit, above-miss}

@@ -1,9 +1,7 @@
-use Rattle.std.proofs.Common.{◌≡◌, length}
-use Rattle.dom_model.specs.Tree.{inclusive_ancestors}
-use Rattle.dom_tree.specs.Forest.{name_at}
-use Rattle.dom_traversal.specs.Filters.{filter_of}
-use Rattle.dom_traversal.specs.Walkers.{KeyedWalker, walker_view}
-use Rattle.dom_tree.specs.Within.{StandsIn}
+use Rattle.dom_base.proofs.Std.{◌≡◌, length}
+use Rattle.dom_model.proofs.Model.{inclusive_ancestors}
+use Rattle.dom_tree.specs.Definitions.{name_at, StandsIn}
+use Rattle.dom_traversal.specs.Definitions.{filter_of, KeyedWalker, walker_view}
 use Rattle.dom_traversal.proofs.Parents.{above_from}
 use Rattle.dom_traversal.proofs.walker.Walker.parent_node.Given as goal
 

@@ -1,12 +1,8 @@
-use Rattle.std.proofs.Common.{◌≡◌, ℕ, true, sym, ap, subst, ◌∙◌, Option}
-use Rattle.std.specs.Option.{option_map}
+use Rattle.dom_base.proofs.Std.{◌≡◌, ℕ, true, sym, ap, subst, ◌∙◌, Option, option_map}
 use Rattle.dom_base.specs.declared.Move.TheVariants as moves
-use Rattle.dom_model.specs.Names.{last_of}
-use Rattle.dom_model.specs.Traversal.{accepts, walker_nodes}
-use Rattle.dom_model.specs.Tree.{is_inclusive_ancestor}
-use Rattle.dom_tree.specs.Forest.{name_at}
-use Rattle.dom_traversal.specs.Filters.{filter_of}
-use Rattle.dom_traversal.specs.Walkers.{KeyedWalker, walker_view, IsWalkerOf, ComesBack}
+use Rattle.dom_model.proofs.Model.{last_of, accepts, walker_nodes, is_inclusive_ancestor}
+use Rattle.dom_tree.specs.Definitions.{name_at}
+use Rattle.dom_traversal.specs.Definitions.{filter_of, KeyedWalker, walker_view, IsWalkerOf, ComesBack}
 use Rattle.dom_laws.specs.Within.{up_to_node}
 use Rattle.dom_traversal.proofs.Climbing.{walker-within}
 use Rattle.dom_traversal.proofs.Backward.{Returns-begin, ComesBack-key, back-hit, back-miss}

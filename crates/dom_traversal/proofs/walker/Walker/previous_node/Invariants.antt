@@ -1,9 +1,7 @@
-use Rattle.std.proofs.Common.{◌≡◌, length}
-use Rattle.std.specs.Option.{option_map, ForSome}
-use Rattle.dom_model.specs.Names.{last_of}
-use Rattle.dom_model.specs.Traversal.{walker_nodes}
-use Rattle.dom_tree.specs.Forest.{name_at}
-use Rattle.dom_traversal.specs.Walkers.{walker_view, ComesBack}
+use Rattle.dom_base.proofs.Std.{◌≡◌, length, option_map, ForSome}
+use Rattle.dom_model.proofs.Model.{last_of, walker_nodes}
+use Rattle.dom_tree.specs.Definitions.{name_at}
+use Rattle.dom_traversal.specs.Definitions.{walker_view, ComesBack}
 use Rattle.dom_laws.specs.Within.{ahead_of, up_to_node}
 use Rattle.dom_traversal.proofs.walker.Walker.previous_node.Given as goal
 

@@ -1,10 +1,7 @@
-use Rattle.std.proofs.Common.{◌≡◌, sym, ap, subst, ◌∙◌}
-use Rattle.std.specs.Option.{option_map, ForSome}
-use Rattle.dom_model.specs.Traversal.{walker_move}
-use Rattle.dom_tree.specs.Forest.{name_at}
-use Rattle.dom_traversal.specs.Directions.{sibling_move}
-use Rattle.dom_traversal.specs.Filters.{filter_of}
-use Rattle.dom_traversal.specs.Walkers.{KeyedWalker, walker_view, stop_of, IsWalkerOf, Begins, reached_from}
+use Rattle.dom_base.proofs.Std.{◌≡◌, sym, ap, subst, ◌∙◌, option_map, ForSome}
+use Rattle.dom_model.proofs.Model.{walker_move}
+use Rattle.dom_tree.specs.Definitions.{name_at}
+use Rattle.dom_traversal.specs.Definitions.{sibling_move, filter_of, KeyedWalker, walker_view, stop_of, IsWalkerOf, Begins, reached_from}
 use Rattle.dom_traversal.proofs.Climbing.{walker-inner}
 use Rattle.dom_traversal.proofs.Aside.{IsBelow-inner, inner-below, stop-some}
 use Rattle.dom_traversal.proofs.BeginningBack.{Begins-beside, Sibling-found}

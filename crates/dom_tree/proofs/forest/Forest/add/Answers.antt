@@ -1,11 +1,7 @@
-use Rattle.std.proofs.Common.{rules, ℕ, ◌^◌, ◌<◌, ap, sym, ◌∙◌, arith, subst, length}
-use Rattle.std.proofs.lemmas.List.{length-map, length_push}
-use Rattle.dom_model.specs.TreeChanges.{with_node}
+use Rattle.dom_base.proofs.Std.{rules, ℕ, ◌^◌, ◌<◌, ap, sym, ◌∙◌, arith, subst, length, length-map, length_push}
+use Rattle.dom_model.proofs.Model.{with_node, node_of}
 use Rattle.node_arena.specs.Nodes.{Nodes}
-use Rattle.dom_model.specs.Names.{node_of}
-use Rattle.dom_tree.specs.Contents.{Stored, stored_from}
-use Rattle.dom_tree.specs.Table.{keys_of}
-use Rattle.dom_tree.specs.Forest.{NamedTrees, next_name, node_from, contents_of}
+use Rattle.dom_tree.specs.Definitions.{Stored, stored_from, keys_of, NamedTrees, next_name, node_from, contents_of}
 use Rattle.dom_tree.proofs.Kept.{kept_with}
 use Rattle.dom_tree.proofs.Adding.{Adds, adds_from, IsKept-keys, IsKept-add, trees_of-add}
 use Rattle.dom_tree.proofs.Stays.{IsAdded, added_root, added_childless, added_above_none, added_named, added_above}

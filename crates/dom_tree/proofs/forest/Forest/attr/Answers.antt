@@ -1,5 +1,5 @@
-use Rattle.std.proofs.Common.{ap, sym, ◌∙◌}
-use Rattle.dom_model.specs.Tree.{attribute_value}
+use Rattle.dom_base.proofs.Std.{ap, sym, ◌∙◌}
+use Rattle.dom_model.proofs.Model.{attribute_value}
 use Rattle.dom_attributes.specs.Attributes.{value_among}
 use Rattle.dom_tree.proofs.Kept.{shows_node}
 use Rattle.dom_tree.proofs.forest.Forest.attr.Goals as goal

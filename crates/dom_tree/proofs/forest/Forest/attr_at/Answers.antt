@@ -1,6 +1,5 @@
-use Rattle.std.proofs.Common.{List, ap, sym, ◌∙◌}
-use Rattle.std.specs.Prelude.{slice_get}
-use Rattle.dom_model.specs.Tree.{Node, Attribute}
+use Rattle.dom_base.proofs.Std.{List, ap, sym, ◌∙◌, slice_get}
+use Rattle.dom_model.proofs.Model.{Node, Attribute}
 use Rattle.dom_tree.proofs.Kept.{shows_node}
 use Rattle.dom_tree.proofs.forest.Forest.attr_at.Goals as goal
 

@@ -1,6 +1,5 @@
-use Rattle.std.proofs.Common.{ap, ◌∙◌}
-use Rattle.std.specs.Prelude.{nat_lt}
-use Rattle.dom_model.specs.Tree.{is_fragment}
+use Rattle.dom_base.proofs.Std.{ap, ◌∙◌, nat_lt}
+use Rattle.dom_model.proofs.Model.{is_fragment}
 use Rattle.dom_tree.proofs.Placing.{breaks-many, breaks-one, breaks-no}
 use Rattle.dom_tree.proofs.forest.Forest.breaks_document.Goals as goal
 

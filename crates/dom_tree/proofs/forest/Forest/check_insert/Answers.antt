@@ -1,8 +1,6 @@
-use Rattle.std.proofs.Common.{◌≡◌, ap, sym, ◌∙◌, false, not, Bool, List}
-use Rattle.std.specs.Option.{option_map, option_map_or}
-use Rattle.dom_model.specs.Tree.{Node, child_nodes}
-use Rattle.dom_model.specs.Validity.{first_refusal, placing_tests, has_parent}
-use Rattle.dom_tree.specs.Forest.{name_at}
+use Rattle.dom_base.proofs.Std.{◌≡◌, ap, sym, ◌∙◌, false, not, Bool, List, option_map, option_map_or}
+use Rattle.dom_model.proofs.Model.{Node, child_nodes, first_refusal, placing_tests, has_parent}
+use Rattle.dom_tree.specs.Definitions.{name_at}
 use Rattle.dom_tree.proofs.Placing.{without_given-none, lost_test}
 use Rattle.dom_tree.proofs.Kept.{within_names}
 use Rattle.dom_tree.proofs.forest.Forest.check_insert.Goals as goal

@@ -1,7 +1,6 @@
-use Rattle.std.proofs.Common.{ap, ◌∙◌, Some, Bool}
-use Rattle.dom_model.specs.Tree.{child_nodes}
-use Rattle.dom_model.specs.Validity.{without_given, first_refusal, placing_tests}
-use Rattle.dom_tree.specs.Forest.{name_at}
+use Rattle.dom_base.proofs.Std.{ap, ◌∙◌, Some, Bool}
+use Rattle.dom_model.proofs.Model.{child_nodes, without_given, first_refusal, placing_tests}
+use Rattle.dom_tree.specs.Definitions.{name_at}
 use Rattle.dom_tree.proofs.Placing.{lost_test}
 use Rattle.dom_tree.proofs.Kept.{within_names}
 use Rattle.dom_tree.proofs.forest.Forest.check_replace.Goals as goal

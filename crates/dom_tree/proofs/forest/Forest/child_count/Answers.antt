@@ -1,8 +1,7 @@
-use Rattle.std.proofs.Common.{◌≡◌, ◌+◌, length, ap, sym, ◌∙◌, arith, refl}
-use Rattle.std.proofs.lemmas.List.{length-map}
+use Rattle.dom_base.proofs.Std.{◌≡◌, ◌+◌, length, ap, sym, ◌∙◌, arith, refl, length-map}
 use Rattle.node_arena.specs.Nodes.{children_of}
 use Rattle.node_arena.proofs.Lists.{contains-head_of}
-use Rattle.dom_tree.specs.Forest.{name_at}
+use Rattle.dom_tree.specs.Definitions.{name_at}
 use Rattle.dom_tree.proofs.Walks.{children_left, children_left-none, children_left-head, children_left-next}
 use Rattle.dom_tree.proofs.Walks.{children_left-fewer, among-next, few_children, shows_children, none_left}
 use Rattle.dom_tree.proofs.Kept.{within}

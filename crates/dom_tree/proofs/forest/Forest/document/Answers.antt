@@ -1,6 +1,5 @@
-use Rattle.std.proofs.Common.{ap, sym, ◌∙◌}
-use Rattle.std.specs.Option.{option_map}
-use Rattle.dom_tree.specs.Forest.{name_at}
+use Rattle.dom_base.proofs.Std.{ap, sym, ◌∙◌, option_map}
+use Rattle.dom_tree.specs.Definitions.{name_at}
 use Rattle.dom_tree.proofs.Kept.{shows_node}
 use Rattle.dom_tree.proofs.forest.Forest.document.Goals as goal
 

@@ -1,8 +1,7 @@
-use Rattle.std.proofs.Common.{◌≡◌, ◌+◌, ap, sym, ◌∙◌, arith, refl, true, false, not}
-use Rattle.std.proofs.lemmas.Bool.{and_left, and_right, and_from}
+use Rattle.dom_base.proofs.Std.{◌≡◌, ◌+◌, ap, sym, ◌∙◌, arith, refl, true, false, not, and_left, and_right, and_from}
 use Rattle.node_arena.specs.Nodes.{children_of, next_of}
 use Rattle.node_arena.proofs.Lists.{contains-head_of}
-use Rattle.dom_tree.specs.Forest.{nodes_of}
+use Rattle.dom_tree.specs.Definitions.{nodes_of}
 use Rattle.dom_tree.proofs.Walks.{children_left-fewer, among-next, few_children, none_left}
 use Rattle.dom_tree.proofs.Kept.{within}
 use Rattle.dom_tree.proofs.Children.{rest_of, rest_of-none, rest_of-head, rest_of-next, tally, tally-nil, tally-yes, tally-no, tally-length}

@@ -1,7 +1,5 @@
-use Rattle.std.proofs.Common.{◌≡◌, ℕ, Some, rules, ap, ◌∙◌}
-use Rattle.std.specs.Prelude.{slice_get}
-use Rattle.std.proofs.lemmas.Option.{slice_get_within}
-use Rattle.dom_tree.specs.Forest.{NamedTrees}
+use Rattle.dom_base.proofs.Std.{◌≡◌, ℕ, Some, rules, ap, ◌∙◌, slice_get, slice_get_within}
+use Rattle.dom_tree.specs.Definitions.{NamedTrees}
 use Rattle.dom_tree.proofs.Once.{shows_present}
 use Rattle.dom_tree.proofs.forest.Forest.find.Goals as goal
 

@@ -1,5 +1,4 @@
-use Rattle.dom_model.specs.Names.{first_of}
-use Rattle.dom_model.specs.Tree.{children_of as children_in}
+use Rattle.dom_model.proofs.Model.{first_of, children_of as children_in}
 use Rattle.node_arena.specs.Nodes.{children_of, head_of}
 use Rattle.dom_tree.proofs.Reading.{first_in-at}
 use Rattle.dom_tree.proofs.Kept.{shows, shows_child}

@@ -1,6 +1,6 @@
-use Rattle.std.proofs.Common.{ap, sym, ◌∙◌, refl}
+use Rattle.dom_base.proofs.Std.{ap, sym, ◌∙◌, refl}
 use Rattle.node_arena.specs.Nodes.{children_of}
-use Rattle.dom_tree.specs.Forest.{nodes_of}
+use Rattle.dom_tree.specs.Definitions.{nodes_of}
 use Rattle.dom_tree.proofs.Kept.{within}
 use Rattle.dom_tree.proofs.Within.{following_within}
 use Rattle.dom_tree.proofs.Walks.{fewer_above, in_tree, none_left, asked_above}

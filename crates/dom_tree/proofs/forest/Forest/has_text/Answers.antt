@@ -1,8 +1,7 @@
-use Rattle.std.proofs.Common.{ap, sym, ◌∙◌, refl, ◌||◌}
-use Rattle.std.proofs.lemmas.Bool.{or_left}
+use Rattle.dom_base.proofs.Std.{ap, sym, ◌∙◌, refl, ◌||◌, or_left}
 use Rattle.node_arena.specs.Nodes.{children_of, next_of}
 use Rattle.node_arena.proofs.Lists.{contains-head_of}
-use Rattle.dom_tree.specs.Forest.{nodes_of}
+use Rattle.dom_tree.specs.Definitions.{nodes_of}
 use Rattle.dom_tree.proofs.Walks.{children_left-fewer, among-next, none_left}
 use Rattle.dom_tree.proofs.Children.{rest_of, rest_of-none, rest_of-head, rest_of-next, any_of, any_of-nil, any_of-cons, is_text_key, shows_text}
 use Rattle.dom_tree.proofs.Children.{shows_has_text}

@@ -1,4 +1,4 @@
-use Rattle.std.proofs.Common.{◌∙◌}
+use Rattle.dom_base.proofs.Std.{◌∙◌}
 use Rattle.dom_tree.proofs.Walks.{place-fits, shows_index}
 use Rattle.dom_tree.proofs.forest.Forest.index.Goals as goal
 

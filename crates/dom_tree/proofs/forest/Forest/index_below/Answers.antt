@@ -1,4 +1,4 @@
-use Rattle.std.proofs.Common.{◌≤◌, ℕ, subst, ◌∙◌}
+use Rattle.dom_base.proofs.Std.{◌≤◌, ℕ, subst, ◌∙◌}
 use Rattle.dom_tree.proofs.Walks.{shows_index}
 use Rattle.dom_tree.proofs.forest.Forest.index_below.Goals as goal
 

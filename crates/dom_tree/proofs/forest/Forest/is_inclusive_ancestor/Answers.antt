@@ -1,6 +1,4 @@
-use Rattle.std.proofs.Common.{◌≡◌, Bool, true, false, true≢false, refl, sym, ◌∙◌}
-use Rattle.std.specs.Prelude.{◌↔◌, IsTrue}
-use Rattle.std.proofs.lemmas.Bool.{false_from_ne_true}
+use Rattle.dom_base.proofs.Std.{◌≡◌, Bool, true, false, true≢false, refl, sym, ◌∙◌, ◌↔◌, IsTrue, false_from_ne_true}
 use Rattle.dom_tree.proofs.Walks.{shows_above}
 use Rattle.dom_tree.proofs.forest.Forest.is_inclusive_ancestor.Goals as goal
 

@@ -1,5 +1,5 @@
-use Rattle.std.proofs.Common.{sym, subst}
-use Rattle.dom_model.specs.Tree.{Node}
+use Rattle.dom_base.proofs.Std.{sym, subst}
+use Rattle.dom_model.proofs.Model.{Node}
 use Rattle.dom_attributes.specs.Attributes.{HaveOwnNames}
 use Rattle.dom_tree.proofs.Kept.{shows_node}
 use Rattle.dom_tree.proofs.forest.Forest.law_attributes_have_own_names.Goals as goal

@@ -1,9 +1,7 @@
-use Rattle.std.proofs.Common.{◌∷◌, length, ap, sym, arith}
-use Rattle.std.proofs.lemmas.List.{length-map}
+use Rattle.dom_base.proofs.Std.{◌∷◌, length, ap, sym, arith, length-map}
 use Rattle.node_arena.specs.Nodes.{children_of}
-use Rattle.dom_laws.proofs.Counts.{Once}
-use Rattle.dom_laws.proofs.Siblings.{from_first, from_next, last_apart}
-use Rattle.dom_tree.specs.Forest.{NamedTrees, name_at}
+use Rattle.dom_laws.proofs.Laws.{Once, from_first, from_next, last_apart}
+use Rattle.dom_tree.specs.Definitions.{NamedTrees, name_at}
 use Rattle.dom_tree.proofs.ChildLists.{child_apart, child_once}
 use Rattle.dom_tree.proofs.Kept.{within}
 use Rattle.dom_tree.proofs.Once.{shows_once, shows_only}

@@ -1,9 +1,9 @@
-use Rattle.std.proofs.Common.{◌≡◌, arith}
-use Rattle.dom_model.specs.Tree.{index_of}
+use Rattle.dom_base.proofs.Std.{◌≡◌, arith}
+use Rattle.dom_model.proofs.Model.{index_of}
 use Rattle.dom_tree.proofs.Kept.{within, within_names}
 use Rattle.node_arena.specs.Nodes.{place_of}
 use Rattle.dom_tree.proofs.Walks.{place-within, shows_index}
-use Rattle.dom_tree.specs.Forest.{name_at}
+use Rattle.dom_tree.specs.Definitions.{name_at}
 use Rattle.dom_tree.proofs.forest.Forest.law_index.Goals as goal
 
 pub returns : goal.returns

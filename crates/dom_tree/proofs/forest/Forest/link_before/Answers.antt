@@ -1,11 +1,8 @@
-use Rattle.std.proofs.Common.{◌<◌, ℕ, List, Some, length, ap, subst, sym, ◌∙◌, arith}
-use Rattle.std.specs.Option.{option_map}
-use Rattle.std.proofs.lemmas.Bool.{both_ways}
+use Rattle.dom_base.proofs.Std.{◌<◌, ℕ, List, Some, length, ap, subst, sym, ◌∙◌, arith, option_map, both_ways}
 use Rattle.node_arena.specs.Nodes.{Nodes, IsForest, parent_of}
-use Rattle.dom_model.specs.Tree.{children_of as children_in}
+use Rattle.dom_model.proofs.Model.{children_of as children_in}
 use Rattle.dom_laws.specs.Siblings.{put_name}
-use Rattle.dom_tree.specs.Contents.{Stored}
-use Rattle.dom_tree.specs.Forest.{name_at}
+use Rattle.dom_tree.specs.Definitions.{Stored, name_at}
 use Rattle.dom_tree.proofs.Kept.{link_shown, link_asked, link_done, kept_with, within}
 use Rattle.dom_tree.proofs.Stays.{AreSameBut, moved_above, moved_parents, parent_shown, linked_apart, linked_parent}
 use Rattle.dom_tree.proofs.ChildLists.{children_linked, children_beside, put-first, put-last}

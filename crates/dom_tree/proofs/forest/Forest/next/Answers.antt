@@ -1,4 +1,4 @@
-use Rattle.dom_model.specs.Tree.{next_sibling}
+use Rattle.dom_model.proofs.Model.{next_sibling}
 use Rattle.node_arena.specs.Nodes.{next_of}
 use Rattle.dom_tree.proofs.Reading.{next_in-at}
 use Rattle.dom_tree.proofs.Kept.{shows, shows_sibling}

@@ -1,5 +1,5 @@
-use Rattle.std.proofs.Common.{ℕ, length, ap, ◌∙◌}
-use Rattle.dom_tree.specs.Forest.{NamedTrees, count_of}
+use Rattle.dom_base.proofs.Std.{ℕ, length, ap, ◌∙◌}
+use Rattle.dom_tree.specs.Definitions.{NamedTrees, count_of}
 use Rattle.dom_tree.proofs.forest.Forest.node_count.Goals as goal
 
 pub returns : goal.returns

@@ -1,5 +1,4 @@
-use Rattle.std.proofs.Common.{sym, ◌∙◌}
-use Rattle.std.proofs.lemmas.Bool.{false_from_ne_true}
+use Rattle.dom_base.proofs.Std.{sym, ◌∙◌, false_from_ne_true}
 use Rattle.dom_tree.proofs.Kept.{shows_parent, within_names}
 use Rattle.dom_tree.proofs.Walks.{shows_above}
 use Rattle.dom_tree.proofs.forest.Forest.parent.Goals as goal

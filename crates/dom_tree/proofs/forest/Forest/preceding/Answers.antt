@@ -1,7 +1,5 @@
-use Rattle.std.proofs.Common.{◌<◌, ℕ, length, ap, sym, ◌∙◌, arith, refl, subst}
-use Rattle.std.proofs.lemmas.Bool.{eqb-true, eqb-false}
-use Rattle.std.proofs.lemmas.Option.{same_Some}
-use Rattle.dom_tree.specs.Forest.{nodes_of}
+use Rattle.dom_base.proofs.Std.{◌<◌, ℕ, length, ap, sym, ◌∙◌, arith, refl, subst, eqb-true, eqb-false, same_Some}
+use Rattle.dom_tree.specs.Definitions.{nodes_of}
 use Rattle.dom_tree.proofs.Kept.{within_names}
 use Rattle.dom_tree.proofs.Within.{preceding_within}
 use Rattle.dom_tree.proofs.Walks.{in_tree, none_left}

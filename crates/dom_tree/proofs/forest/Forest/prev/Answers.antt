@@ -1,4 +1,4 @@
-use Rattle.dom_model.specs.Tree.{previous_sibling}
+use Rattle.dom_model.proofs.Model.{previous_sibling}
 use Rattle.node_arena.specs.Nodes.{prev_of}
 use Rattle.dom_tree.proofs.Reading.{prev_in-at}
 use Rattle.dom_tree.proofs.Kept.{shows, shows_sibling}

@@ -1,8 +1,6 @@
-use Rattle.std.proofs.Common.{subst, sym}
+use Rattle.dom_base.proofs.Std.{subst, sym}
 use Rattle.node_arena.specs.Nodes.{Nodes}
-use Rattle.dom_tree.specs.Contents.{Stored}
-use Rattle.dom_tree.specs.Forest.{IsKept}
-use Rattle.dom_tree.specs.Table.{keys_of}
+use Rattle.dom_tree.specs.Definitions.{Stored, IsKept, keys_of}
 use Rattle.dom_tree.proofs.forest.Forest.remember_siblings.Goals as goal
 
 pub invariant_of-self : goal.invariant_of-self

@@ -1,8 +1,6 @@
-use Rattle.std.proofs.Common.{ap, sym, ◌∙◌, refl, None}
-use Rattle.dom_model.specs.TreeChanges.{with_attribute}
-use Rattle.dom_model.specs.Tree.{attribute_value}
-use Rattle.dom_tree.specs.Contents.{Stored}
-use Rattle.dom_tree.specs.Forest.{node_with}
+use Rattle.dom_base.proofs.Std.{ap, sym, ◌∙◌, refl, None}
+use Rattle.dom_model.proofs.Model.{with_attribute, attribute_value}
+use Rattle.dom_tree.specs.Definitions.{Stored, node_with}
 use Rattle.dom_tree.proofs.Kept.{shows_node}
 use Rattle.dom_tree.proofs.Setting.{IsKept-set_same}
 use Rattle.dom_tree.proofs.Holds.{IsChangedAt-stored}

@@ -1,4 +1,4 @@
-use Rattle.std.proofs.Common.{sym, ◌∙◌, refl}
+use Rattle.dom_base.proofs.Std.{sym, ◌∙◌, refl}
 use Rattle.dom_tree.proofs.Walks.{fewer_above, top_key-parent, shows_root, none_left}
 use Rattle.dom_tree.proofs.forest.Forest.root.Goals as goal
 

@@ -1,9 +1,6 @@
-use Rattle.std.proofs.Common.{◌≡◌, ap, set, refl, Some, Result, Ok, Err}
-use Rattle.std.specs.Prelude.{OnErr}
-use Rattle.dom_model.specs.Tree.{inclusive_ancestors, children_of, node_in}
-use Rattle.dom_model.specs.TreeChanges.{with_attribute}
-use Rattle.dom_tree.specs.Contents.{Stored}
-use Rattle.dom_tree.specs.Forest.{name_at, node_with}
+use Rattle.dom_base.proofs.Std.{◌≡◌, ap, set, refl, Some, Result, Ok, Err, OnErr}
+use Rattle.dom_model.proofs.Model.{inclusive_ancestors, children_of, node_in, with_attribute}
+use Rattle.dom_tree.specs.Definitions.{Stored, name_at, node_with}
 use Rattle.dom_tree.proofs.Setting.{IsKept-set_same, set_names}
 use Rattle.dom_tree.proofs.Kept.{seen}
 use Rattle.dom_tree.proofs.Unchanged.{set_same}

@@ -1,7 +1,6 @@
-use Rattle.std.proofs.Common.{ap, refl}
-use Rattle.dom_model.specs.TreeChanges.{with_text}
-use Rattle.dom_tree.specs.Contents.{Stored}
-use Rattle.dom_tree.specs.Forest.{node_with}
+use Rattle.dom_base.proofs.Std.{ap, refl}
+use Rattle.dom_model.proofs.Model.{with_text}
+use Rattle.dom_tree.specs.Definitions.{Stored, node_with}
 use Rattle.dom_tree.proofs.Setting.{IsKept-set_same}
 use Rattle.dom_tree.proofs.Holds.{IsChangedAt-stored}
 use Rattle.dom_tree.proofs.forest.Forest.set_data.Goals as goal

@@ -1,8 +1,6 @@
-use Rattle.std.proofs.Common.{ap, sym, refl, ◌∙◌}
-use Rattle.std.specs.Option.{option_map}
-use Rattle.dom_model.specs.TreeChanges.{under_document}
-use Rattle.dom_tree.specs.Contents.{Stored}
-use Rattle.dom_tree.specs.Forest.{name_at, node_with}
+use Rattle.dom_base.proofs.Std.{ap, sym, refl, ◌∙◌, option_map}
+use Rattle.dom_model.proofs.Model.{under_document}
+use Rattle.dom_tree.specs.Definitions.{Stored, name_at, node_with}
 use Rattle.dom_tree.proofs.Kept.{within}
 use Rattle.dom_tree.proofs.Setting.{IsKept-set}
 use Rattle.dom_tree.proofs.Holds.{IsChangedAt-stored}

@@ -1,6 +1,6 @@
-use Rattle.std.proofs.Common.{ℕ, List, None, ap, subst, sym, ◌∙◌}
+use Rattle.dom_base.proofs.Std.{ℕ, List, None, ap, subst, sym, ◌∙◌}
 use Rattle.node_arena.specs.Nodes.{Nodes, parent_of}
-use Rattle.dom_tree.specs.Contents.{Stored}
+use Rattle.dom_tree.specs.Definitions.{Stored}
 use Rattle.dom_tree.proofs.Kept.{unlink_done, kept_with}
 use Rattle.dom_tree.proofs.Stays.{AreSameBut, moved_above, moved_parents, parent_shown, unlinked_apart, unlinked_root}
 use Rattle.dom_tree.proofs.ChildLists.{children_unlinked, children_spared}

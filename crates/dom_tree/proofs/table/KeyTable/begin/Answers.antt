@@ -1,6 +1,4 @@
-use Rattle.std.proofs.Common.{[], refl, sym, ap, ◌∙◌}
-use Rattle.std.specs.HashMap.{get}
-use Rattle.std.specs.Option.{option_map_or}
+use Rattle.dom_base.proofs.Std.{[], refl, sym, ap, ◌∙◌, get, option_map_or}
 use Rattle.dom_base.specs.contracts.OwnerPartialEq.TheImpl as OwnerImpl
 use Rattle.dom_tree.specs.declared.table.KeyTable.{KeyTable}
 use Rattle.dom_tree.proofs.KeyLists.{keys-same}

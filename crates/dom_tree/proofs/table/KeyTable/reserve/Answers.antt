@@ -1,5 +1,4 @@
-use Rattle.std.proofs.Common.{refl, sym, subst, ◌∙◌}
-use Rattle.std.specs.Option.{IsSome}
+use Rattle.dom_base.proofs.Std.{refl, sym, subst, ◌∙◌, IsSome}
 use Rattle.dom_tree.specs.declared.table.KeyTable.{KeyTable}
 use Rattle.dom_tree.proofs.KeyLists.{keys-reserved}
 use Rattle.dom_tree.proofs.table.KeyTable.reserve.Goals as goal
