@@ -134,16 +134,24 @@ impl State {
     }
 
     /// Whether a node is of the kind that is asked for; a range, an iterator, a walker or an observer always is. Where any kind
-    /// will do there is no look-up.
+    /// will do there is no look-up, and the local name is read of a slot alone.
     fn is_fit(&self, owner: Owner, named: Operand) -> bool
         ensures { result ≡ is_fit (part_of self.now.world owner) named }
     {
         match named {
-            Operand::Any(_) => true,
-            _ => match named.node() {
-                Some(node) => named.accepts(self.kind(owner, node), self.element(owner, node)),
-                None => true,
-            },
+            Operand::Any(_)
+            | Operand::Range(_)
+            | Operand::Iterator(_)
+            | Operand::Walker(_)
+            | Operand::Observer(_) => true,
+            Operand::Slot(node) => named.accepts(self.kind(owner, node), self.element(owner, node)),
+            Operand::Element(node)
+            | Operand::Text(node)
+            | Operand::Document(node)
+            | Operand::Data(node)
+            | Operand::Child(node)
+            | Operand::Parent(node)
+            | Operand::Slottable(node) => named.accepts(self.kind(owner, node), ""),
         }
     }
 }
