@@ -11,7 +11,7 @@ use Rattle.dom_worlds.proofs.Bounds.{Under, RangeUnder, reach, nowhere, HasRoom,
 use Rattle.dom_worlds.proofs.Lists.{all-append, all-set, either_way, at-each}
 use Rattle.dom_worlds.proofs.RangeBounds.{room-removing, room-adopting, room-inserting, room-replacing, room-setting_attribute, room-unsetting_attribute}
 use Rattle.dom_worlds.proofs.RangeBounds.{room-replacing_data}
-use Rattle.dom_worlds.proofs.TableCommands.{named-may, insertion-apart, replacement-apart, exists-first, exists-second}
+use Rattle.dom_worlds.proofs.TableCommands.{append-may, exists-first, insert-may, replace-may}
 use Rattle.dom_worlds.proofs.TextBounds.{text-data, room-splitting, room-normalizing, room-setting_text}
 
 -- what an effect leaves
@@ -109,30 +109,22 @@ room-effect p i h (Command.append a x) r s =
     let k = part-accepted p (Command.append a x) r in
     room-inserting observed None (record { part = i; room = h })
     (record {
-      go = named-may x (named p a) i (exists-second p a x true true k.exist)
-          (exists-first p a (Rattle.dom_model.specs.Tree.has_node p.trees (named p x) && true) true k.exist)
-          (insertion-apart p.trees (named p a) (named p x) None k.own);
+      go = append-may i a x k;
       open_parent = insertion-open p.trees (named p a) (named p x) None k.own;
     })
 room-effect p i h (Command.insert a x c) r s =
     let k = part-accepted p (Command.insert a x c) r in
-    let rest = Rattle.dom_model.specs.Tree.has_node p.trees (named p c) && true in
     room-inserting observed _ (record { part = i; room = h })
     (record {
-      go = named-may x (named p a) i (exists-second p a x rest true k.exist)
-          (exists-first p a (Rattle.dom_model.specs.Tree.has_node p.trees (named p x) && rest) true k.exist)
-          (insertion-apart p.trees (named p a) (named p x) (Some (named p c)) k.own);
+      go = insert-may i a x c k;
       open_parent =
           insertion-open p.trees (named p a) (named p x) (Some (named p c)) k.own;
     })
 room-effect p i h (Command.replace a x c) r s =
     let k = part-accepted p (Command.replace a x c) r in
-    let rest = Rattle.dom_model.specs.Tree.has_node p.trees (named p c) && true in
     room-replacing (named p c) (record { part = i; room = h })
     (record {
-      go = named-may x (named p a) i (exists-second p a x rest true k.exist)
-          (exists-first p a (Rattle.dom_model.specs.Tree.has_node p.trees (named p x) && rest) true k.exist)
-          (replacement-apart p.trees (named p a) (named p x) (named p c) k.own);
+      go = replace-may i a x c k;
       open_parent = replacement-open p.trees (named p a) (named p x) (named p c) k.own;
     })
 room-effect p i h (Command.set_data x t) r s =

@@ -1,7 +1,7 @@
 -- What accepted commands do to ranges, iterators and walkers: they keep to nodes that are there.
 use Rattle.dom_base.proofs.Std.{◌≡◌, ℕ, Bool, true, false, not, ◌&&◌, List, filter, drop, Option, Some, None, option_map, refl, sym, ◌≤◌, [], ◌∷◌, ◌++◌, find}
 use Rattle.dom_base.proofs.Std.{option_map_or, and_parts, AllByRecursion}
-use Rattle.dom_model.proofs.Model.{NodeName, Hierarchy, NodeWord, named, answers, Effect, tables, changes, with_range, collapsed_to, moves_iterator}
+use Rattle.dom_model.proofs.Model.{NodeName, Command, Hierarchy, NodeWord, named, answers, Effect, tables, changes, with_range, collapsed_to, moves_iterator}
 use Rattle.dom_model.proofs.Model.{sets_walker, name_eq, first_of, last_of, items_before, items_after, Part, Boundary, same_root, is_before, Range, from_to}
 use Rattle.dom_model.proofs.Model.{with_start, with_end, Trees, Node, has_node, kind_of, is_inclusive_ancestor, child_nodes, ancestors, inclusive_ancestors}
 use Rattle.dom_model.proofs.Model.{inclusive_descendants, times_in, first_refusal, has_parent, may_be_parent, placing_tests, pre_insert_refusal}
@@ -9,7 +9,7 @@ use Rattle.dom_model.proofs.Model.{replace_refusal, Move, Parent, First, Last, N
 use Rattle.dom_model.proofs.Model.{iterator_next_node, iterator_previous_node, nodes_ahead, nodes_passed, accepts, walker_move, walker_step, walker_children}
 use Rattle.dom_model.proofs.Model.{walker_nodes, walker_siblings}
 use Rattle.dom_worlds.specs.Definitions.{IsPart, IsNodeIn, HasEnds, EndsIn, HasTables, IsIteratorIn, IsWalkerIn}
-use Rattle.dom_worlds.proofs.Effects.{next-test}
+use Rattle.dom_worlds.proofs.Effects.{IsPartAccepted, next-test}
 use Rattle.dom_worlds.proofs.InsideAncestors.{inside-no_ancestor, times-has_node}
 use Rattle.dom_worlds.proofs.KindLines.{has_node-times}
 use Rattle.dom_worlds.proofs.Owners.{owner-named}
@@ -40,7 +40,7 @@ pub insertion-apart : (ts : Trees) (parent node : NodeName) (child : Option Node
 insertion-apart ts parent node child h = tested-apart ts parent node (option_map_or (λ c. not (has_parent ts parent c)) child false) (child_nodes ts parent) h
 
 -- of a replacement
-pub replacement-apart : (ts : Trees) (parent node child : NodeName) → replace_refusal ts parent node child ≡ None →
+replacement-apart : (ts : Trees) (parent node child : NodeName) → replace_refusal ts parent node child ≡ None →
     is_inclusive_ancestor ts node parent ≡ false
 replacement-apart ts parent node child h =
     tested-apart ts parent node (not (has_parent ts parent child)) (filter (λ (n : Node). not (name_eq n.name child)) (child_nodes ts parent)) h
@@ -71,6 +71,29 @@ exists-third p x y z h =
     let more = has_node p.trees (named p y) && last in
     let both = and_parts (has_node p.trees (named p x)) more (and_parts (has_node p.trees (named p x) && more) true h).0 in
     has_node-times p.trees (named p z) (and_parts (has_node p.trees (named p z)) true (and_parts (has_node p.trees (named p y)) last both.1).1).0
+
+-- A command that places a node: it may go to its parent.
+module _ {p : Part} (i : IsPart p) (a x : NodeWord) where
+  -- behind the last child
+  pub append-may : IsPartAccepted p (Command.append a x) → MayGo (named p a) p (named p x)
+  append-may k =
+      named-may x (named p a) i (exists-second p a x true true k.exist) (exists-first p a (has_node p.trees (named p x) && true) true k.exist)
+      (insertion-apart p.trees (named p a) (named p x) None k.own)
+
+  -- before a child, or in its place
+  module _ (c : NodeWord) where
+    abbrev rest : Bool
+    rest = has_node p.trees (named p c) && true
+
+    pub insert-may : IsPartAccepted p (Command.insert a x c) → MayGo (named p a) p (named p x)
+    insert-may k =
+        named-may x (named p a) i (exists-second p a x rest true k.exist) (exists-first p a (has_node p.trees (named p x) && rest) true k.exist)
+        (insertion-apart p.trees (named p a) (named p x) (Some (named p c)) k.own)
+
+    pub replace-may : IsPartAccepted p (Command.replace a x c) → MayGo (named p a) p (named p x)
+    replace-may k =
+        named-may x (named p a) i (exists-second p a x rest true k.exist) (exists-first p a (has_node p.trees (named p x) && rest) true k.exist)
+        (replacement-apart p.trees (named p a) (named p x) (named p c) k.own)
 
 -- what holds in each case holds of what is made of a thing that may not be there
 pub some-holds : {X : Type 0} {P : X → Type 0} (p : Part) (o : Option X) (f : X → Effect) → IfSome P o → ((x : X) → P x → Holds p (f x)) → HasTables p →

@@ -2,7 +2,7 @@
 use Rattle.dom_base.proofs.Std.{◌≡◌, ℕ, true, false, ◌&&◌, List, [], ◌∷◌, Option, Some, None, refl, sym, subst, Bool, not, ◌++◌, map, filter, fold, length, ◌∙◌}
 use Rattle.dom_base.proofs.Std.{option_map_or, arith, true≢false, nat_eq, AllByRecursion}
 use Rattle.dom_model.proofs.Model.{NodeName, observed, reference_child, Command, Line, EventWords, part_refusal, effect, named, Effect, tables, changes}
-use Rattle.dom_model.proofs.Model.{answers, sets_walker, extracting, Value, nothing, Part, first_node, deleting, inserting_into_range, Walker, has_node}
+use Rattle.dom_model.proofs.Model.{answers, sets_walker, extracting, Value, nothing, Part, first_node, deleting, inserting_into_range, Walker}
 use Rattle.dom_model.proofs.Model.{length_of, node_in, Action, Log, Stop, StopNow, Cancel, Shadow, Owner, Page, Component, dispatch_in, world_visit, visits_of}
 use Rattle.dom_model.proofs.Model.{first_world, part_with_root, effect_in, attaching, step, run_lines, finish, Listener, Visit, Dispatching, begun}
 use Rattle.dom_model.proofs.Model.{after_action, may_cancel, line_of, is_listener, kept_after, after_inner_invoke, hears, after_invoke, name_eq, node_of, is_in}
@@ -17,7 +17,7 @@ use Rattle.dom_worlds.proofs.Recorded.{TellsIn, reference-there, tells-removing,
 use Rattle.dom_worlds.proofs.Recorded.{tells-unsetting_attribute, tells-replacing_data, records-emptied}
 use Rattle.dom_worlds.proofs.RecordedPlans.{tells-splitting, tells-normalizing, tells-setting_text, tells-extracting, tells-deleting}
 use Rattle.dom_worlds.proofs.RecordedPlans.{tells-inserting_into_range}
-use Rattle.dom_worlds.proofs.TableCommands.{named-may, insertion-apart, replacement-apart, exists-first, exists-second, exists-third, Holds}
+use Rattle.dom_worlds.proofs.TableCommands.{append-may, exists-first, exists-third, Holds, insert-may, replace-may}
 use Rattle.dom_worlds.proofs.TableRegisters.{insert_node-may, holds-effect, more-registered, tables-listeners}
 use Rattle.dom_worlds.proofs.InsideAncestors.{times-has_node}
 use Rattle.dom_worlds.proofs.KindLines.{attach-free}
@@ -48,25 +48,15 @@ some-records p o f h g = some-effect (Records p) o f h g
 -- Every accepted command.
 pub records-effect : (p : Part) → IsPart p → HasTables p → HasRecords p → (c : Command) → part_refusal p c ≡ None → Records p (effect p c)
 records-effect p i t h (Command.append a x) r =
-    let k = part-accepted p (Command.append a x) r in
-    tells-inserting observed None i
-    (named-may x (named p a) i (exists-second p a x true true k.exist)
-    (exists-first p a (has_node p.trees (named p x) && true) true k.exist) (insertion-apart p.trees (named p a) (named p x) None k.own)) tt
+    tells-inserting observed None i (append-may i a x (part-accepted p (Command.append a x) r)) tt
 records-effect p i t h (Command.insert a x c) r =
     let k = part-accepted p (Command.insert a x c) r in
-    let rest = has_node p.trees (named p c) && true in
-    let there = exists-second p a x rest true k.exist in
-    tells-inserting observed (reference_child p.trees (named p x) (Some (named p c))) i
-    (named-may x (named p a) i there (exists-first p a (has_node p.trees (named p x) && rest) true k.exist)
-    (insertion-apart p.trees (named p a) (named p x) (Some (named p c)) k.own))
-    (reference-there p (named p x) (Some (named p c)) there (exists-third p a x c k.exist))
+    let may = insert-may i a x c k in
+    tells-inserting observed (reference_child p.trees (named p x) (Some (named p c))) i may
+    (reference-there p (named p x) (Some (named p c)) may.there (exists-third p a x c k.exist))
 records-effect p i t h (Command.replace a x c) r =
     let k = part-accepted p (Command.replace a x c) r in
-    let rest = has_node p.trees (named p c) && true in
-    tells-replacing (named p c) i
-    (named-may x (named p a) i (exists-second p a x rest true k.exist)
-    (exists-first p a (has_node p.trees (named p x) && rest) true k.exist)
-    (replacement-apart p.trees (named p a) (named p x) (named p c) k.own)) (exists-third p a x c k.exist)
+    tells-replacing (named p c) i (replace-may i a x c k) (exists-third p a x c k.exist)
 records-effect p i t h (Command.set_attribute x a v) r = let k =
     part-accepted p (Command.set_attribute x a v) r in tells-setting_attribute (named p x) a v p (exists-first p x true true k.exist)
 records-effect p i t h (Command.unset_attribute x a) r = let k =

@@ -26,7 +26,7 @@ use Rattle.dom_worlds.proofs.TableSteps.{HasNode, MadeIn, tables-iterators, tabl
 use Rattle.dom_worlds.proofs.PlanRoots.{ends-at}
 use Rattle.dom_worlds.proofs.TableRecords.{IfSome, all-get}
 use Rattle.dom_worlds.proofs.Roots.{roots-same}
-use Rattle.dom_worlds.proofs.TableCommands.{Holds, insertion-apart, replacement-apart, named-may, exists-first, exists-second, some-holds, tables-range}
+use Rattle.dom_worlds.proofs.TableCommands.{Holds, append-may, exists-first, insert-may, insertion-apart, named-may, replace-may, some-holds, tables-range}
 use Rattle.dom_worlds.proofs.TableCommands.{ends-mapped, ends-with_start, ends-with_end, ends-collapsed, iterator-next, iterator-previous, tables-iterator}
 use Rattle.dom_worlds.proofs.TableCommands.{walker-moved, tables-walker}
 
@@ -119,22 +119,11 @@ some-any (Some x) = tt
 -- Every accepted command.
 pub holds-effect : (p : Part) → IsPart p → HasTables p → IsNodeIn p.trees (first_node p) → (c : Command) → part_refusal p c ≡ None → Holds p (effect p c)
 holds-effect p i h f (Command.append a x) r =
-    let k = part-accepted p (Command.append a x) r in
-    (leads-inserting observed (named p x) (named p a) None i
-    (named-may x (named p a) i (exists-second p a x true true k.exist)
-    (exists-first p a (has_node p.trees (named p x) && true) true k.exist) (insertion-apart p.trees (named p a) (named p x) None k.own))).made
+    (leads-inserting observed (named p x) (named p a) None i (append-may i a x (part-accepted p (Command.append a x) r))).made
 holds-effect p i h f (Command.insert a x c) r =
-    let k = part-accepted p (Command.insert a x c) r in
-    (leads-inserting observed (named p x) (named p a) _ i
-    (named-may x (named p a) i (exists-second p a x (has_node p.trees (named p c) && true) true k.exist)
-    (exists-first p a (has_node p.trees (named p x) && (has_node p.trees (named p c) && true)) true k.exist)
-    (insertion-apart p.trees (named p a) (named p x) (Some (named p c)) k.own))).made
+    (leads-inserting observed (named p x) (named p a) _ i (insert-may i a x c (part-accepted p (Command.insert a x c) r))).made
 holds-effect p i h f (Command.replace a x c) r =
-    let k = part-accepted p (Command.replace a x c) r in
-    (leads-replacing (named p a) (named p x) (named p c) p i
-    (named-may x (named p a) i (exists-second p a x (has_node p.trees (named p c) && true) true k.exist)
-    (exists-first p a (has_node p.trees (named p x) && (has_node p.trees (named p c) && true)) true k.exist)
-    (replacement-apart p.trees (named p a) (named p x) (named p c) k.own))).made
+    (leads-replacing (named p a) (named p x) (named p c) p i (replace-may i a x c (part-accepted p (Command.replace a x c) r))).made
 holds-effect p i h f (Command.remove x) r = (leads-removing observed (named p x) p i).made
 holds-effect p i h f (Command.adopt d x) r = (leads-adopting (named p d) (named p x) p i (owner-named p x)).made
 holds-effect p i h f (Command.normalize x) r = (leads-normalizing (named p x) p i).made
