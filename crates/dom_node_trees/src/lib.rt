@@ -2,9 +2,7 @@
 #![tactic(auto)]
 
 mod documents;
-mod hosts;
 mod steps;
 
 pub use documents::{roots_below, set_documents, set_each};
-pub use hosts::may_be_host;
 pub use steps::NodeTrees;

@@ -14,8 +14,8 @@ ghost use Rattle.dom_parts.specs.Doc.{name_in, owner_in, attaching_refusal, Hold
 
 use super::settling::give_up;
 use crate::Parts;
+use crate::hosts::may_be_host;
 use dom_base::{Fault, Kind, MAX_COMPONENTS, MAX_DEPTH, Owner, Refusal};
-use dom_node_trees::may_be_host;
 use dom_slots::{Slots, law_new_nodes_are_free};
 use dom_tree::{Forest, NodeData};
 use indexmap::IndexMap;

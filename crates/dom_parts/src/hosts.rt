@@ -5,7 +5,7 @@ ghost use Rattle.dom_model.specs.Names.{text_eq, is_in};
 ghost use Rattle.dom_model.specs.CommandRefusals.{may_be_host, host_words, reserved_words, is_custom_word, is_lower};
 
 /// Whether an element of this name may be a host: it is one of eighteen names, or that of a custom element.
-pub fn may_be_host(name: &str) -> bool
+pub(crate) fn may_be_host(name: &str) -> bool
     ensures { result ≡ may_be_host name.now }
 {
     is_host_word(name) || is_custom_word(name)
