@@ -87,7 +87,7 @@ impl OrderedKeys {
         let count = self.count.checked_add(1).ok_or(AllocError)?;
         make_room(&mut self.numbers, key)?;
         push_in(self.alloc, &mut self.blocks, key)?;
-        self.numbers[key.index] = self.blocks.len() - 1;
+        self.numbers[key.index as usize] = self.blocks.len() - 1;
         self.count = count;
         Ok(())
     }
@@ -131,7 +131,7 @@ fn locate(blocks: &[Block], numbers: &[usize], key: Key) -> Option<(usize, usize
     ensures there { ForSome result (λ at. IsThere blocks.now at.0 at.1) }
     ensures absent { result ≡ None → contains (concat blocks.now) key ≡ false }
 {
-    let number = *numbers.get(key.index)?;
+    let number = *numbers.get(key.index as usize)?;
     let place = blocks.get(number)?.find(key)?;
     Some((number, place))
 }
@@ -154,7 +154,7 @@ fn make_room(numbers: &mut Vec<usize>, key: Key) -> Result<(), AllocError>
     ensures reach { OnOk result (key < length numbers.new.items) }
     ensures kept { (k b : ℕ) → slice_get numbers.old.items k ≡ Some b → slice_get numbers.new.items k ≡ Some b }
 {
-    let count = key.index.checked_add(1).ok_or(AllocError)?;
+    let count = (key.index as usize).checked_add(1).ok_or(AllocError)?;
     if numbers.len() < count {
         numbers.resize(count, 0)?;
     }
@@ -198,7 +198,7 @@ fn put_in(
 {
     make_room(numbers, key)?;
     blocks[number].insert(place, key)?;
-    numbers[key.index] = number;
+    numbers[key.index as usize] = number;
     split_if_full(blocks, numbers, number);
     Ok(())
 }
@@ -209,7 +209,7 @@ fn number_block(numbers: &mut Vec<usize>, block: &Block, number: usize)
     ensures { AreWritten numbers.old.items numbers.new.items block.now number }
 {
     for key in block.keys() {
-        numbers[key.index] = number;
+        numbers[key.index as usize] = number;
     }
 }
 
