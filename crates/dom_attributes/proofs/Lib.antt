@@ -1,5 +1,4 @@
 pub mod Attributes
 mod FewAttributes
-mod FirstAttribute
 mod Boxed
 mod OwnNames

@@ -1,2 +1,3 @@
 -- Unmarked: own rules, about what the code holds and its contracts say.
 pub mod Attributes
+pub mod Held

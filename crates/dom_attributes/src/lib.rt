@@ -4,7 +4,7 @@
 
 mod attribute_list;
 mod hashed_attributes;
-mod later_attributes;
+mod several_attributes;
 mod shared_names;
 mod texts;
 

@@ -1,11 +1,11 @@
-//! The attributes of a node behind the first one.
+//! The attributes of a node that has, or had, more than one.
 ghost use Rattle.std.specs.Prelude.{◌≡◌, ◌↔◌, [], slice_get, IsTrue, IfOk, OnOk, OnErr};
 ghost use Rattle.std.specs.List.{position};
 ghost use Rattle.std.specs.Str.{bytes_eq};
 ghost use Rattle.std.specs.Option.{option_map};
 ghost use Rattle.std.specs.Rc.{rc_str_bytes};
 ghost use Rattle.dom_model.specs.TreeChanges.{attributes_with, attributes_without};
-ghost use Rattle.dom_attributes.specs.Attributes.{HaveOwnNames, value_among, attribute_from, attributes_from};
+ghost use Rattle.dom_attributes.specs.Attributes.{HaveOwnNames, value_among, attribute_from, attributes_from, attributes_under};
 
 use crate::hashed_attributes::HashedAttributes;
 use crate::shared_names::SharedNames;
@@ -21,12 +21,12 @@ const FEW: usize = 8;
 
 /// Attributes in order: the first few, and behind them the others.
 #[derive(Drop)]
-pub(crate) struct LaterAttributes {
+pub(crate) struct SeveralAttributes {
     few: Vec<(RcStr, DomStr)>,
     others: HashedAttributes,
 }
 
-impl Model for LaterAttributes {
+impl Model for SeveralAttributes {
     ghost use Rattle.std.specs.Prelude.{List, ◌++◌};
     ghost use Rattle.std.specs.Coded.{coded_list};
     ghost use Rattle.dom_model.specs.Codes.{attribute_code};
@@ -42,7 +42,7 @@ impl Model for LaterAttributes {
     ghost invariant = { λ a. HaveOwnNames (attributes_under a.few.items ++ a.others) };
 }
 
-impl LaterAttributes {
+impl SeveralAttributes {
     /// The attributes of a map.
     pub(crate) fn of(
         alloc: Global,
@@ -52,7 +52,7 @@ impl LaterAttributes {
     {
         let others = HashedAttributes::of(alloc, attributes)?;
         others.law_have_own_names();
-        Ok(LaterAttributes {
+        Ok(SeveralAttributes {
             few: Vec::new(alloc),
             others,
         })
@@ -62,17 +62,21 @@ impl LaterAttributes {
     pub(crate) fn new(alloc: Global) -> Self
         ensures { result ≡ [] }
     {
-        LaterAttributes {
+        SeveralAttributes {
             few: Vec::new(alloc),
             others: HashedAttributes::new(),
         }
     }
 
-    /// Whether there are none.
-    pub(crate) fn is_empty(&self) -> bool
-        ensures { IsTrue result ↔ (self.now ≡ []) }
+    /// A few attributes, no two of one name.
+    pub(crate) fn of_few(few: Vec<(RcStr, DomStr)>) -> Self
+        requires { HaveOwnNames (attributes_under few.items) }
+        ensures { result ≡ attributes_under few.items }
     {
-        self.few.is_empty() && self.others.is_empty()
+        SeveralAttributes {
+            few,
+            others: HashedAttributes::new(),
+        }
     }
 
     /// Holds of all attributes: no two have one name.

@@ -1,7 +1,7 @@
 use Rattle.dom_base.proofs.Std.{Some, ap, ◌∙◌, rc_str_bytes}
 use Rattle.dom_attributes.specs.Attributes.{value_among}
 use Rattle.dom_attributes.proofs.FewAttributes.{place-at, place-off, named, found-value, off-value}
-use Rattle.dom_attributes.proofs.later_attributes.LaterAttributes.get.Goals as goal
+use Rattle.dom_attributes.proofs.several_attributes.SeveralAttributes.get.Goals as goal
 
 pub returns-in-Some : goal.returns-in-Some
 returns-in-Some c =

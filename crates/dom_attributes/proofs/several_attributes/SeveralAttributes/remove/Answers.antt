@@ -2,7 +2,7 @@ use Rattle.dom_base.proofs.Std.{◌++◌, ap, sym, subst, ◌∙◌, rc_str_byte
 use Rattle.dom_model.proofs.Model.{attributes_without}
 use Rattle.dom_attributes.specs.Attributes.{HaveOwnNames, value_among, attributes_under}
 use Rattle.dom_attributes.proofs.FewAttributes.{place-at, place-off, named, found-value, found-without, off-value, off-without, own-without}
-use Rattle.dom_attributes.proofs.later_attributes.LaterAttributes.remove.Goals as goal
+use Rattle.dom_attributes.proofs.several_attributes.SeveralAttributes.remove.Goals as goal
 
 pub returns-in-Some-clause-value : goal.returns-in-Some-clause-value
 returns-in-Some-clause-value c =

@@ -2,8 +2,8 @@ use Rattle.dom_base.proofs.Std.{◌≡◌, inl, inr, ◌++◌, ◌∷◌, [], re
 use Rattle.dom_model.proofs.Model.{attributes_with}
 use Rattle.dom_attributes.specs.Attributes.{HaveOwnNames, attributes_under}
 use Rattle.dom_attributes.proofs.FewAttributes.{place-at, place-off, named, found-set, off-with, off-added, either, on-ok, own-with}
-use Rattle.dom_attributes.proofs.later_attributes.LaterAttributes.set.Goals.{After-drop-index_mut, Joined-push, After-set}
-use Rattle.dom_attributes.proofs.later_attributes.LaterAttributes.set.Goals as goal
+use Rattle.dom_attributes.proofs.several_attributes.SeveralAttributes.set.Goals.{After-drop-index_mut, Joined-push, After-set}
+use Rattle.dom_attributes.proofs.several_attributes.SeveralAttributes.set.Goals as goal
 
 -- ---- it is among the few
 
