@@ -2,6 +2,7 @@
 pub mod Table
 pub mod Rows
 pub mod Contents
+pub mod Own
 pub mod Forest
 pub mod Owners
 pub mod Apart

@@ -1,29 +1,96 @@
 //! A node as the arena keeps it.
-ghost use Rattle.std.specs.Prelude.{◌≡◌, IfOk, OnOk, OnErr};
-ghost use Rattle.std.specs.Option.{option_map};
+ghost use Rattle.std.specs.Prelude.{◌≡◌, [], slice_get, IfOk, OnOk, OnErr};
+ghost use Rattle.std.specs.Option.{option_map, option_map_or};
 ghost use Rattle.std.specs.Rc.{rc_str_bytes};
 ghost use Rattle.dom_model.specs.TreeChanges.{attributes_with, attributes_without};
-ghost use Rattle.dom_attributes.specs.Attributes.{value_among};
+ghost use Rattle.dom_attributes.specs.Attributes.{HaveOwnNames, attribute_from, attributes_from, value_among};
 ghost use Rattle.dom_tree.specs.Contents.{stored_from};
 ghost use Rattle.dom_tree.specs.Forest.{contents_of};
+ghost use Rattle.dom_tree.specs.Own.{kind_in, number_in, attributes_in};
 
 use crate::data::NodeData;
 use crate::shared::{Shared, SharedTable};
 use dom_attributes::{AttributeList, SharedNames};
 use dom_base::{DomStr, Kind, NodeName};
+use indexmap::IndexMap;
 use node_arena::Key;
 use std::alloc::{AllocError, Global};
 use std::marker::Model;
 use std::rc::Rc;
+
+/// What an owner's node has of its own beside its data, and its attributes, in a box, if it ever had some. An enum has its tag beside
+/// the fields of its variants, so what is small stands in both variants, where it takes no room.
+#[derive(Drop)]
+enum Own {
+    Bare {
+        kind: Kind,
+        number: u32,
+    },
+    Attributed {
+        kind: Kind,
+        number: u32,
+        attributes: Box<AttributeList>,
+    },
+}
+
+impl Own {
+    /// Of a node of this kind and number, with the attributes of a map.
+    fn of(
+        alloc: Global,
+        kind: Kind,
+        number: u32,
+        attributes: IndexMap<String, DomStr>,
+    ) -> Result<Self, AllocError>
+        ensures kind { IfOk result (λ own. kind_in own ≡ kind) }
+        ensures number { IfOk result (λ own. number_in own ≡ number) }
+        ensures attributes { IfOk result (λ own. attributes_in own ≡ attributes_from attributes.entries) }
+    {
+        if attributes.is_empty() {
+            return Ok(Own::Bare { kind, number });
+        }
+        let attributes = Box::new(alloc, AttributeList::of(alloc, attributes)?)?;
+        Ok(Own::Attributed {
+            kind,
+            number,
+            attributes,
+        })
+    }
+
+    /// The kind.
+    fn kind(&self) -> Kind
+        ensures { result ≡ kind_in self.now }
+    {
+        match self {
+            Own::Bare { kind, .. } | Own::Attributed { kind, .. } => *kind,
+        }
+    }
+
+    /// The number among the owner's nodes.
+    fn number(&self) -> u32
+        ensures { result ≡ number_in self.now }
+    {
+        match self {
+            Own::Bare { number, .. } | Own::Attributed { number, .. } => *number,
+        }
+    }
+
+    /// The attributes, if there ever were some.
+    fn attributes(&self) -> Option<&AttributeList>
+        ensures { option_map_or (λ list. list.now) result [] ≡ attributes_in self.now }
+    {
+        match self {
+            Own::Bare { .. } => None,
+            Own::Attributed { attributes, .. } => Some(attributes),
+        }
+    }
+}
 
 /// A node under its name. What it shares with others and its attributes stand elsewhere, since elements are many and
 /// attributes few. Its data stands here: `Forest::set_data` asks for no memory, so it can make no box.
 #[derive(Drop)]
 pub(crate) struct StoredNode {
     shared: Rc<Shared>,
-    number: u32,
-    kind: Kind,
-    attributes: AttributeList,
+    own: Own,
     text: DomStr,
     document: Option<Key>,
 }
@@ -31,17 +98,18 @@ pub(crate) struct StoredNode {
 impl Model for StoredNode {
     ghost use Rattle.std.specs.Rc.{rc_str_bytes};
     ghost use Rattle.dom_tree.specs.Contents.{Stored, stored_code};
+    ghost use Rattle.dom_tree.specs.Own.{kind_in, number_in, attributes_in};
 
     ghost Value = { Stored };
 
     ghost coded = { stored_code };
 
     ghost view = { λ s. record {
-      name = record { owner = s.shared.value.owner; number = s.number };
+      name = record { owner = s.shared.value.owner; number = number_in s.own };
       node = record {
-        kind = s.kind;
+        kind = kind_in s.own;
         element = rc_str_bytes s.shared.value.element;
-        attributes = s.attributes;
+        attributes = attributes_in s.own;
         text = s.text.items;
         document = s.document;
       };
@@ -67,9 +135,7 @@ impl StoredNode {
         } = node;
         Ok(StoredNode {
             shared: table.shared(name.owner, element)?,
-            number: name.number,
-            kind,
-            attributes: AttributeList::of(alloc, attributes)?,
+            own: Own::of(alloc, kind, name.number, attributes)?,
             text,
             document,
         })
@@ -81,7 +147,7 @@ impl StoredNode {
     {
         NodeName {
             owner: self.shared.owner,
-            number: self.number,
+            number: self.own.number(),
         }
     }
 
@@ -89,7 +155,7 @@ impl StoredNode {
     pub(crate) fn kind(&self) -> Kind
         ensures { result ≡ self.now.node.kind }
     {
-        self.kind
+        self.own.kind()
     }
 
     /// Its local name, empty where it is no element.
@@ -113,11 +179,27 @@ impl StoredNode {
         self.document
     }
 
-    /// Its attributes.
-    pub(crate) fn attributes(&self) -> &AttributeList
-        ensures { result.now ≡ self.now.node.attributes }
+    /// The value of its attribute of this name, if there is one.
+    pub(crate) fn attribute(&self, name: &str) -> Option<&[u16]>
+        ensures { option_map (λ value. value.now) result ≡ value_among name.now self.now.node.attributes }
     {
-        &self.attributes
+        self.own.attributes()?.get(name)
+    }
+
+    /// The name and the value of its attribute at an index, if there are so many.
+    pub(crate) fn attribute_at(&self, index: usize) -> Option<(&str, &[u16])>
+        ensures { option_map (λ a. attribute_from a.0.now a.1.now) result ≡ slice_get self.now.node.attributes index }
+    {
+        self.own.attributes()?.get_at(index)
+    }
+
+    /// Holds of every node: no two of its attributes have one name.
+    pub(crate) fn law_attributes_have_own_names(&self)
+        ensures { HaveOwnNames self.now.node.attributes }
+    {
+        if let Some(attributes) = self.own.attributes() {
+            attributes.law_have_own_names();
+        }
     }
 
     /// Gives it another node document, or none.
@@ -146,7 +228,19 @@ impl StoredNode {
             (record self.old.node { attributes = attributes_with name.now value.items self.old.node.attributes })) }
         ensures err { OnErr result (self.new ≡ self.old) }
     {
-        self.attributes.set(alloc, names, name, value)
+        match &mut self.own {
+            Own::Attributed { attributes, .. } => attributes.set(alloc, names, name, value),
+            Own::Bare { kind, number } => {
+                let (kind, number) = (*kind, *number);
+                let attributes = Box::new(alloc, AttributeList::one(names, name, value)?)?;
+                self.own = Own::Attributed {
+                    kind,
+                    number,
+                    attributes,
+                };
+                Ok(())
+            }
+        }
     }
 
     /// Takes an attribute away, and gives its value, if there is one of this name.
@@ -155,6 +249,9 @@ impl StoredNode {
         ensures without { self.new ≡ stored_from self.old.name
             (record self.old.node { attributes = attributes_without name.now self.old.node.attributes }) }
     {
-        self.attributes.remove(name)
+        match &mut self.own {
+            Own::Attributed { attributes, .. } => attributes.remove(name),
+            Own::Bare { .. } => None,
+        }
     }
 }

@@ -84,7 +84,7 @@ impl Forest {
         requires { IsNode self.now key }
         ensures { option_map (λ value. value.now) result ≡ attribute_value (node_in self.now.trees (name_of self.now key)) name.now }
     {
-        self.arena.payload(key).attributes().get(name)
+        self.arena.payload(key).attribute(name)
     }
 
     /// The name and the value of the attribute at an index in the attributes' order, if there are so many (DOM
@@ -93,7 +93,7 @@ impl Forest {
         requires { IsNode self.now key }
         ensures { option_map (λ a. attribute_from a.0.now a.1.now) result ≡ slice_get (node_in self.now.trees (name_of self.now key)).attributes index }
     {
-        self.arena.payload(key).attributes().get_at(index)
+        self.arena.payload(key).attribute_at(index)
     }
 
     /// Holds of every node (DOM Standard, concept: attribute list): no two of its attributes have one name.
@@ -101,7 +101,7 @@ impl Forest {
         requires { IsNode self.now key }
         ensures { HaveOwnNames (node_in self.now.trees (name_of self.now key)).attributes }
     {
-        self.arena.payload(key).attributes().law_have_own_names();
+        self.arena.payload(key).law_attributes_have_own_names();
     }
 
     /// Sets an attribute to a value in code units. One that is there keeps its place, and a new one goes last (DOM
