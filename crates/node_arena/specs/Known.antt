@@ -1,4 +1,4 @@
--- The first children of one node, which an arena keeps in order beside the links.
+-- The first children of two nodes, which an arena keeps in order beside the links.
 use Rattle.std.specs.Prelude.{◌≡◌, ℕ, List, ◌++◌, Option, false, length}
 use Rattle.node_arena.specs.Nodes.{children_of, contains, last_of, parent_of, siblings_in}
 use Rattle.node_arena.specs.Links.{Cells}
@@ -21,7 +21,12 @@ pub record IsBehindFirst (lists : List (List ℕ)) (count : ℕ) (last : Option 
   pub counted : count ≡ length known
   pub ends : last ≡ last_of known
 
--- the links are those of a forest, and what is kept are first children
-pub record IsIndexed {T : Type 0} (cells : Cells T) (kept : FirstChildren) : Type 0 where
+-- what is kept of a node are first children of it
+abbrev pub AreKept : List (List ℕ) → FirstChildren → Type 0
+AreKept lists kept = AreFirst kept.keys (children_of lists kept.parent)
+
+-- the links are those of a forest, and what is kept of two nodes are first children of each
+pub record IsIndexed {T : Type 0} (cells : Cells T) (asked before : FirstChildren) : Type 0 where
   pub linked : IsLinked cells
-  pub first : AreFirst kept.keys (children_of (lists_of cells.links) kept.parent)
+  pub recent : AreKept (lists_of cells.links) asked
+  pub other : AreKept (lists_of cells.links) before

@@ -2,13 +2,14 @@
 ghost use Rattle.std.specs.Prelude.{◌≡◌, ◌≢◌, ◌<◌, ◌⊎◌, ℕ, List, [], ◌∷◌, ◌++◌, length, false};
 ghost use Rattle.std.specs.Option.{ForSome};
 ghost use Rattle.node_arena.specs.Cells.{lists_of, IsLinked};
-ghost use Rattle.node_arena.specs.Known.{AreFirst};
+ghost use Rattle.node_arena.specs.Known.{AreFirst, AreKept};
 ghost use Rattle.node_arena.specs.Nodes.{children_of, contains, siblings_in, insert_before, without};
 
 use crate::Key;
 use crate::ordered_keys::OrderedKeys;
 use crate::store::{Link, Store};
 use std::alloc::Global;
+use std::mem;
 
 /// After so many changes of the children at which no place was asked for they are given up.
 const MOST_UNASKED: u32 = 16;
@@ -137,4 +138,17 @@ impl FirstChildren {
             self.keys.clear();
         }
     }
+}
+
+/// Keeps the first children of a node from now on, as the one that is asked for most recently. Of two others the one that was asked for
+/// longest ago gives way.
+pub(crate) fn turn(recent: &mut FirstChildren, other: &mut FirstChildren, parent: Key)
+    ensures parent { recent.new.parent ≡ parent }
+    ensures recent { (lists : List (List ℕ)) → AreKept lists recent.old → AreKept lists other.old → AreKept lists recent.new }
+    ensures other { (lists : List (List ℕ)) → AreKept lists recent.old → AreKept lists other.old → AreKept lists other.new }
+{
+    if parent != recent.parent {
+        mem::swap(recent, other);
+    }
+    recent.turn_to(parent);
 }

@@ -89,8 +89,8 @@ impl Forest {
     }
 
     /// Remembers the order of the siblings before a node, as many as the limit, so that `index` and `index_below` find them
-    /// sooner (own rule). It takes about as long as one walk over those that were not remembered yet. The siblings of one
-    /// node at a time are remembered, also while nodes come among them and leave. Where memory is refused, fewer are.
+    /// sooner (own rule). It takes about as long as one walk over those that were not remembered yet. The siblings of two
+    /// nodes at a time are remembered, also while nodes come among them and leave. Where memory is refused, fewer are.
     pub fn remember_siblings(&mut self, key: Key, limit: usize)
         requires { IsNode self.old key }
         ensures { self.new ≡ self.old }
