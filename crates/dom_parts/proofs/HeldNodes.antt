@@ -1,7 +1,7 @@
 -- What holds of a `Doc` holds with one node more, and at first.
 use Rattle.dom_base.proofs.Std.{◌≡◌, ℕ, ◌+◌, ◌<◌, ◌≤◌, ◌⊎◌, inl, inr, true, cond, List, [], ◌∷◌, ◌++◌, length, Option, Result, Ok, Err, refl, sym, ap, subst}
 use Rattle.dom_base.proofs.Std.{◌∙◌, ◌≢◌, arith, add-one, suc, OnOk, OnErr, ◌↔◌, cases_Bool, length_push, eq-or-lt_of_le, add-zero, get_or-append}
-use Rattle.dom_base.proofs.Std.{get_or-append_seam, All-nil}
+use Rattle.dom_base.proofs.Std.{get_or-append_seam, All-nil, true≢false}
 use Rattle.dom_model.proofs.Model.{Fault, Refused, Limit, NodeName, Owner, Page, name_eq, is_in, owner_eq, node_of, Trees, none, Node, with_node, with_name}
 use Rattle.dom_model.proofs.Model.{make, part_of, is_there, world_step, empty_part, next_name as part_next, Range, owner_eq-same, owner_eq-true, ne-owner_eq}
 use Rattle.dom_tree.specs.Definitions.{NamedTrees, name_at, next_name, count_of, trees_of_owner, IsOwnChange, TellApart}
@@ -219,7 +219,11 @@ not_added f g tables is_d (Err e) same = ap (λ (p : NamedTrees). state_from p.n
 
 -- without hosts there is nothing in a table of slots
 no_slots_of : (f : NamedTrees) → AreSlotsOf f no_slots
-no_slots_of f = record { hosts = tt; table = record { nodes = λ k. All-nil (λ j. j < length f.names); lists = λ k within. refl; beyond = λ k far. refl } }
+no_slots_of f = record {
+  hosts = tt;
+  table = record { nodes = λ k. All-nil (λ j. j < length f.names); lists = λ k within. refl; beyond = λ k far. refl };
+  bare = λ r e. absurd (true≢false (sym e));
+}
 
 -- without nodes, where the page alone is there
 pub empty_held : (rs : RangeLists) → ((o : Owner) → ranges_of rs o ≡ []) → IsDoc [] none (with_live first_tables rs)

@@ -9,7 +9,7 @@ use Rattle.dom_model.proofs.Model.{is_slot_element, slots_among, slot_in, name_e
 use Rattle.dom_tree.specs.Definitions.{NamedTrees, name_at}
 use Rattle.dom_tree.proofs.Standing.{Once-forest}
 use Rattle.dom_laws.proofs.Laws.{name_eq-from, same_or_not, above-put_others, once_apart, Has, above-absent, subtree-absent, Once}
-use Rattle.dom_slots.specs.Definitions.{ShadowHost, HostsAreNodes, host_named, root_named, host_of_root, SlotsNow, HasOneMore, AreSlotsOf, ShadowTrees}
+use Rattle.dom_slots.specs.Definitions.{ShadowHost, HostsAreNodes, host_named, root_named, host_of_root, SlotsNow, HasOneMore, AreSlotsOf, IsBare, ShadowTrees}
 use Rattle.dom_slots.specs.Definitions.{shadow_trees, slot_at, assigned_at, assigned_under, list_of}
 use Rattle.dom_slots.proofs.Hosted.{host-key, root-key}
 
@@ -251,8 +251,36 @@ module _ (f g : NamedTrees) (n : Node) (one : HasOneMore f g n) where
           lists = λ k within. by k (let at : k ≤ length f.names = omega (arith, within, length_push f.names n.name) in eq-or-lt_of_le at);
           beyond = λ k far. slots.table.beyond k (omega (arith, far, length_push f.names n.name));
         };
+        bare = λ r e.
+            let old = slots.bare r e in
+            record {
+              hosted = old.hosted;
+              node = longer f.names n.name r old.node;
+              slots = λ k within. bare_still r old k
+                  (let at : k ≤ length f.names = omega (arith, within, length_push f.names n.name) in eq-or-lt_of_le at);
+            };
       }
     where
+      bare_still : (r : ℕ) → IsBare f s.hosts r → (k : ℕ) → (k ≡ length f.names) ⊎ (k < length f.names) →
+          root_of (with_node n f.trees) (name_at (f.names ++ n.name ∷ []) k) ≡ name_at (f.names ++ n.name ∷ []) r →
+          is_slot_element (node_in (with_node n f.trees) (name_at (f.names ++ n.name ∷ []) k)) ≡ false
+      bare_still r old k (inl e) at =
+          let name : name_at (f.names ++ n.name ∷ []) k ≡ n.name =
+          ap (λ i. name_at (f.names ++ n.name ∷ []) i) e ∙ get_or-append_seam f.names n.name [] (node_of Page 0) in
+          let alone : root_of (with_node n f.trees) n.name ≡ n.name =
+          ap (λ path. unwrap_or (last_of path) n.name) (path_alone n n.name f.trees new_node) in
+          absurd (new_name r old.node (sym (name_kept f.names n.name r old.node)
+          ∙ (sym at ∙ (ap (root_of (with_node n f.trees)) name ∙ alone))))
+      bare_still r old k (inr within) at =
+          let name = name_kept f.names n.name k within in
+          let y = name_at f.names k in
+          let other : n.name ≡ y → ⊥ = λ e. new_name k within (sym e) in
+          ap (λ z. is_slot_element (node_in (with_node n f.trees) z)) name
+          ∙ (ap is_slot_element (node_other f.names f.trees s.hosts n slots.hosts new_name new_node y other)
+          ∙ old.slots k within (ap (λ path. unwrap_or (last_of path) y)
+          (sym (path_other f.names f.trees s.hosts n slots.hosts new_name new_node y other))
+          ∙ (ap (root_of (with_node n f.trees)) (sym name) ∙ (at ∙ name_kept f.names n.name r old.node))))
+
       by : (k : ℕ) → (k ≡ length f.names) ⊎ (k < length f.names)
           → map (name_at (f.names ++ n.name ∷ [])) (list_of s.table k) ≡ assigned_at
           (shadow_trees (f.names ++ n.name ∷ []) (with_node n f.trees) s.hosts) (name_at (f.names ++ n.name ∷ []) k)

@@ -3,7 +3,7 @@
 use Rattle.dom_base.proofs.Std.{◌≡◌, ◌⊎◌, inl, inr, ℕ, ◌<◌, Bool, true, false, not, ◌&&◌, List, [], ◌++◌, All, map, filter, length, Option, None, Some, fold}
 use Rattle.dom_base.proofs.Std.{refl, sym, ap, subst, ◌∙◌, true≢false, option_to_list, option_map, option_map_or, or_parts, or_left, false_from_ne_true}
 use Rattle.dom_base.proofs.Std.{list_any-append, same_Some, none-some}
-use Rattle.dom_model.proofs.Model.{NodeName, DomString, text_eq, name_eq, is_in, append_once, is_slot_element, slot_name, slots_among, Trees, none, node_in}
+use Rattle.dom_model.proofs.Model.{NodeName, DomString, text_eq, name_eq, is_in, append_once, is_slot_element, slot_name, slots_among, Trees, node_in}
 use Rattle.dom_model.proofs.Model.{subtree, parent_of, root_of, with_attribute}
 use Rattle.dom_tree.specs.Definitions.{NamedTrees, name_at, TellApart}
 use Rattle.dom_laws.proofs.Laws.{In, is_in-from, In-from, In-parts, Has}

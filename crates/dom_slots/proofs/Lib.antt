@@ -40,3 +40,4 @@ mod Unlisted
 mod Serving
 mod TreeSlots
 mod Waited
+mod Bare

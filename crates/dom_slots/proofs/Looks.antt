@@ -1,14 +1,14 @@
 -- Where no slot is moved and no slot has an attribute changed, slots are found as before.
 use Rattle.dom_base.proofs.Std.{◌≡◌, inl, inr, Bool, true, false, List, [], ◌∷◌, ◌++◌, map, Option, Some, None, refl, sym, ap, ◌∙◌, true≢false, find}
-use Rattle.dom_base.proofs.Std.{if◌then◌else◌, unwrap_or, option_map, option_and_then, option_or, cases_Bool, and_parts, false_from_ne_true, append-nil}
+use Rattle.dom_base.proofs.Std.{if◌then◌else◌, option_map, option_and_then, option_or, cases_Bool, and_parts, false_from_ne_true, append-nil}
 use Rattle.dom_model.proofs.Model.{NodeName, DomString, name_eq, has_slot_name, is_slot_element, slottable_name, slot_in, slots_among, Trees, none, tree, Node}
-use Rattle.dom_model.proofs.Model.{nodes, no_node, node_in, or_else, subtree, change_node, name_eq-true, name_eq-other}
+use Rattle.dom_model.proofs.Model.{nodes, node_in, or_else, subtree, change_node, name_eq-true, name_eq-other}
 use Rattle.dom_laws.proofs.Laws.{Has, has_or_not, subtree-absent, Once}
 use Rattle.dom_slots.proofs.Attaching.{no-slot_named}
 use Rattle.dom_slots.proofs.Attributed.{changed, changed_name}
 use Rattle.dom_slots.proofs.PlacedTrees.{Spot, Before, Below, Behind, grafted, tree-own, ReadAlike, ReadAlike-others}
 use Rattle.dom_slots.proofs.NamesOfNodes.{InNodes, in_tree, node_in-self}
-use Rattle.dom_slots.proofs.Recast.{nodes_recast, subtree_recast, found_recast}
+use Rattle.dom_slots.proofs.Recast.{nodes_recast, subtree_recast, read_recast}
 
 -- the first slot of a name
 abbrev first_slot : DomString → List Node → Option NodeName
@@ -124,16 +124,7 @@ module _ (x : NodeName) (g : Node → Node) (keeps : (n : Node) → (g n).name �
 
   -- whether a node is a slot stays
   pub changed-slot : (ts : Trees) (y : NodeName) → is_slot_element (node_in (change_node g x ts) y) ≡ is_slot_element (node_in ts y)
-  changed-slot ts y =
-      let named : Node → Bool = λ n. name_eq n.name y in
-      ap (λ ns. is_slot_element (unwrap_or (find named ns) (no_node y))) (nodes_recast (changed x g keeps) (changed_name x g keeps) ts)
-      ∙ (ap (λ o. is_slot_element (unwrap_or o (no_node y)))
-      (found_recast (changed x g keeps) (changed_name x g keeps) named (λ n. ap (λ z. name_eq z y) (changed_name x g keeps n)) (nodes ts)) ∙
-      by (find named (nodes ts)))
-    where
-      by : (o : Option Node) → is_slot_element (unwrap_or (option_map (changed x g keeps) o) (no_node y)) ≡ is_slot_element (unwrap_or o (no_node y))
-      by None = refl
-      by (Some n) = changed_element n
+  changed-slot ts y = read_recast (changed x g keeps) (changed_name x g keeps) is_slot_element changed_element ts y
 
   module _ (a : DomString) where
     changed_first : (ns : List Node) → ((n : Node) → InNodes n ns → n.name ≡ x → is_slot_element n ≡ false) →

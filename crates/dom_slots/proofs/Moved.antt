@@ -36,14 +36,14 @@ root-aside {names} {hosts} {x} {was} {now} aside at = by (parent_of now x) refl
     by (Some p) e = ap (host_named names hosts) (root-parent now aside.both.once_now x p at e) ∙ aside.parent p e
 
 -- the node of a name is the root of its tree
-node-of_tree : (ts : Trees) → Once ts → (c : NodeName) → Has ts c → (n : Node) × (b : Trees) × (subtree ts c ≡ tree n b none) × (node_in ts c ≡ n)
+pub node-of_tree : (ts : Trees) → Once ts → (c : NodeName) → Has ts c → (n : Node) × (b : Trees) × (subtree ts c ≡ tree n b none) × (node_in ts c ≡ n)
 node-of_tree ts once c h =
     let w = subtree-present ts c h in
     let inside : InNodes w.0 (nodes (subtree ts c)) = subst (λ (us : Trees). InNodes w.0 (nodes us)) (sym w.2) (inl refl) in
     (w.0, w.1, w.2, ap (node_in ts) (sym w.3) ∙ node_in-self ts once w.0 (in_tree ts c w.0 inside))
 
 -- no node stands above its parent
-not-below : (ts : Trees) → Once ts → (x : NodeName) {p : NodeName} → Has ts x → parent_of ts x ≡ Some p → Has (subtree ts x) p → ⊥
+pub not-below : (ts : Trees) → Once ts → (x : NodeName) {p : NodeName} → Has ts x → parent_of ts x ≡ Some p → Has (subtree ts x) p → ⊥
 not-below ts once x {p} h e i =
     let up = above-parent ts x p once h e in
     let round = above-split ts x p once up.1 (above-from_below ts x p once h i) in

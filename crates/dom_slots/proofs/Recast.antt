@@ -2,7 +2,7 @@
 use Rattle.dom_base.proofs.Std.{◌≡◌, Bool, true, false, List, [], ◌∷◌, map, filter, drop, Option, Some, None, refl, sym, ap, ◌∙◌, find, if◌then◌else◌}
 use Rattle.dom_base.proofs.Std.{option_to_list, unwrap_or, option_map, option_map_or, option_and_then, map-append}
 use Rattle.dom_model.proofs.Model.{NodeName, DomString, name_eq, is_in, first_of, Trees, none, tree, Node, nodes, roots, names_of, no_node, node_in, or_else}
-use Rattle.dom_model.proofs.Model.{subtree, inclusive_ancestors, trees_below, children_of, map_nodes, has_slot_name, slottable_name}
+use Rattle.dom_model.proofs.Model.{subtree, inclusive_ancestors, trees_below, children_of, map_nodes, has_slot_name, slottable_name, is_slot_element}
 use Rattle.dom_tree.specs.Definitions.{NamedTrees, name_at}
 use Rattle.dom_slots.specs.Definitions.{ShadowHost, host_named, root_named, ShadowTrees, shadow_trees, slot_at, assigned_at, SlotsNow, AreSlotsOf}
 
@@ -71,6 +71,18 @@ module _ (h : Node → Node) (name : (n : Node) → (h n).name ≡ n.name) where
       chosen true = refl
       chosen false = refl
 
+  -- what is read of the node of a name, where it is read alike of each node
+  pub read_recast : {X : Type 0} (read : Node → X) → ((n : Node) → read (h n) ≡ read n) → (ts : Trees) (x : NodeName) →
+      read (node_in (map_nodes h ts) x) ≡ read (node_in ts x)
+  read_recast read same ts x =
+      let named : Node → Bool = λ n. name_eq n.name x in
+      ap (λ ns. read (unwrap_or (find named ns) (no_node x))) (nodes_recast ts)
+      ∙ (ap (λ o. read (unwrap_or o (no_node x))) (found_recast named (λ n. ap (λ y. name_eq y x) (name n)) (nodes ts)) ∙ chosen (find named (nodes ts)))
+    where
+      chosen : (o : Option Node) → read (unwrap_or (option_map h o) (no_node x)) ≡ read (unwrap_or o (no_node x))
+      chosen None = refl
+      chosen (Some n) = same n
+
 module _ (h : Node → Node) (keeps : KeepsSlots h) where
   slottable_recast : (n : Node) → slottable_name (h n) ≡ slottable_name n
   slottable_recast n = λ j. slottable_name
@@ -80,17 +92,9 @@ module _ (h : Node → Node) (keeps : KeepsSlots h) where
   slot_recast name n = λ j. has_slot_name name
       record { name = n.name; kind = keeps.kind n j; element = keeps.element n j; attributes = keeps.attributes n j; text = []; document = None }
 
-  -- the node of a name looks for its slot as before
-  looks_recast : (ts : Trees) (x : NodeName) → slottable_name (node_in (map_nodes h ts) x) ≡ slottable_name (node_in ts x)
-  looks_recast ts x =
-      let named : Node → Bool = λ n. name_eq n.name x in
-      ap (λ ns. slottable_name (unwrap_or (find named ns) (no_node x))) (nodes_recast h keeps.name ts)
-      ∙ (ap (λ o. slottable_name (unwrap_or o (no_node x)))
-      (found_recast h keeps.name named (λ n. ap (λ y. name_eq y x) (keeps.name n)) (nodes ts)) ∙ chosen (find named (nodes ts)))
-    where
-      chosen : (o : Option Node) → slottable_name (unwrap_or (option_map h o) (no_node x)) ≡ slottable_name (unwrap_or o (no_node x))
-      chosen None = refl
-      chosen (Some n) = slottable_recast n
+  element_recast : (n : Node) → is_slot_element (h n) ≡ is_slot_element n
+  element_recast n = λ j. is_slot_element
+      record { name = n.name; kind = keeps.kind n j; element = keeps.element n j; attributes = []; text = []; document = None }
 
   -- and the first slot of a name is the same
   first_recast : (ts : Trees) (r : NodeName) (name : DomString)
@@ -119,7 +123,7 @@ module _ (h : Node → Node) (keeps : KeepsSlots h) where
     assigned_slot : (x : NodeName) → slot_at now x ≡ slot_at was x
     assigned_slot x =
         λ j.
-        option_and_then (λ r. option_and_then (λ name. first_recast ts r name j) (looks_recast ts x j))
+        option_and_then (λ r. option_and_then (λ name. first_recast ts r name j) (read_recast h keeps.name slottable_name slottable_recast ts x j))
         (option_and_then (root_named names hosts) (first_of (drop 1 (path_recast h keeps.name ts x j))))
 
     pub assigned-recast : (y : NodeName) → assigned_at now y ≡ assigned_at was y
@@ -140,4 +144,14 @@ slots-recast {s} {h} f g keeps names trees slots =
         lists = λ k node. slots.table.lists k node ∙ sym (assigned-recast h keeps f.names f.trees s.hosts (name_at f.names k));
         beyond = slots.table.beyond;
       };
+      bare = λ r e.
+          let old = slots.bare r e in
+          record {
+            hosted = old.hosted;
+            node = old.node;
+            slots = λ k within at.
+                let y = name_at f.names k in
+                read_recast h keeps.name is_slot_element (element_recast h keeps) f.trees y
+                ∙ old.slots k within (ap (λ path. unwrap_or (Rattle.dom_model.specs.Names.last_of path) y) (sym (path_recast h keeps.name f.trees y)) ∙ at);
+          };
     }

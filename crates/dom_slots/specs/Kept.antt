@@ -1,21 +1,24 @@
 -- What a contract sees of a `Slots`.
-use Rattle.std.specs.Prelude.{◌≡◌, ℕ, ◌<◌, true, count_by, slice_get, List, [], ◌∷◌, ◌++◌, length, Some, option_map}
+use Rattle.std.specs.Prelude.{◌≡◌, ◌≢◌, ℕ, ◌<◌, Bool, true, false, count_by, slice_get, List, [], ◌∷◌, ◌++◌, length, Some, option_map}
 use Rattle.std.specs.Option.{ForSome}
 use Rattle.dom_base.specs.declared.NodeName.{NodeName}
 use Rattle.dom_model.specs.Names.{name_eq}
-use Rattle.dom_model.specs.Tree.{Trees, Node, nodes, has_node}
+use Rattle.dom_model.specs.Slots.{is_slot_element}
+use Rattle.dom_model.specs.Tree.{Trees, Node, nodes, node_in, root_of, has_node}
 use Rattle.dom_model.specs.TreeChanges.{with_node}
 use Rattle.dom_tree.specs.Forest.{NamedTrees, name_at}
 use Rattle.dom_slots.specs.declared.step.SlotChange.{SlotChange}
 use Rattle.dom_slots.specs.Hosts.{ShadowHost, HostsAreNodes}
+use Rattle.dom_slots.specs.KeyMaps.{is_marked}
 use Rattle.dom_slots.specs.Shadows.{shadows, slot_at}
 use Rattle.dom_slots.specs.Steps.{step_node, left_by, StepHasNodes, IsStepFrom}
 use Rattle.dom_slots.specs.Tables.{SlotTable, IsTableOf}
 
--- the hosts, in the order of attaching, and the nodes assigned to each slot
+-- the hosts, in the order of attaching, the nodes assigned to each slot, and marks of roots whose trees have no slot
 pub record SlotsNow : Type 0 where
   pub hosts : List ShadowHost
   pub table : SlotTable
+  pub bare : List Bool
 
 -- the nodes of a forest stand in its trees, each once, and no others: what a forest's `law_nodes_stand_once` says
 pub record StandsOnce (f : NamedTrees) : Type 0 where
@@ -30,10 +33,22 @@ pub record HasOneMore (f g : NamedTrees) (n : Node) : Type 0 where
   pub distinct : (j k : ℕ) → j < length g.names → k < length g.names → name_at g.names j ≡ name_at g.names k → j ≡ k
   pub stands : StandsOnce g
 
+-- there is a host, and no slot stands in the tree of a root, which is a node
+pub record IsBare (f : NamedTrees) (hosts : List ShadowHost) (r : ℕ) : Type 0 where
+  pub hosted : hosts ≢ []
+  pub node : r < length f.names
+  pub slots : (k : ℕ) → k < length f.names → root_of f.trees (name_at f.names k) ≡ name_at f.names r →
+      is_slot_element (node_in f.trees (name_at f.names k)) ≡ false
+
+-- so it is of each root that is marked
+abbrev pub AreBare : NamedTrees → List ShadowHost → List Bool → Type 0
+AreBare f hosts marks = (r : ℕ) → is_marked marks r ≡ true → IsBare f hosts r
+
 -- the slots of a forest
 pub record AreSlotsOf (f : NamedTrees) (s : SlotsNow) : Type 0 where
   pub hosts : HostsAreNodes f.names s.hosts
   pub table : IsTableOf f s.hosts s.table
+  pub bare : AreBare f s.hosts s.bare
 
 -- what is known of a step that is about to be done: the parent that a node has which it moves, and the slot that its node has
 pub record IsBegun (f : NamedTrees) (hosts : List ShadowHost) (c : SlotChange) : Type 0 where

@@ -1,5 +1,5 @@
 -- What is kept for each node by its number.
-use Rattle.std.specs.Prelude.{ℕ, List, [], Option, None, Vec, slice_get, slice_index_or}
+use Rattle.std.specs.Prelude.{ℕ, Bool, false, List, [], Option, None, Vec, slice_get, slice_index_or}
 use Rattle.std.specs.Option.{option_map_or}
 
 -- the node for a node, if there is one
@@ -9,3 +9,7 @@ value_at values k = slice_index_or values k None
 -- the list for a node, empty where it has none
 abbrev pub list_at : {A : Type 0} → List (Vec ℕ A) → ℕ → List ℕ
 list_at rows k = option_map_or (λ v. v.items) (slice_get rows k) []
+
+-- whether a node is marked
+abbrev pub is_marked : List Bool → ℕ → Bool
+is_marked marks k = slice_index_or marks k false

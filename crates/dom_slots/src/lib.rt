@@ -7,6 +7,7 @@ mod find;
 mod key_lists;
 mod key_map;
 mod laws;
+mod marks;
 mod node_slots;
 mod slots;
 mod step;

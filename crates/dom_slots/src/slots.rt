@@ -8,12 +8,14 @@ ghost use Rattle.dom_slots.specs.Kept.{AreSlotsOf, StandsOnce};
 
 mod apart;
 mod assigned;
+mod bare;
 mod inside;
 mod moving;
 mod renewal;
 mod signals;
 
 use crate::key_map::KeyMap;
+use crate::marks::Marks;
 use crate::table::Table;
 use dom_base::Owner;
 use node_arena::Key;
@@ -28,12 +30,14 @@ struct Attached {
     owner: Owner,
 }
 
-/// The hosts of shadow trees, in the order of attaching, and the nodes assigned to the slots of their trees.
+/// The hosts of shadow trees, in the order of attaching, the nodes assigned to the slots of their trees, and marks of roots whose
+/// trees have no slot.
 pub struct Slots {
     hosts: Vec<Attached>,
     by_host: KeyMap,
     by_root: KeyMap,
     table: Table,
+    bare: Marks,
     alloc: Global,
 }
 
@@ -45,6 +49,7 @@ impl Drop for Slots {
             by_host,
             by_root,
             table,
+            bare,
             alloc,
         } = self;
     }
@@ -57,7 +62,7 @@ impl Model for Slots {
 
     ghost use Rattle.dom_slots.specs.Fields.{hosts_in, AreFound};
 
-    ghost view = { λ s. record { hosts = hosts_in s.hosts.items; table = s.table } };
+    ghost view = { λ s. record { hosts = hosts_in s.hosts.items; table = s.table; bare = s.bare.marked.items } };
 
     ghost invariant = { λ s. AreFound (hosts_in s.hosts.items) s.by_host.values.items s.by_root.values.items };
 }
@@ -65,7 +70,7 @@ impl Model for Slots {
 impl Slots {
     /// No hosts. Takes no memory yet; later calls take theirs from `alloc`.
     pub fn new(alloc: Global) -> Self
-        ensures value { result ≡ record { hosts = []; table = [] } }
+        ensures value { result ≡ record { hosts = []; table = []; bare = [] } }
         // They are the slots of every forest.
         ensures slots { (f : NamedTrees) → AreSlotsOf f result }
     {
@@ -74,6 +79,7 @@ impl Slots {
             by_host: KeyMap::new(alloc),
             by_root: KeyMap::new(alloc),
             table: Table::new(alloc),
+            bare: Marks::new(alloc),
             alloc,
         }
     }
@@ -93,6 +99,7 @@ impl Slots {
         self.hosts.reserve(1)?;
         self.by_host.reach(host)?;
         self.by_root.reach(root)?;
+        self.bare.insert(root)?;
         let _ = self.hosts.push(Attached { host, root, owner });
         self.by_host.set(host, root);
         self.by_root.set(root, host);

@@ -4,26 +4,24 @@ ghost use Rattle.std.specs.Option.{option_map, ForSome};
 ghost use Rattle.dom_tree.specs.Forest.{IsNode, name_of};
 ghost use Rattle.dom_slots.specs.Hosts.{HostsAreNodes};
 ghost use Rattle.dom_slots.specs.Shadows.{shadows};
-ghost use Rattle.dom_slots.specs.Steps.{StepHasNodes, step_node, is_outside, is_apart, is_light};
+ghost use Rattle.dom_slots.specs.Steps.{StepHasNodes, step_node, is_outside, is_apart};
 
 use crate::Slots;
-use crate::find::is_slot;
 use crate::step::Step;
 use dom_tree::Forest;
 use node_arena::Key;
 
 impl Slots {
-    /// Whether a step that is done was made outside of shadow trees, and is to be told from one inside by that: a step that surely
-    /// moves no slot is not (own rule). Of that one this costs two looks.
-    pub(super) fn is_far(&self, forest: &Forest, step: Step, left: Option<Key>) -> bool
+    /// Whether a step that is done was made outside of shadow trees, and is to be told from one inside by that: a step of which it
+    /// is known that it moves no slot is not (own rule).
+    pub(super) fn is_far(&self, forest: &Forest, step: Step, left: Option<Key>, still: bool) -> bool
         requires hosts { HostsAreNodes forest.now.names self.now.hosts }
         requires nodes { StepHasNodes forest.now.names step }
         requires left { ForSome left (IsNode forest.now) }
-        ensures { result ≡ (not (is_light forest.now.names forest.now.trees step) && is_apart (shadows forest.now self.now.hosts)
+        ensures { result ≡ (not still && is_apart (shadows forest.now self.now.hosts)
             (name_of forest.now (step_node step)) (option_map (name_of forest.now) left)) }
     {
-        let kept = step;
-        !is_light(forest, kept) && self.is_apart(forest, step, left)
+        !still && self.is_apart(forest, step, left)
     }
 
     /// Whether a step that is done was made outside of shadow trees: its node is no shadow root, and neither the parent that
@@ -55,16 +53,4 @@ impl Slots {
             None => true,
         }
     }
-}
-
-/// Whether a step surely moves no slot, and changes no slot's attributes: its node is no slot, and where it is moved has no
-/// child (own rule).
-fn is_light(forest: &Forest, step: Step) -> bool
-    requires { StepHasNodes forest.now.names step }
-    ensures { result ≡ is_light forest.now.names forest.now.trees step }
-{
-    forest.law_nodes_stand_once();
-    let kept = step;
-    let node = kept.node();
-    !is_slot(forest, node) && (!step.is_move() || forest.first(node).is_none())
 }

@@ -26,16 +26,18 @@ use std::alloc::AllocError;
 impl Slots {
     /// Renews the lists that a step inside of a shadow tree may have changed, and gives the slots that it signals: the
     /// old and the new slot of its node, the node around, and where a slot was moved or changed those of the trees that it
-    /// concerns.
+    /// concerns. It may be known that the step moved no slot.
     pub(super) fn inside_signals(
         &mut self,
         forest: &Forest,
         change: SlotChange,
+        still: bool,
     ) -> Result<SmallVec<Key, 2>, AllocError>
         requires hosts { HostsAreNodes forest.now.names self.old.hosts }
         requires nodes { StepHasNodes forest.now.names change.step }
         requires left { ForSome change.left (IsNode forest.now) }
         requires slot { ForSome change.slot (IsNode forest.now) }
+        requires still { still ≡ true → MovesNone forest.now self.old.hosts change.step }
         ensures hosts { IfOk result (λ keys. self.new.hosts ≡ self.old.hosts) }
         ensures renewed { (p : Name → Truth) →
             (MovesNone forest.now self.old.hosts change.step → IsButFor forest.now self.old.hosts self.old.table change.slot change.step) →
@@ -43,6 +45,9 @@ impl Slots {
             IfOk result (λ keys. IsInside forest.now self.old.hosts p self.old.table change.step change.left change.slot self.new.table keys.items) }
     {
         let kept = change;
+        if still {
+            return self.still_signals(forest, change);
+        }
         let moved = self.moved_slots(forest, kept)?;
         if moved.is_empty() {
             return self.still_signals(forest, change);

@@ -1,11 +1,12 @@
 use Rattle.dom_base.proofs.Std.{◌≡◌, ◌<◌, ◌++◌, ◌∷◌, [], List, Some, length, ap, sym, subst, ◌∙◌, arith, nat_eq, if◌then◌else◌, map-append, common_steps}
 use Rattle.dom_slots.specs.declared.slots.Attached.{Attached}
-use Rattle.dom_slots.specs.Definitions.{ShadowHost, HostsAreNodes, host_of_root, root_of_host, IsTableOf, SlotsNow, host_in, hosts_in}
+use Rattle.dom_slots.specs.Definitions.{ShadowHost, HostsAreNodes, host_of_root, root_of_host, IsTableOf, SlotsNow, AreBare, is_marked, host_in, hosts_in}
 use Rattle.dom_model.proofs.Model.{NodeName}
 use Rattle.dom_tree.specs.Definitions.{name_at}
-use Rattle.dom_tree.proofs.Standing.{Once-forest}
+use Rattle.dom_tree.proofs.Standing.{Once-forest, Has-forest}
 use Rattle.dom_slots.proofs.Kept.{found-more}
 use Rattle.dom_slots.proofs.Attaching.{same_assigned, bare_unassigned}
+use Rattle.dom_slots.proofs.Bare.{marked-more, none-at, some_host}
 use Rattle.dom_slots.proofs.slots.Slots.attach.Goals as goal
 
 -- one host more
@@ -62,4 +63,12 @@ returns-clause-slots c =
     record {
       hosts = subst (HostsAreNodes f.names) hosts_are (hosts_more f.names old.hosts h slots.hosts host root);
       table = subst (λ hs. IsTableOf f hs c.self.inside.table) hosts_are (subst (IsTableOf f (old.hosts ++ h ∷ [])) tables_are table);
+      bare = subst (λ hs. AreBare f hs c.insert.new.self.marked.items) hosts_are
+          (marked-more f (old.hosts ++ h ∷ []) c.self.inside.bare.marked.items c.insert.new.self.marked.items c.args.root c.in_ok-insert.ensures.ok
+          record {
+            hosted = some_host h old.hosts;
+            node = root;
+            slots = λ k within. none-at f.trees once (name_at f.names c.args.root) bare (name_at f.names k) (Has-forest f stands.once k within);
+          } (λ r e. let was = slots.bare r (ap (λ (s : SlotsNow). is_marked s.bare r) (sym c.self.view_is) ∙ e) in
+          record { hosted = some_host h old.hosts; node = was.node; slots = was.slots }));
     }
