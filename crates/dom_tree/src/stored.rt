@@ -1,8 +1,8 @@
 //! A node as the arena keeps it.
-ghost use Rattle.std.specs.Prelude.{◌≡◌, [], slice_get, IfOk, OnOk, OnErr};
+ghost use Rattle.std.specs.Prelude.{◌≡◌, ◌≤◌, [], length, slice_get, IfOk, IsOk, OnOk, OnErr};
 ghost use Rattle.std.specs.Option.{option_map, option_map_or};
 ghost use Rattle.std.specs.Rc.{rc_str_bytes};
-ghost use Rattle.dom_model.specs.TreeChanges.{attributes_with, attributes_without};
+ghost use Rattle.dom_model.specs.TreeChanges.{attributes_with, attributes_without, replaced};
 ghost use Rattle.dom_attributes.specs.Attributes.{HaveOwnNames, attribute_from, attributes_from, value_among};
 ghost use Rattle.dom_tree.specs.Contents.{stored_from};
 ghost use Rattle.dom_tree.specs.Forest.{contents_of};
@@ -216,6 +216,26 @@ impl StoredNode {
         self.text = text;
     }
 
+    /// From an offset on, so many code units of its data, or as many as there are, give way to others, in place. All of them
+    /// give way without taking memory. Where memory is refused, the node is as it was.
+    pub(crate) fn replace_text(
+        &mut self,
+        offset: usize,
+        count: usize,
+        units: DomStr,
+    ) -> Result<(), AllocError>
+        ensures ok { OnOk result (self.new ≡ stored_from self.old.name
+            (record self.old.node { text = replaced offset count units.items self.old.node.text })) }
+        ensures whole { offset ≡ 0 → length self.old.node.text ≤ count → IsOk result }
+        ensures err { OnErr result (self.new ≡ self.old) }
+    {
+        if offset == 0 && self.text.len() <= count {
+            self.text = units;
+            return Ok(());
+        }
+        splice(&mut self.text, offset, count, units)
+    }
+
     /// Sets an attribute. Where memory is refused, the node is as it was.
     pub(crate) fn set_attribute(
         &mut self,
@@ -254,4 +274,20 @@ impl StoredNode {
             Own::Bare { .. } => None,
         }
     }
+}
+
+/// From an offset on, so many code units, or as many as there are, give way to others. Where memory is refused, all is as it was.
+fn splice(text: &mut DomStr, offset: usize, count: usize, units: DomStr) -> Result<(), AllocError>
+    ensures ok { OnOk result (text.new.items ≡ replaced offset count units.items text.old.items) }
+    ensures err { OnErr result (text.new.items ≡ text.old.items) }
+{
+    let start = offset.min(text.len());
+    let cut = count.min(text.len() - start);
+    if start + cut == text.len() {
+        text.reserve(units.len().saturating_sub(cut))?;
+        text.truncate(start);
+        return text.extend_from_slice(units.as_slice());
+    }
+    text.splice(start..start + cut, units)?;
+    Ok(())
 }

@@ -1,9 +1,9 @@
 //! What nodes hold: their kinds, names of elements, attributes, data and node documents.
-ghost use Rattle.std.specs.Prelude.{◌≡◌, ◌≢◌, ℕ, Some, None, slice_get, OnOk, OnErr};
+ghost use Rattle.std.specs.Prelude.{◌≡◌, ◌≢◌, ◌≤◌, ℕ, Some, None, length, slice_get, IsOk, OnOk, OnErr};
 ghost use Rattle.std.specs.Option.{option_map, ForSome};
 ghost use Rattle.dom_base.specs.declared.NodeName.{NodeName as Name};
 ghost use Rattle.dom_model.specs.Tree.{kind_of, node_in, attribute_value, inclusive_ancestors, children_of};
-ghost use Rattle.dom_model.specs.TreeChanges.{change_node, with_text, under_document, with_attribute};
+ghost use Rattle.dom_model.specs.TreeChanges.{change_node, with_text, with_data_replaced, under_document, with_attribute};
 ghost use Rattle.dom_attributes.specs.Attributes.{HaveOwnNames, attribute_from};
 ghost use Rattle.dom_tree.specs.Forest.{IsNode, name_of};
 
@@ -76,6 +76,33 @@ impl Forest {
             node_in self.new.trees (name_of self.old k) ≡ node_in self.old.trees (name_of self.old k) }
     {
         self.arena.payload_mut(key).set_text(text);
+    }
+
+    /// From an offset on, so many code units of a Text or a Comment, or as many as there are, give way to others (DOM Standard,
+    /// concept: replace data). All of them give way without taking memory. Where memory is refused, the forest is as it was.
+    pub fn replace_data(
+        &mut self,
+        key: Key,
+        offset: usize,
+        count: usize,
+        units: DomStr,
+    ) -> Result<(), AllocError>
+        requires { IsNode self.old key }
+        ensures names { self.new.names ≡ self.old.names }
+        ensures ok { OnOk result (self.new.trees ≡ change_node (with_data_replaced offset count units.items) (name_of self.old key) self.old.trees) }
+        ensures whole { offset ≡ 0 → length (node_in self.old.trees (name_of self.old key)).text ≤ count → IsOk result }
+        ensures err { OnErr result (self.new ≡ self.old) }
+        ensures above { (x : Name) → inclusive_ancestors self.new.trees x ≡ inclusive_ancestors self.old.trees x }
+        ensures children { (x : Name) → children_of self.new.trees x ≡ children_of self.old.trees x }
+        ensures holds { OnOk result (node_in self.new.trees (name_of self.old key) ≡ with_data_replaced offset count units.items
+            (node_in self.old.trees (name_of self.old key))) }
+        ensures held { (k : ℕ) → IsNode self.old k → k ≢ key →
+            node_in self.new.trees (name_of self.old k) ≡ node_in self.old.trees (name_of self.old k) }
+    {
+        self.arena
+            .payload_mut(key)
+            .replace_text(offset, count, units)?;
+        Ok(())
     }
 
     /// The value of an attribute in code units, if there is one of this name (DOM Standard, concept: get an attribute
