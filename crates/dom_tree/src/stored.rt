@@ -288,6 +288,11 @@ fn splice(text: &mut DomStr, offset: usize, count: usize, units: DomStr) -> Resu
         text.truncate(start);
         return text.extend_from_slice(units.as_slice());
     }
+    if cut == units.len() {
+        text.slice_mut(start..start + cut)
+            .copy_from_slice(units.as_slice());
+        return Ok(());
+    }
     text.splice(start..start + cut, units)?;
     Ok(())
 }
