@@ -41,7 +41,6 @@ mod Records
 mod Roots
 mod Shown
 mod Signalling
-mod Spliced
 mod Steps
 mod Taking
 mod Tasks

@@ -1,5 +1,5 @@
 //! The elementary steps of which all changes consist.
-ghost use Rattle.std.specs.Prelude.{◌≡◌, ◌<◌, ◌≤◌, ◌+◌, ◌-◌, length, true, false, is_some, map, IsOk, OnOk, OnErr, Some, None, IfOk};
+ghost use Rattle.std.specs.Prelude.{◌≡◌, ◌<◌, ◌≤◌, ◌+◌, ◌-◌, length, true, false, is_some, map, IsOk, OnOk, OnErr, Some, None};
 ghost use Rattle.std.specs.Option.{option_map, ForSome};
 ghost use Rattle.std.specs.List.{AllByRecursion};
 ghost use Rattle.dom_model.specs.Tree.{parent_of, is_inclusive_ancestor, index_of, node_in, length_of};
@@ -9,7 +9,6 @@ ghost use Rattle.dom_model.specs.TextChanges.{joins};
 ghost use Rattle.dom_model.specs.World.{part_of};
 ghost use Rattle.dom_worlds.specs.Bounds.{HasBounds};
 ghost use Rattle.dom_parts.specs.Doc.{name_in, owner_in, trees_in, stepped, planned, IsChild, IsOwnNode, MayCome, JoinsFit, HoldsNode};
-ghost use Rattle.dom_model.specs.TreeChanges.{replaced};
 
 use super::settling::settle;
 use crate::Parts;
@@ -161,15 +160,12 @@ impl Parts {
         let offset = change.offset;
         let count = change.count;
         let size = change.units.len();
-        let text = spliced(
-            self.alloc,
-            self.trees.forest.text(node),
-            offset,
-            count,
-            change.units,
-        )?;
+        self.trees
+            .forest
+            .replace_data(node, offset, count, change.units)?;
+        // The length of the data that stand there is a number of the code's.
+        let _length = self.trees.forest.text(node).len();
         self.ranges.on_replace_data(node, offset, count, size);
-        self.trees.forest.set_data(node, text);
         Ok(())
     }
 
@@ -263,27 +259,4 @@ impl Parts {
             .on_join_child(&self.trees.forest, first, size, next, parent);
         joined
     }
-}
-
-/// Data where from an offset on so many code units, or as many as there are, give way to others. Where all do, the others
-/// are not copied.
-fn spliced(
-    alloc: Global,
-    old: &[u16],
-    offset: usize,
-    count: usize,
-    data: DomStr,
-) -> Result<DomStr, AllocError>
-    ensures items { IfOk result (λ text. text.items ≡ replaced offset count «data».items old.now) }
-    ensures whole { offset ≡ 0 → length old.now ≤ count → IsOk result }
-{
-    if offset == 0 && old.len() <= count {
-        return Ok(data);
-    }
-    let (front, behind) = old.split_at(offset.min(old.len()));
-    let (_, tail) = behind.split_at(count.min(behind.len()));
-    let mut text = Vec::from_slice(alloc, front)?;
-    text.extend_from_slice(data.as_slice())?;
-    text.extend_from_slice(tail)?;
-    Ok(text)
 }
