@@ -1,17 +1,13 @@
 -- Whether a shadow root may be attached to a node, which component it will belong to, and the raw parts from which one is attached.
-use Rattle.dom_base.proofs.Std.{◌≡◌, ◌≢◌, ℕ, ◌+◌, ◌<◌, ◌≤◌, inl, inr, Bool, true, false, not, ◌||◌, List, [], ◌∷◌, ◌++◌, Option, Some, None, length, refl, sym}
-use Rattle.dom_base.proofs.Std.{ap, subst, ◌∙◌, arith, nat_eq, nat_lt, find, option_map, is_some, if◌then◌else◌, cases_Bool, cases_lt, lt-ltb, le-ltb}
-use Rattle.dom_base.proofs.Std.{ltb-false, length-map}
-use Rattle.dom_model.proofs.Model.{Shadow, NodeName, Owner, Page, Refusal, NotSupported, Limit, owner_eq, name_eq, is_in, node_of, Node, node_in, with_node}
-use Rattle.dom_model.proofs.Model.{new_root, attaching, may_be_host, Part, may_attach, owner_depth, max_depth, MayAttach, is_there, part_of, component_made}
-use Rattle.dom_model.proofs.Model.{shadow_root_of, owner_eq-false, word-made, may_attach-word, may_attach-from, name_eq-other}
-use Rattle.dom_base.specs.Owners.{has_word}
-use Rattle.dom_slots.specs.Definitions.{ShadowHost, HostsAreNodes, root_of_host, SlotsNow, AreSlotsOf}
-use Rattle.dom_slots.proofs.Hosted.{key-test}
-use Rattle.dom_tree.specs.Definitions.{NamedTrees, name_at, next_name, count_of, trees_of_owner, TellApart}
-use Rattle.dom_tree.proofs.Owned.{read_own}
-use Rattle.dom_parts.specs.Definitions.{part_in, maker_of, hosts_of, host_names, attached_of, host_owners, AreMadeBehind, AllTables, DocState, contents}
-use Rattle.dom_parts.specs.Definitions.{world_from, state_from, IsDoc, name_in, owner_in, attaching_refusal}
+use Rattle.dom_parts.proofs.Cited.{◌≡◌, ◌≢◌, ℕ, ◌+◌, ◌<◌, ◌≤◌, inl, inr, Bool, true, false, not, ◌||◌, List, [], ◌∷◌, ◌++◌, Option, Some, None, length, refl}
+use Rattle.dom_parts.proofs.Cited.{sym, ap, subst, ◌∙◌, arith, nat_eq, nat_lt, find, option_map, is_some, if◌then◌else◌, cases_Bool, cases_lt, lt-ltb, le-ltb}
+use Rattle.dom_parts.proofs.Cited.{ltb-false, length-map, Shadow, NodeName, Owner, Page, Refusal, NotSupported, Limit, owner_eq, name_eq, is_in, node_of, Node}
+use Rattle.dom_parts.proofs.Cited.{node_in, with_node, new_root, attaching, may_be_host, Part, may_attach, owner_depth, is_there, part_of}
+use Rattle.dom_parts.proofs.Cited.{component_made, shadow_root_of, owner_eq-false, word-made, may_attach-word, may_attach-from, name_eq-other, has_word}
+use Rattle.dom_parts.proofs.Cited.{ShadowHost, HostsAreNodes, root_of_host, SlotsNow, AreSlotsOf, key-test, NamedTrees, name_at, next_name, count_of}
+use Rattle.dom_parts.proofs.Cited.{trees_of_owner, TellApart, read_own, part_in, maker_of, hosts_of, host_names, attached_of, host_owners, AreMadeBehind}
+use Rattle.dom_parts.proofs.Cited.{AllTables, DocState, contents, world_from, state_from, IsDoc, name_in, owner_in, attaching_refusal}
+use Rattle.dom_model.proofs.Model.{max_depth, MayAttach}
 use Rattle.dom_parts.proofs.Attached.{HasOneHostMore, component_for, attached_held, attached_state}
 use Rattle.dom_parts.proofs.AttachedWorlds.{count_none, component_absent}
 use Rattle.dom_parts.proofs.DocInvariant.{are_hosts}

@@ -1,18 +1,14 @@
 -- A shadow root is attached: what is held has one host more, so it is still a legal `Doc`, and its world is that of the
 -- definitions.
-use Rattle.dom_base.proofs.Std.{◌≡◌, ◌≢◌, ℕ, ◌<◌, ◌≤◌, ◌⊎◌, inl, inr, true, false, List, [], ◌∷◌, ◌++◌, Option, length, refl, sym, ap, subst, ◌∙◌, arith}
-use Rattle.dom_base.proofs.Std.{AllByRecursion, cases_Bool, false_from_ne_true, length_push, map-append, get_or-append, eq-or-lt_of_le, get_or-append_seam}
-use Rattle.dom_node_trees.specs.Signalled.{AreNames}
-use Rattle.dom_node_trees.proofs.NamesByKey.{names_grown}
-use Rattle.dom_model.proofs.Model.{Shadow, NodeName, Owner, Page, owner_eq, node_of, node_in, with_node, new_root, attaching, Task, MayAttach, is_there}
-use Rattle.dom_model.proofs.Model.{component_made, shadow_root_of, owner_eq-true, owner_eq-false, owner_eq-same, ne-owner_eq, component_made-other, Range}
-use Rattle.dom_slots.specs.Definitions.{ShadowHost, AreSlotsOf}
-use Rattle.dom_observers.specs.Definitions.{TablesOf, no_tables as no_observers, IsKey, SpeaksOf}
-use Rattle.dom_tree.specs.Definitions.{NamedTrees, name_at, count_of}
-use Rattle.dom_ranges.specs.Definitions.{named_ranges, ranges_of}
-use Rattle.dom_parts.specs.Definitions.{Tables, AreNumbered, AreRangesOf, AllTables, tables_view, AreTablesOf, maker_of, hosts_of, AreMadeBehind, host_names}
-use Rattle.dom_parts.specs.Definitions.{host_owners, attached_of, AreHostsOf, IsAttached, named_trees, contents, world_from, IsDoc, IsDue}
-use Rattle.dom_traversal.specs.Definitions.{KeyedTables, no_keyed_tables}
+use Rattle.dom_parts.proofs.Cited.{◌≡◌, ◌≢◌, ℕ, ◌<◌, ◌≤◌, ◌⊎◌, inl, inr, true, false, List, [], ◌∷◌, ◌++◌, Option, length, refl, sym, ap, subst, ◌∙◌, arith}
+use Rattle.dom_parts.proofs.Cited.{AllByRecursion, cases_Bool, false_from_ne_true, length_push, map-append, get_or-append, eq-or-lt_of_le, get_or-append_seam}
+use Rattle.dom_parts.proofs.Cited.{AreNames, names_grown, Shadow, NodeName, Owner, Page, owner_eq, node_of, node_in, with_node, new_root, attaching, Task}
+use Rattle.dom_parts.proofs.Cited.{MayAttach, is_there, component_made, shadow_root_of, owner_eq-true, owner_eq-false, owner_eq-same, ne-owner_eq}
+use Rattle.dom_parts.proofs.Cited.{component_made-other, Range, ShadowHost, AreSlotsOf, TablesOf, IsKey, SpeaksOf, NamedTrees, name_at, count_of, named_ranges}
+use Rattle.dom_parts.proofs.Cited.{ranges_of, Tables, AreNumbered, AreRangesOf, AllTables, tables_view, AreTablesOf, maker_of, hosts_of, AreMadeBehind}
+use Rattle.dom_parts.proofs.Cited.{host_names, host_owners, attached_of, AreHostsOf, IsAttached, named_trees, contents, world_from, IsDoc, IsDue, KeyedTables}
+use Rattle.dom_parts.proofs.Cited.{no_keyed_tables}
+use Rattle.dom_observers.specs.Definitions.{no_tables as no_observers}
 use Rattle.dom_parts.proofs.AttachedWorlds.{count_none, counted_other, counted_new, component_new, attached_world, attached_hosts}
 use Rattle.dom_parts.proofs.DocInvariant.{are_hosts, due_kept}
 use Rattle.dom_parts.proofs.HostsOfOwners.{count_hosts, own-pushed, other-pushed}

@@ -1,17 +1,13 @@
 -- Attaching in the world of what is held with hosts: the component that is made was not there, the world is the one after
 -- the command, and the list of hosts with the new one belongs to what is held then.
-use Rattle.dom_base.proofs.Std.{◌≡◌, ◌≢◌, ℕ, suc, ◌+◌, ◌<◌, ◌≤◌, Bool, true, false, cond, List, [], ◌∷◌, ◌++◌, Option, length, refl, sym, ap, subst, ◌∙◌, ◌⊎◌}
-use Rattle.dom_base.proofs.Std.{inl, inr, arith, zero-add, if◌then◌else◌, cases_Bool, false_from_ne_true, length-map, length_push, map-append, append-nil}
-use Rattle.dom_base.proofs.Std.{append_assoc, sum_by-cons, same_Some, get_or-append_seam}
-use Rattle.dom_model.proofs.Model.{Shadow, NodeName, Owner, Page, MAX_COMPONENTS, owner_eq, node_of, none, tree, Node, node_in, with_node, new_root}
-use Rattle.dom_model.proofs.Model.{part_with_root, attaching, Part, World, MayAttach, with_part, is_there, component_made, made_by, shadow_root_of}
-use Rattle.dom_model.proofs.Model.{owner_eq-true, owner_eq-false, owner_eq-same, ne-owner_eq, made_by-made, component_made-no_page}
-use Rattle.dom_slots.specs.Definitions.{ShadowHost, HostsAreNodes}
-use Rattle.dom_tree.specs.Definitions.{name_at, count_of, AreOwned, IsOwnChange, trees_of_owner}
-use Rattle.dom_tree.proofs.OwnPlacings.{added}
-use Rattle.dom_tree.proofs.Owned.{read_own}
-use Rattle.dom_parts.specs.Definitions.{Contents, Tables, part_with, part_in, world_of, maker_of, hosts_of, IsMadeAs, AreMadeBehind, host_names, attached_of}
-use Rattle.dom_parts.specs.Definitions.{host_owners, AreHostsOf, IsAttached}
+use Rattle.dom_parts.proofs.Cited.{◌≡◌, ◌≢◌, ℕ, suc, ◌+◌, ◌<◌, ◌≤◌, Bool, true, false, cond, List, [], ◌∷◌, ◌++◌, Option, length, refl, sym, ap, subst, ◌∙◌}
+use Rattle.dom_parts.proofs.Cited.{◌⊎◌, inl, inr, arith, zero-add, if◌then◌else◌, cases_Bool, false_from_ne_true, length-map, length_push, map-append}
+use Rattle.dom_parts.proofs.Cited.{append-nil, append_assoc, sum_by-cons, same_Some, get_or-append_seam, Shadow, NodeName, Owner, Page, MAX_COMPONENTS}
+use Rattle.dom_parts.proofs.Cited.{owner_eq, node_of, none, tree, Node, node_in, with_node, new_root, part_with_root, attaching, Part, World, MayAttach}
+use Rattle.dom_parts.proofs.Cited.{with_part, is_there, component_made, made_by, shadow_root_of, owner_eq-true, owner_eq-false, owner_eq-same, ne-owner_eq}
+use Rattle.dom_parts.proofs.Cited.{made_by-made, component_made-no_page, ShadowHost, HostsAreNodes, name_at, count_of, AreOwned, IsOwnChange, trees_of_owner}
+use Rattle.dom_parts.proofs.Cited.{added, read_own, Contents, Tables, part_with, part_in, world_of, maker_of, hosts_of, IsMadeAs, AreMadeBehind, host_names}
+use Rattle.dom_parts.proofs.Cited.{attached_of, host_owners, AreHostsOf, IsAttached}
 use Rattle.dom_parts.proofs.Numbers.{count_more}
 use Rattle.dom_parts.proofs.HostedSteps.{KeepsNames, names_pushed, nodes_pushed, nodes_renamed, hosts_renamed, made_renamed, attached_renamed}
 use Rattle.dom_parts.proofs.HostedWorlds.{single_hosted}

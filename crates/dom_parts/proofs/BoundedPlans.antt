@@ -1,16 +1,11 @@
 -- Where in each plan live ranges' offsets are asked to be within lengths: before room is made, before data grow, and before a
 -- join. The bounds hold there, in an owner's part, if they held before the plan.
-use Rattle.dom_base.proofs.Std.{◌≡◌, ◌≤◌, ◌<◌, ℕ, ◌+◌, true, false, List, [], ◌∷◌, length, Some, None, sym, ap, subst, ◌∙◌, arith, IsTrue, flat_map}
-use Rattle.dom_base.proofs.Std.{AllByRecursion, cond-false}
-use Rattle.dom_model.proofs.Model.{NodeName, Observing, suppressed, in_turn, remove_plan, emptying, child_list, Part, queue_record, after, replacing_data}
-use Rattle.dom_model.proofs.Model.{normalizing_text, contiguous_texts_after, Trees, node_in, has_node, has_data, is_text, kind_of, children_of, parent_of}
-use Rattle.dom_model.proofs.Model.{index_of, length_of}
-use Rattle.dom_worlds.specs.Definitions.{HasBounds, IsPart}
-use Rattle.dom_worlds.proofs.RangeLemmas.{nowhere, room-of, bounds-of, queue_record-keeps, room-removals, text-data, total, joining-fits, room-normalizing_text}
-use Rattle.dom_worlds.proofs.TreeLemmas.{times-has_node, index-below, length-children}
-use Rattle.dom_worlds.proofs.CommandLemmas.{has_node-times}
-use Rattle.dom_worlds.proofs.PlanLemmas.{after-append, still, leads-removals, leads-normalizing_text}
-use Rattle.dom_parts.specs.Definitions.{JoinsFit}
+use Rattle.dom_parts.proofs.Cited.{◌≡◌, ◌≤◌, ◌<◌, ℕ, ◌+◌, true, false, List, [], ◌∷◌, length, Some, None, sym, ap, subst, ◌∙◌, arith, IsTrue, flat_map}
+use Rattle.dom_parts.proofs.Cited.{AllByRecursion, cond-false, NodeName, Observing, suppressed, in_turn, remove_plan, emptying, child_list, Part, queue_record}
+use Rattle.dom_parts.proofs.Cited.{after, replacing_data, normalizing_text, contiguous_texts_after, Trees, node_in, has_node, has_data, is_text, kind_of}
+use Rattle.dom_parts.proofs.Cited.{children_of, parent_of, index_of, length_of, HasBounds, IsPart, nowhere, room-of, bounds-of, queue_record-keeps}
+use Rattle.dom_parts.proofs.Cited.{room-removals, text-data, total, joining-fits, room-normalizing_text, times-has_node, index-below, length-children}
+use Rattle.dom_parts.proofs.Cited.{has_node-times, after-append, still, leads-removals, leads-normalizing_text, JoinsFit}
 use Rattle.dom_parts.proofs.OwnParts.{children_few}
 
 -- ---- lengths

@@ -1,17 +1,11 @@
 -- A node is connected where the last root is a document that is found by going up from its root: from a root to its host, and
 -- to the root of that one's tree.
-use Rattle.dom_base.proofs.Std.{◌≡◌, ℕ, ◌<◌, ◌≤◌, zero, suc, Bool, true, false, List, [], ◌∷◌, ◌++◌, length, Option, Some, None, flat_map, unwrap_or, refl, sym}
-use Rattle.dom_base.proofs.Std.{ap, subst, ◌∙◌, inl, inr, arith, option_to_list, count_by, option_and_then, option_map_or, cases_Bool, true≢false, append-nil}
-use Rattle.dom_base.proofs.Std.{last_or}
-use Rattle.dom_model.proofs.Model.{NodeName, Owner, name_eq, last_of, owner_depth, Trees, Node, nodes, inclusive_ancestors, kind_of, is_document, root_of}
-use Rattle.dom_model.proofs.Model.{times_in, World, part_of, host_of, host_above, some_if, shadow_root_of, hosts_from, ancestors_at, kind_at, root_at}
-use Rattle.dom_model.proofs.Model.{is_connected, name_eq-true}
-use Rattle.dom_slots.specs.Definitions.{host_named, ShadowTrees, IsShownBy, shadows}
-use Rattle.dom_slots.proofs.Hosted.{host-key}
-use Rattle.dom_laws.proofs.Laws.{name_eq-from, times_count, path_gone}
-use Rattle.dom_tree.specs.Definitions.{NamedTrees, name_at}
-use Rattle.dom_tree.proofs.Owned.{read_own, stays_own}
-use Rattle.dom_parts.specs.Definitions.{AllTables, IsDoc, contents, world_from, outermost_root}
+use Rattle.dom_parts.proofs.Cited.{◌≡◌, ℕ, ◌<◌, ◌≤◌, zero, suc, Bool, true, false, List, [], ◌∷◌, ◌++◌, length, Option, Some, None, flat_map, unwrap_or, refl}
+use Rattle.dom_parts.proofs.Cited.{sym, ap, subst, ◌∙◌, inl, inr, arith, option_to_list, count_by, option_and_then, option_map_or, cases_Bool, true≢false}
+use Rattle.dom_parts.proofs.Cited.{append-nil, last_or, NodeName, Owner, name_eq, last_of, owner_depth, Trees, Node, nodes, inclusive_ancestors, kind_of}
+use Rattle.dom_parts.proofs.Cited.{is_document, root_of, times_in, World, part_of, host_of, host_above, some_if, shadow_root_of, hosts_from, ancestors_at}
+use Rattle.dom_parts.proofs.Cited.{kind_at, root_at, is_connected, name_eq-true, host_named, ShadowTrees, IsShownBy, shadows, host-key, name_eq-from}
+use Rattle.dom_parts.proofs.Cited.{times_count, path_gone, NamedTrees, name_at, read_own, stays_own, AllTables, IsDoc, contents, world_from, outermost_root}
 use Rattle.dom_parts.proofs.DocInvariant.{are_hosts}
 use Rattle.dom_parts.proofs.HostedWorlds.{world_shown}
 

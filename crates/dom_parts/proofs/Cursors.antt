@@ -1,18 +1,15 @@
 -- An owner's tables written: what holds then, the world then, and that it is what a command of the model does.
-use Rattle.dom_base.proofs.Std.{◌≡◌, ℕ, zero, suc, inl, inr, Bool, true, false, List, [], ◌∷◌, ◌++◌, length, Option, Some, None, option_map, map, refl, sym, ap}
-use Rattle.dom_base.proofs.Std.{subst, ◌∙◌, is_some, slice_get, slice_set, option_map_or, cases_Bool, true≢false, cond-true, cond-false, map-set, map-append}
-use Rattle.dom_base.proofs.Std.{length-map, slice_get-map, same_Some}
-use Rattle.dom_model.proofs.Model.{NodeName, Owner, Move, owner_eq, node_of, Trees, Command, Filter, own, effect, Value, nothing, a_node, an_iterator, a_walker}
-use Rattle.dom_model.proofs.Model.{reference, Iterator, Walker, iterator_next_node, iterator_previous_node, moved_to, walker_move, Part, part_of, with_part}
-use Rattle.dom_model.proofs.Model.{is_there, Effect, keeps, answers, node_or_null, moves_iterator, sets_walker, new_iterator, new_walker, owner_eq-true}
-use Rattle.dom_tree.specs.Definitions.{name_at, count_of, trees_of_owner}
-use Rattle.dom_tree.proofs.Owned.{stays_own}
-use Rattle.dom_traversal.specs.Definitions.{KeyedIterator, iterator_view, iterator_at, KeyedWalker, walker_view, walker_at, KeyedTables, no_keyed_tables}
-use Rattle.dom_parts.specs.Definitions.{part_with, AreTablesOf, AllTables, with_table, named_trees, shown_tables, contents, world_from, IsDoc, Makes}
-use Rattle.dom_traversal.proofs.Owners.{with-own, with-other}
+use Rattle.dom_parts.proofs.Cited.{◌≡◌, ℕ, zero, suc, inl, inr, Bool, true, false, List, [], ◌∷◌, ◌++◌, length, Option, Some, None, option_map, map, refl, sym}
+use Rattle.dom_parts.proofs.Cited.{ap, subst, ◌∙◌, is_some, slice_get, slice_set, option_map_or, cases_Bool, true≢false, cond-true, cond-false, map-set}
+use Rattle.dom_parts.proofs.Cited.{map-append, length-map, slice_get-map, same_Some, NodeName, Owner, Move, owner_eq, node_of, Trees, Command, Filter, own}
+use Rattle.dom_parts.proofs.Cited.{effect, Value, nothing, a_node, an_iterator, a_walker, reference, Iterator, Walker, iterator_next_node}
+use Rattle.dom_parts.proofs.Cited.{iterator_previous_node, moved_to, walker_move, Part, part_of, with_part, is_there, Effect, keeps, answers, node_or_null}
+use Rattle.dom_parts.proofs.Cited.{moves_iterator, sets_walker, new_iterator, new_walker, owner_eq-true, name_at, count_of, trees_of_owner, stays_own}
+use Rattle.dom_parts.proofs.Cited.{KeyedIterator, iterator_view, iterator_at, KeyedWalker, walker_view, walker_at, KeyedTables, no_keyed_tables, part_with}
+use Rattle.dom_parts.proofs.Cited.{AreTablesOf, AllTables, with_table, named_trees, shown_tables, contents, world_from, IsDoc, Makes, with-own, with-other}
+use Rattle.dom_parts.proofs.Cited.{ranges_of}
 use Rattle.dom_parts.proofs.Worlds.{part_at, part_off, there_same, changed}
 use Rattle.dom_parts.proofs.OwnNodes.{next_own, previous_own, move_own}
-use Rattle.dom_ranges.specs.Definitions.{ranges_of}
 use Rattle.dom_parts.proofs.DocInvariant.{held_with, single_owners, still_named}
 use Rattle.dom_parts.proofs.RangedKeeping.{ranges_stay}
 

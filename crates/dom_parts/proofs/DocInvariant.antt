@@ -1,18 +1,14 @@
 -- What holds of a `Doc` stays so when one owner's trees change, and then its world has that owner's part changed.
-use Rattle.dom_base.proofs.Std.{◌≡◌, ℕ, ◌<◌, ◌≤◌, true, false, List, [], ◌∷◌, length, refl, sym, ap, subst, ◌∙◌, ◌≢◌, arith, AllByRecursion, none-some}
-use Rattle.dom_model.proofs.Model.{NodeName, Owner, Page, Trees, World, is_there, Task, micro_task, notify_task, ne-owner_eq}
-use Rattle.dom_tree.specs.Definitions.{NamedTrees, name_at, count_of, AreOwned, trees_of_owner, IsOwnChange}
-use Rattle.dom_observers.specs.Definitions.{TablesOf, no_tables as no_observers, IsKey, SpeaksOf}
-use Rattle.dom_traversal.specs.Definitions.{no_keyed_tables}
-use Rattle.dom_parts.specs.Definitions.{AreTablesOf, AllTables, trees_with, with_queue, with_observers, with_live, maker_of, hosts_of, host_names, host_owners}
-use Rattle.dom_parts.specs.Definitions.{AreMadeBehind, AreHostsOf, AreNumbered, AreRangesOf, named_trees, contents, world_from, IsDoc, IsDue}
-use Rattle.dom_node_trees.specs.Signalled.{AreSignals, AreNames}
-use Rattle.dom_ranges.specs.Definitions.{RangeLists}
-use Rattle.dom_slots.specs.Definitions.{ShadowHost, HostsAreNodes, AreSlotsOf}
+use Rattle.dom_parts.proofs.Cited.{◌≡◌, ℕ, ◌<◌, ◌≤◌, true, false, List, [], ◌∷◌, length, refl, sym, ap, subst, ◌∙◌, ◌≢◌, arith, AllByRecursion, none-some}
+use Rattle.dom_parts.proofs.Cited.{NodeName, Owner, Page, Trees, World, is_there, Task, micro_task, notify_task, ne-owner_eq, NamedTrees, name_at, count_of}
+use Rattle.dom_parts.proofs.Cited.{AreOwned, trees_of_owner, IsOwnChange, TablesOf, IsKey, SpeaksOf, no_keyed_tables, AreTablesOf, AllTables, trees_with}
+use Rattle.dom_parts.proofs.Cited.{with_queue, with_observers, with_live, maker_of, hosts_of, host_names, host_owners, AreMadeBehind, AreHostsOf, AreNumbered}
+use Rattle.dom_parts.proofs.Cited.{AreRangesOf, named_trees, contents, world_from, IsDoc, IsDue, AreSignals, AreNames, RangeLists, ShadowHost, HostsAreNodes}
+use Rattle.dom_parts.proofs.Cited.{AreSlotsOf, KeepsAbove}
+use Rattle.dom_observers.specs.Definitions.{no_tables as no_observers}
 use Rattle.dom_parts.proofs.HostedWorlds.{single_hosted}
 use Rattle.dom_parts.proofs.HostsOfOwners.{other-host}
 use Rattle.dom_parts.proofs.Worlds.{Single, there_same}
-use Rattle.dom_laws.proofs.Laws.{KeepsAbove}
 use Rattle.dom_parts.proofs.Keeping.{tables_kept}
 use Rattle.dom_parts.proofs.RangedKeeping.{ranges_stay}
 

@@ -1,7 +1,6 @@
 -- What holds of each node of trees holds of each after the elementary changes.
-use Rattle.dom_base.proofs.Std.{Bool, true, false, List, [], ◌∷◌, ◌++◌, Option, if◌then◌else◌, AllByRecursion}
-use Rattle.dom_model.proofs.Model.{NodeName, name_eq, name_before, Trees, none, tree, Node, or_else, subtree, followed_by, without, is_given, put_before}
-use Rattle.dom_model.proofs.Model.{put_below, put_root, placed, taken_out, map_nodes}
+use Rattle.dom_parts.proofs.Cited.{Bool, true, false, List, [], ◌∷◌, ◌++◌, Option, if◌then◌else◌, AllByRecursion, NodeName, name_eq, name_before, Trees, none}
+use Rattle.dom_parts.proofs.Cited.{tree, Node, or_else, subtree, followed_by, without, is_given, put_before, put_below, put_root, placed, taken_out, map_nodes}
 
 -- each node
 abbrev pub EachNode : (Node → Type 0) → Trees → Type 0

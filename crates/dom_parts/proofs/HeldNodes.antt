@@ -1,20 +1,14 @@
 -- What holds of a `Doc` holds with one node more, and at first.
-use Rattle.dom_base.proofs.Std.{◌≡◌, ℕ, ◌+◌, ◌<◌, ◌≤◌, ◌⊎◌, inl, inr, true, cond, List, [], ◌∷◌, ◌++◌, length, Option, Result, Ok, Err, refl, sym, ap, subst}
-use Rattle.dom_base.proofs.Std.{◌∙◌, ◌≢◌, arith, add-one, suc, OnOk, OnErr, ◌↔◌, cases_Bool, length_push, eq-or-lt_of_le, add-zero, get_or-append}
-use Rattle.dom_base.proofs.Std.{get_or-append_seam, All-nil, true≢false}
-use Rattle.dom_model.proofs.Model.{Fault, Refused, Limit, NodeName, Owner, Page, name_eq, is_in, owner_eq, node_of, Trees, none, Node, with_node, with_name}
-use Rattle.dom_model.proofs.Model.{make, part_of, is_there, world_step, empty_part, next_name as part_next, Range, owner_eq-same, owner_eq-true, ne-owner_eq}
-use Rattle.dom_tree.specs.Definitions.{NamedTrees, name_at, next_name, count_of, trees_of_owner, IsOwnChange, TellApart}
-use Rattle.dom_tree.proofs.OwnPlacings.{added}
-use Rattle.dom_ranges.specs.Definitions.{named_ranges, RangeList, RangeLists, ranges_of}
-use Rattle.dom_observers.specs.Definitions.{IsKey}
-use Rattle.dom_observers.proofs.Speaking.{speaks_none}
-use Rattle.dom_parts.specs.Definitions.{Tables, part_with, tables_view, AllTables, no_slots, first_tables, AreFirst, with_live, DocState, named_trees}
-use Rattle.dom_parts.specs.Definitions.{shown_tables, contents, world_from, state_from, nothing_left, IsDoc, attached_of}
-use Rattle.dom_slots.specs.Definitions.{AreSlotsOf, StandsOnce, HasOneMore}
-use Rattle.dom_slots.proofs.Added.{slots-more}
+use Rattle.dom_parts.proofs.Cited.{◌≡◌, ℕ, ◌+◌, ◌<◌, ◌≤◌, ◌⊎◌, inl, inr, true, cond, List, [], ◌∷◌, ◌++◌, length, Option, Result, Ok, Err, refl, sym, ap, subst}
+use Rattle.dom_parts.proofs.Cited.{◌∙◌, ◌≢◌, arith, add-one, suc, OnOk, OnErr, ◌↔◌, cases_Bool, length_push, eq-or-lt_of_le, add-zero, get_or-append}
+use Rattle.dom_parts.proofs.Cited.{get_or-append_seam, All-nil, Fault, Refused, Limit, NodeName, Owner, Page, name_eq, is_in, owner_eq, node_of, Trees, none}
+use Rattle.dom_parts.proofs.Cited.{Node, with_node, with_name, make, part_of, is_there, world_step, empty_part, Range, owner_eq-same, owner_eq-true}
+use Rattle.dom_parts.proofs.Cited.{ne-owner_eq, NamedTrees, name_at, next_name, count_of, trees_of_owner, IsOwnChange, TellApart, added, named_ranges}
+use Rattle.dom_parts.proofs.Cited.{RangeList, RangeLists, ranges_of, IsKey, speaks_none, Tables, part_with, tables_view, AllTables, no_slots, first_tables}
+use Rattle.dom_parts.proofs.Cited.{AreFirst, with_live, DocState, named_trees, shown_tables, contents, world_from, state_from, nothing_left, IsDoc, attached_of}
+use Rattle.dom_parts.proofs.Cited.{AreSlotsOf, StandsOnce, HasOneMore, slots-more, names_grown, true≢false}
+use Rattle.dom_model.proofs.Model.{next_name as part_next}
 use Rattle.dom_parts.proofs.HostedSteps.{names_pushed, made_renamed, attached_renamed, plain_step}
-use Rattle.dom_node_trees.proofs.NamesByKey.{names_grown}
 use Rattle.dom_parts.proofs.Worlds.{part_at}
 use Rattle.dom_parts.proofs.Keeping.{tables_more, view_same, speaks_grown}
 use Rattle.dom_parts.proofs.Numbers.{count_more, numbered_more}

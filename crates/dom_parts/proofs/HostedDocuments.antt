@@ -1,13 +1,10 @@
 -- Node documents in the world of what is held with hosts: a tree's, and those of the shadow trees of the hosts in it, at any depth.
-use Rattle.dom_base.proofs.Std.{◌≡◌, ℕ, zero, suc, true, List, [], ◌∷◌, ◌++◌, Option, Some, None, fold, map, filter_map, flat_map, refl, sym, ap, ◌∙◌}
-use Rattle.dom_base.proofs.Std.{option_map, AllByRecursion, cons_option, map-append}
-use Rattle.dom_model.proofs.Model.{NodeName, Owner, max_depth, inclusive_descendants, change_subtree, with_document, set_document, part_step, World, is_there}
-use Rattle.dom_model.proofs.Model.{components_below, shadow_root_of, world_step, stepped, with_shadow_document}
-use Rattle.dom_node_trees.specs.Documents.{roots_within}
-use Rattle.dom_slots.specs.Definitions.{ShadowHost, root_named}
-use Rattle.dom_tree.specs.Definitions.{count_of, IsOwnChange}
-use Rattle.dom_tree.proofs.OwnPlacings.{changed_subtree}
-use Rattle.dom_parts.specs.Definitions.{Contents, part_in, part_with, world_of, component_named, AreHostsOf, document_in, documents_in, forest_in}
+use Rattle.dom_parts.proofs.Cited.{◌≡◌, ℕ, zero, suc, true, List, [], ◌∷◌, ◌++◌, Option, Some, None, fold, map, filter_map, flat_map, refl, sym, ap, ◌∙◌}
+use Rattle.dom_parts.proofs.Cited.{option_map, AllByRecursion, cons_option, map-append, NodeName, Owner, max_depth, inclusive_descendants, change_subtree}
+use Rattle.dom_parts.proofs.Cited.{with_document, set_document, part_step, World, is_there, components_below, shadow_root_of, world_step, with_shadow_document}
+use Rattle.dom_parts.proofs.Cited.{roots_within, ShadowHost, root_named, count_of, IsOwnChange, changed_subtree, Contents, part_in, part_with, world_of}
+use Rattle.dom_parts.proofs.Cited.{component_named, AreHostsOf, document_in, documents_in, forest_in}
+use Rattle.dom_model.proofs.Model.{stepped}
 use Rattle.dom_parts.proofs.Worlds.{IsChangeOf, there_same}
 use Rattle.dom_parts.proofs.HostedWorlds.{root-component, near_looked, below_there}
 use Rattle.dom_parts.proofs.HostedSteps.{names_same, hosts_stepped, stepped_hosted}

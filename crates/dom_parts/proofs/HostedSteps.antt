@@ -1,18 +1,14 @@
 -- Steps in the world of what is held with hosts: where one owner's part changes as the step says, and the slots are
 -- signalled that the hosts tell, the world is the one after the step.
-use Rattle.dom_base.proofs.Std.{◌≡◌, ℕ, ◌<◌, ◌≤◌, Bool, true, false, List, [], ◌∷◌, ◌++◌, Option, Some, None, filter, fold, length, refl, sym, ap, subst, ◌∙◌}
-use Rattle.dom_base.proofs.Std.{inl, inr, arith, option_map, if◌then◌else◌, option_map_or, cases_Bool, length_push, get_or-append}
-use Rattle.dom_model.proofs.Model.{NodeName, Owner, Page, MAX_COMPONENTS, Word, DomString, name_eq, owner_eq, append_once, node_of, Trees, parent_of, Change}
-use Rattle.dom_model.proofs.Model.{Part, with_signal, Step, make, make_room, place, take_out, set_document, set_attribute, replace_data, split_at, join_at}
-use Rattle.dom_model.proofs.Model.{set_range, queue_record, part_step, leave, is_taken, World, MayAttach, is_there, component_made, queued_notify, world_step}
-use Rattle.dom_model.proofs.Model.{stepped, with_signals, with_removal_signals, with_notify_if, owner_eq-true, owner_eq-false}
-use Rattle.dom_slots.specs.Definitions.{ShadowHost, HostsAreNodes, signals_at, step_signals}
-use Rattle.dom_slots.specs.declared.step.Step.TheVariants.{Place, Removal, Attribute}
-use Rattle.dom_slots.proofs.Shown.{signals-shown}
-use Rattle.dom_tree.specs.Definitions.{name_at, AreOwned}
-use Rattle.dom_tree.proofs.Owned.{read_own}
-use Rattle.dom_parts.specs.Definitions.{Contents, Tables, part_in, world_of, maker_of, hosts_of, AreMadeBehind, host_names, attached_of, AreHostsOf, shadows_in}
-use Rattle.dom_parts.specs.Definitions.{signal_in, signals_in}
+use Rattle.dom_parts.proofs.Cited.{◌≡◌, ℕ, ◌<◌, ◌≤◌, Bool, true, false, List, [], ◌∷◌, ◌++◌, Option, Some, None, filter, fold, length, refl, sym, ap, subst}
+use Rattle.dom_parts.proofs.Cited.{◌∙◌, inl, inr, arith, option_map, if◌then◌else◌, option_map_or, cases_Bool, length_push, get_or-append, NodeName, Owner}
+use Rattle.dom_parts.proofs.Cited.{Page, MAX_COMPONENTS, Word, DomString, name_eq, owner_eq, append_once, node_of, Trees, parent_of, Change, Part, with_signal}
+use Rattle.dom_parts.proofs.Cited.{Step, make, make_room, place, take_out, set_document, set_attribute, replace_data, split_at, join_at, set_range}
+use Rattle.dom_parts.proofs.Cited.{queue_record, part_step, leave, is_taken, World, MayAttach, is_there, component_made, queued_notify, world_step}
+use Rattle.dom_parts.proofs.Cited.{with_signals, with_removal_signals, with_notify_if, owner_eq-true, owner_eq-false, ShadowHost, HostsAreNodes, signals_at}
+use Rattle.dom_parts.proofs.Cited.{step_signals, Place, Removal, Attribute, signals-shown, name_at, AreOwned, read_own, Contents, Tables, part_in, world_of}
+use Rattle.dom_parts.proofs.Cited.{maker_of, hosts_of, AreMadeBehind, host_names, attached_of, AreHostsOf, shadows_in, signal_in, signals_in}
+use Rattle.dom_model.proofs.Model.{stepped}
 use Rattle.dom_parts.proofs.Worlds.{IsChangeOf, part_at, changed, there_same}
 use Rattle.dom_parts.proofs.HostedWorlds.{single_hosted, trees_hosted, world_shown}
 

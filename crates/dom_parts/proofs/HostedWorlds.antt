@@ -1,18 +1,13 @@
 -- The world of what is held with hosts: its hosts, and the components in a tree, are looked up in the list of hosts.
-use Rattle.dom_base.proofs.Std.{◌≡◌, ℕ, zero, suc, ◌+◌, ◌<◌, ◌≤◌, Bool, true, false, ltb, List, [], ◌∷◌, ◌++◌, Option, Some, None, filter_map, flat_map}
-use Rattle.dom_base.proofs.Std.{position, length, refl, sym, ap, subst, ◌∙◌, ◌⊎◌, inl, inr, arith, zero-add, find, if◌then◌else◌, slice_get, option_map}
-use Rattle.dom_base.proofs.Std.{AllByRecursion, cons_option, position_or_len, option_and_then, cases_Bool, lt-ltb, le-ltb, cases_lt, length-map, same_Some}
-use Rattle.dom_base.proofs.Std.{none-some, one-add}
-use Rattle.dom_model.proofs.Model.{NodeName, Owner, Page, owner_eq, name_eq, Part, inclusive_descendants, MayAttach, part_of, is_there, component_at}
-use Rattle.dom_model.proofs.Model.{component_made, made_by, components_below, host_of, shadow_root_of, trees_with, owner_eq-true, owner_eq-false, made_by-is}
-use Rattle.dom_model.proofs.Model.{made_by-made, name_eq-other}
-use Rattle.dom_worlds.specs.Definitions.{HasMakers}
-use Rattle.dom_slots.specs.Definitions.{ShadowHost, host_named, root_named, IsShownBy, shadow_trees}
-use Rattle.dom_laws.proofs.Laws.{name_eq-from}
-use Rattle.dom_tree.specs.Definitions.{name_at, trees_of_owner}
-use Rattle.dom_tree.proofs.Owned.{read_own}
-use Rattle.dom_parts.specs.Definitions.{Contents, world_of, maker_of, hosts_of, AreMadeBehind, host_names, attached_of, host_owners, component_named}
-use Rattle.dom_parts.specs.Definitions.{AreHostsOf}
+use Rattle.dom_parts.proofs.Cited.{◌≡◌, ℕ, zero, suc, ◌+◌, ◌<◌, ◌≤◌, Bool, true, false, ltb, List, [], ◌∷◌, ◌++◌, Option, Some, None, filter_map, flat_map}
+use Rattle.dom_parts.proofs.Cited.{position, length, refl, sym, ap, subst, ◌∙◌, ◌⊎◌, inl, inr, arith, zero-add, find, if◌then◌else◌, slice_get, option_map}
+use Rattle.dom_parts.proofs.Cited.{AllByRecursion, cons_option, position_or_len, option_and_then, cases_Bool, lt-ltb, le-ltb, cases_lt, length-map, same_Some}
+use Rattle.dom_parts.proofs.Cited.{none-some, one-add, NodeName, Owner, Page, owner_eq, name_eq, Part, inclusive_descendants, MayAttach, part_of, is_there}
+use Rattle.dom_parts.proofs.Cited.{component_at, component_made, made_by, components_below, host_of, shadow_root_of, owner_eq-true, owner_eq-false, made_by-is}
+use Rattle.dom_parts.proofs.Cited.{made_by-made, name_eq-other, HasMakers, ShadowHost, host_named, root_named, IsShownBy, shadow_trees, name_eq-from, name_at}
+use Rattle.dom_parts.proofs.Cited.{trees_of_owner, read_own, Contents, world_of, maker_of, hosts_of, AreMadeBehind, host_names, attached_of, host_owners}
+use Rattle.dom_parts.proofs.Cited.{component_named, AreHostsOf}
+use Rattle.dom_model.proofs.Model.{trees_with}
 use Rattle.dom_parts.proofs.HostsOfOwners.{count_hosts, own-host, other-host, own-counted, other-counted, made-named, single_owners_of}
 use Rattle.dom_parts.proofs.HostsOfOwners.{no_page-owners, may_of}
 use Rattle.dom_parts.proofs.Worlds.{In, Single, part_at, part_off, in_there}

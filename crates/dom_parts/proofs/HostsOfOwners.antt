@@ -1,10 +1,8 @@
 -- The hosts of one owner among all hosts, and where a component stands among those of its maker.
-use Rattle.dom_base.proofs.Std.{◌≡◌, ℕ, suc, ◌+◌, ◌<◌, ◌≤◌, ◌⊎◌, Bool, true, false, List, [], ◌∷◌, ◌++◌, length, Some, sym, ap, subst, ◌∙◌, inl, inr, arith}
-use Rattle.dom_base.proofs.Std.{if◌then◌else◌, eq-or-lt_of_le, cases_Bool, length_push, append-nil, filter-append, same_Some}
-use Rattle.dom_model.proofs.Model.{NodeName, Owner, Page, owner_eq, MayAttach, component_made, made_by, owner_eq-same, owner_eq-true, made_by-made}
-use Rattle.dom_model.proofs.Model.{component_made-no_page}
-use Rattle.dom_slots.specs.Definitions.{ShadowHost}
-use Rattle.dom_parts.specs.Definitions.{maker_of, hosts_of, IsMadeAs, AreMadeBehind, host_owners}
+use Rattle.dom_parts.proofs.Cited.{◌≡◌, ℕ, suc, ◌+◌, ◌<◌, ◌≤◌, ◌⊎◌, Bool, true, false, List, [], ◌∷◌, ◌++◌, length, Some, sym, ap, subst, ◌∙◌, inl, inr, arith}
+use Rattle.dom_parts.proofs.Cited.{if◌then◌else◌, eq-or-lt_of_le, cases_Bool, length_push, append-nil, filter-append, same_Some, NodeName, Owner, Page}
+use Rattle.dom_parts.proofs.Cited.{owner_eq, MayAttach, component_made, made_by, owner_eq-same, owner_eq-true, made_by-made, component_made-no_page, ShadowHost}
+use Rattle.dom_parts.proofs.Cited.{maker_of, hosts_of, IsMadeAs, AreMadeBehind, host_owners}
 use Rattle.dom_parts.proofs.Worlds.{In, Single}
 
 -- where a component stands: who made it, and as which one, between the numbers of hosts

@@ -1,12 +1,7 @@
 -- Loops that join Texts to a first one, one after another.
-use Rattle.dom_base.proofs.Std.{◌≡◌, ℕ, suc, ◌+◌, ◌<◌, ◌≤◌, get_or, drop-cons, add-one, List, [], ◌∷◌, drop, length, map, refl, sym, ap, subst, ◌∙◌}
-use Rattle.dom_base.proofs.Std.{AllByRecursion}
-use Rattle.dom_model.proofs.Model.{NodeName, Owner, steps_of, join_at, part_step, joins, index_of, length_of, Part, part_of}
-use Rattle.dom_worlds.specs.Definitions.{HasBounds, IsPart}
-use Rattle.dom_tree.specs.Definitions.{name_at}
-use Rattle.dom_parts.specs.Definitions.{DocState, JoinsFit, IsOwnNode, name_in, owner_in, trees_in, stepped, planned, IsAlone}
-use Rattle.dom_worlds.proofs.RangeLemmas.{join_at-keeps}
-use Rattle.dom_laws.proofs.Laws.{all_drop}
+use Rattle.dom_parts.proofs.Cited.{◌≡◌, ℕ, suc, ◌+◌, ◌<◌, ◌≤◌, get_or, drop-cons, add-one, List, [], ◌∷◌, drop, length, map, refl, sym, ap, subst, ◌∙◌}
+use Rattle.dom_parts.proofs.Cited.{AllByRecursion, NodeName, Owner, steps_of, join_at, part_step, joins, index_of, length_of, Part, part_of, HasBounds, IsPart}
+use Rattle.dom_parts.proofs.Cited.{name_at, DocState, JoinsFit, IsOwnNode, name_in, owner_in, trees_in, stepped, planned, IsAlone, join_at-keeps, all_drop}
 use Rattle.dom_parts.proofs.Made.{alone_after}
 
 -- ---- joins

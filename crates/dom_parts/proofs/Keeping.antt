@@ -1,15 +1,10 @@
 -- What holds of owners' tables stays so when trees change.
-use Rattle.dom_base.proofs.Std.{◌≡◌, ◌≢◌, ℕ, zero, suc, ◌<◌, inl, inr, true, false, List, [], ◌∷◌, ◌++◌, length, map, refl, sym, ap, subst, ◌∙◌, arith}
-use Rattle.dom_base.proofs.Std.{slice_get, cases_Bool, length_push, none-some, same_Some, get_or-append}
-use Rattle.dom_model.proofs.Model.{NodeName, Owner, Page, node_of, Trees, Node, is_inclusive_ancestor, with_node, Iterator, Walker, adjusted_iterator}
-use Rattle.dom_tree.specs.Definitions.{NamedTrees, name_at, AreOwned, trees_of_owner}
-use Rattle.dom_tree.proofs.Owned.{stays_own}
-use Rattle.dom_traversal.specs.Definitions.{KeyedIterator, iterator_view, IsIteratorOf, HasLeft, with_taken_out, KeyedWalker, walker_view, KeyedTables}
-use Rattle.dom_traversal.specs.Definitions.{EachItem, IsLeft, AreLeft}
-use Rattle.dom_observers.specs.Definitions.{TablesOf, named_tables, IsKey, SpeaksOf}
-use Rattle.dom_observers.proofs.Speaking.{same_tables, speaks_more}
-use Rattle.dom_parts.specs.Definitions.{tables_with, tables_view, IsOwnIterator, IsOwnWalker, AreTablesOf, named_trees}
-use Rattle.dom_laws.proofs.Laws.{KeepsAbove, above_added}
+use Rattle.dom_parts.proofs.Cited.{◌≡◌, ◌≢◌, ℕ, zero, suc, ◌<◌, inl, inr, true, false, List, [], ◌∷◌, ◌++◌, length, map, refl, sym, ap, subst, ◌∙◌, arith}
+use Rattle.dom_parts.proofs.Cited.{slice_get, cases_Bool, length_push, none-some, same_Some, get_or-append, NodeName, Owner, Page, node_of, Trees, Node}
+use Rattle.dom_parts.proofs.Cited.{is_inclusive_ancestor, with_node, Iterator, Walker, adjusted_iterator, NamedTrees, name_at, AreOwned, trees_of_owner}
+use Rattle.dom_parts.proofs.Cited.{stays_own, KeyedIterator, iterator_view, IsIteratorOf, HasLeft, with_taken_out, KeyedWalker, walker_view, KeyedTables}
+use Rattle.dom_parts.proofs.Cited.{EachItem, IsLeft, AreLeft, TablesOf, named_tables, IsKey, SpeaksOf, same_tables, speaks_more, tables_with, tables_view}
+use Rattle.dom_parts.proofs.Cited.{IsOwnIterator, IsOwnWalker, AreTablesOf, named_trees, KeepsAbove, above_added}
 use Rattle.dom_parts.proofs.OwnNodes.{adjusted_own}
 
 -- ---- where nothing that stands above a node ceases to

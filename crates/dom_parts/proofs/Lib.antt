@@ -1,4 +1,5 @@
 -- Lemmas of what a `Doc` holds, and of the elementary steps.
+mod Cited
 mod Attachable
 mod Attached
 mod AttachedWorlds

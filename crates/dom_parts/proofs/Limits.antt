@@ -1,9 +1,8 @@
 -- No owner has more nodes than it may, and when there is no room for one more.
-use Rattle.dom_base.proofs.Std.{◌≡◌, ℕ, ◌+◌, ◌≤◌, inl, inr, true, false, List, sym, ap, subst, ◌∙◌, arith, ◌↔◌, cases_Bool, false_from_ne_true}
+use Rattle.dom_parts.proofs.Cited.{◌≡◌, ℕ, ◌+◌, ◌≤◌, inl, inr, true, false, List, sym, ap, subst, ◌∙◌, arith, ◌↔◌, cases_Bool, false_from_ne_true, NodeName}
+use Rattle.dom_parts.proofs.Cited.{Owner, Trees, part_of, is_there, Part, past_limit, NamedTrees, count_of, AllTables, DocState, contents, world_from}
+use Rattle.dom_parts.proofs.Cited.{state_from, IsDoc}
 use borrow.Author.Tests.{ltb-true}
-use Rattle.dom_model.proofs.Model.{NodeName, Owner, Trees, part_of, is_there, Part, past_limit}
-use Rattle.dom_tree.specs.Definitions.{NamedTrees, count_of}
-use Rattle.dom_parts.specs.Definitions.{AllTables, DocState, contents, world_from, state_from, IsDoc}
 use Rattle.dom_parts.proofs.Worlds.{part_at, part_off}
 
 pub limit_count : (n m : ℕ) → m ≡ n → n ≤ 1000000 → (n ≡ 1000000) ↔ (past_limit m 1 ≡ true)

@@ -1,8 +1,7 @@
 -- Plans made one after another in a world, by an owner whose own steps do in its part what they do in a part alone.
-use Rattle.dom_base.proofs.Std.{◌≡◌, List, [], ◌∷◌, ◌++◌, refl, sym, ap, subst, ◌∙◌, AllByRecursion}
-use Rattle.dom_model.proofs.Model.{Owner, Step, after, part_step, Part, World, part_of, world_after, Plan, ◌and_then◌, in_turn, owner-part_of}
-use Rattle.dom_tree.specs.Definitions.{AreOf}
-use Rattle.dom_parts.specs.Definitions.{DocState, made, planned, SetsOwnDocuments, IsOwnPart, PlansOwn, IsAlone}
+use Rattle.dom_parts.proofs.Cited.{◌≡◌, List, [], ◌∷◌, ◌++◌, refl, sym, ap, subst, ◌∙◌, AllByRecursion, Owner, Step, after, part_step, Part, World, part_of}
+use Rattle.dom_parts.proofs.Cited.{world_after, Plan, ◌and_then◌, in_turn, owner-part_of, AreOf, DocState, made, planned, SetsOwnDocuments, IsOwnPart, PlansOwn}
+use Rattle.dom_parts.proofs.Cited.{IsAlone}
 use Rattle.dom_parts.proofs.OwnSteps.{after_more, made_then_alone}
 use Rattle.dom_parts.proofs.OwnPlans.{all_own_both, own_after}
 

@@ -1,9 +1,7 @@
 -- The numbers of nodes: how many an owner has, and that each is below that count, where one comes.
-use Rattle.dom_base.proofs.Std.{◌≡◌, ℕ, ◌+◌, ◌≤◌, ◌<◌, ◌⊎◌, Bool, true, false, cond, List, [], ◌∷◌, ◌++◌, length, sym, ap, subst, ◌∙◌, inl, inr, arith}
-use Rattle.dom_base.proofs.Std.{eq-or-lt_of_le, zero-add, if◌then◌else◌, cond-true, cond-false, length_push, sum_by-append, get_or-append_seam, get_or-append}
-use Rattle.dom_model.proofs.Model.{NodeName, Owner, Page, owner_eq, node_of, owner_eq-same}
-use Rattle.dom_tree.specs.Definitions.{name_at, count_of}
-use Rattle.dom_parts.specs.Definitions.{AreNumbered}
+use Rattle.dom_parts.proofs.Cited.{◌≡◌, ℕ, ◌+◌, ◌≤◌, ◌<◌, ◌⊎◌, Bool, true, false, cond, List, [], ◌∷◌, ◌++◌, length, sym, ap, subst, ◌∙◌, inl, inr, arith}
+use Rattle.dom_parts.proofs.Cited.{eq-or-lt_of_le, zero-add, if◌then◌else◌, cond-true, cond-false, length_push, sum_by-append, get_or-append_seam}
+use Rattle.dom_parts.proofs.Cited.{get_or-append, NodeName, Owner, Page, owner_eq, node_of, owner_eq-same, name_at, count_of, AreNumbered}
 
 -- a choice of numbers
 pub pick_first : (b : Bool) (m k : ℕ) → b ≡ true → (if b then m else k) ≡ m

@@ -1,13 +1,11 @@
 -- One owner's observers change: what holds of all owners' then, and the world then.
-use Rattle.dom_base.proofs.Std.{◌≡◌, ◌≢◌, ℕ, inl, inr, true, false, true≢false, List, Option, Some, None, option_map, map, refl, sym, ap, subst, ◌∙◌, is_some}
-use Rattle.dom_base.proofs.Std.{slice_get, if◌then◌else◌, cases_Bool, cond-true, cond-false, slice_get-map}
-use Rattle.dom_model.proofs.Model.{NodeName, Owner, owner_eq, Trees, Command, effect, Value, Said, Part, part_of, with_part, is_there, Effect, owner_eq-same}
-use Rattle.dom_model.proofs.Model.{owner_eq-true, ne-owner_eq}
-use Rattle.dom_tree.specs.Definitions.{name_at, count_of, trees_of_owner}
-use Rattle.dom_traversal.specs.Definitions.{iterator_view, walker_view}
-use Rattle.dom_observers.specs.Definitions.{TablesOf, no_tables as no_observers, named_tables, named_change, IsKey, SpeaksOf}
-use Rattle.dom_ranges.specs.Definitions.{named_ranges, ranges_of}
-use Rattle.dom_parts.specs.Definitions.{part_with, tables_with, AllTables, with_observers, shown_tables, contents, world_from, IsDoc, MakesSaying, attached_of}
+use Rattle.dom_parts.proofs.Cited.{◌≡◌, ◌≢◌, ℕ, inl, inr, true, false, true≢false, List, Option, Some, None, option_map, map, refl, sym, ap, subst, ◌∙◌}
+use Rattle.dom_parts.proofs.Cited.{is_some, slice_get, if◌then◌else◌, cases_Bool, cond-true, cond-false, slice_get-map, NodeName, Owner, owner_eq, Trees}
+use Rattle.dom_parts.proofs.Cited.{Command, effect, Value, Said, Part, part_of, with_part, is_there, Effect, owner_eq-same, owner_eq-true, ne-owner_eq, name_at}
+use Rattle.dom_parts.proofs.Cited.{count_of, trees_of_owner, iterator_view, walker_view, TablesOf, named_tables, named_change, IsKey, SpeaksOf, named_ranges}
+use Rattle.dom_parts.proofs.Cited.{ranges_of, part_with, tables_with, AllTables, with_observers, shown_tables, contents, world_from, IsDoc, MakesSaying}
+use Rattle.dom_parts.proofs.Cited.{attached_of}
+use Rattle.dom_observers.specs.Definitions.{no_tables as no_observers}
 use Rattle.dom_parts.proofs.Worlds.{IsChangeOf, there_same, part_at, part_off, changed}
 use Rattle.dom_parts.proofs.DocInvariant.{held_observers, single_owners}
 

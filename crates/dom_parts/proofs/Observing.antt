@@ -1,18 +1,18 @@
 -- Calls that pass a command on to an owner's observers: what they ask, what holds after them, and that they do what the
 -- model says of the command.
-use Rattle.dom_base.proofs.Std.{◌≡◌, ℕ, ◌<◌, ◌⊎◌, inl, inr, Bool, true, false, true≢false, List, [], ◌∷◌, length, map, Result, Ok, Err, Option, Some, None}
-use Rattle.dom_base.proofs.Std.{option_map, unwrap_or, refl, sym, ap, subst, ◌∙◌, Vec, is_some, slice_get, nat_eq, nat_lt, IfOk, IfErr, OnOk, OnErr, ◌↔◌}
-use Rattle.dom_base.proofs.Std.{if◌then◌else◌, AllByRecursion, length-map, lt-ltb, slice_get-map, slice_get_within}
-use Rattle.dom_model.proofs.Model.{NodeName, Owner, Fault, Refused, Memory, TypeFault, Unknown, owner_eq, name_eq, node_of, Command, ObserveWords, own, effect}
-use Rattle.dom_model.proofs.Model.{Value, Said, Change, nothing, an_observer, a_count, recorded, Part, queue_of, notified, part_of, with_part, is_there, Effect}
-use Rattle.dom_tree.specs.Definitions.{NamedTrees, name_at, TellApart}
-use Rattle.dom_observers.specs.Definitions.{TablesOf, no_tables as no_observers, with_observer, observing, disconnected, emptied, notices as keyed_notices}
-use Rattle.dom_observers.specs.Definitions.{notified as keyed_notified, named_tables, named_change, IsKey, SpeaksOf, IsChangeAt, AreAll, change_of, notice_of}
-use Rattle.dom_observers.proofs.Naming.{making_law, observing_law, disconnected_law, emptied_law, notified_law, notices_law}
+use Rattle.dom_parts.proofs.Cited.{◌≡◌, ℕ, ◌<◌, ◌⊎◌, inl, inr, Bool, true, false, true≢false, List, [], ◌∷◌, length, map, Result, Ok, Err, Option, Some, None}
+use Rattle.dom_parts.proofs.Cited.{option_map, unwrap_or, refl, sym, ap, subst, ◌∙◌, Vec, is_some, slice_get, nat_eq, nat_lt, IfOk, IfErr, OnOk, OnErr, ◌↔◌}
+use Rattle.dom_parts.proofs.Cited.{if◌then◌else◌, AllByRecursion, length-map, lt-ltb, slice_get-map, slice_get_within, NodeName, Owner, Fault, Refused, Memory}
+use Rattle.dom_parts.proofs.Cited.{TypeFault, Unknown, owner_eq, name_eq, node_of, Command, ObserveWords, own, effect, Value, Said, Change, nothing}
+use Rattle.dom_parts.proofs.Cited.{an_observer, a_count, recorded, Part, queue_of, notified, part_of, with_part, is_there, Effect, NamedTrees, name_at}
+use Rattle.dom_parts.proofs.Cited.{TellApart, TablesOf, with_observer, observing, disconnected, emptied, named_tables, named_change, IsKey, SpeaksOf}
+use Rattle.dom_parts.proofs.Cited.{IsChangeAt, AreAll, change_of, notice_of, making_law, observing_law, disconnected_law, emptied_law, notified_law}
+use Rattle.dom_parts.proofs.Cited.{notices_law, speaks_none, speaks_made, speaks_observing, speaks_disconnected, speaks_emptied, speaks_notified, all_queued}
+use Rattle.dom_parts.proofs.Cited.{all_got, AllTables, with_observers, part_in, DocState, contents, owner_in, world_from, state_from, IsDoc, Makes, MakesSaying}
+use Rattle.dom_parts.proofs.Cited.{NamesNodes, notice_in, notices_of}
+use Rattle.dom_observers.specs.Definitions.{no_tables as no_observers, notices as keyed_notices}
+use Rattle.dom_observers.specs.Definitions.{notified as keyed_notified}
 use Rattle.dom_observers.specs.declared.change.Change.{Change as Record}
-use Rattle.dom_observers.proofs.Speaking.{speaks_none, speaks_made, speaks_observing, speaks_disconnected, speaks_emptied, speaks_notified, all_queued, all_got}
-use Rattle.dom_parts.specs.Definitions.{AllTables, with_observers, part_in, DocState, contents, owner_in, world_from, state_from, IsDoc, Makes, MakesSaying}
-use Rattle.dom_parts.specs.Definitions.{NamesNodes, notice_in, notices_of}
 use Rattle.dom_parts.proofs.DocInvariant.{held_observers}
 use Rattle.dom_parts.proofs.Worlds.{read_same}
 use Rattle.dom_parts.proofs.Observed.{with_seen, has_observer, there_observer, queues_in, part_seen, held_seen, makes_seen, seen_world}

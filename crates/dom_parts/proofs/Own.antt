@@ -1,8 +1,7 @@
 -- What cursors read of an owner's nodes in the trees of all owners is what they read in the owner's own trees.
-use Rattle.dom_base.proofs.Std.{◌≡◌, Bool, true, false, ◌&&◌, ◌||◌, List, [], ◌∷◌, ◌++◌, Option, Some, refl, ap, subst, ◌∙◌, inl, inr, filter, find, drop}
-use Rattle.dom_base.proofs.Std.{if◌then◌else◌, list_any, list_all, last_or, none-some, same_Some}
-use Rattle.dom_model.proofs.Model.{NodeName, name_eq, items_before, first_of, last_of}
-use Rattle.dom_laws.proofs.Laws.{In, Each}
+use Rattle.dom_parts.proofs.Cited.{◌≡◌, Bool, true, false, ◌&&◌, ◌||◌, List, [], ◌∷◌, ◌++◌, Option, Some, refl, ap, subst, ◌∙◌, inl, inr, filter, find, drop}
+use Rattle.dom_parts.proofs.Cited.{if◌then◌else◌, list_any, list_all, last_or, none-some, same_Some, NodeName, name_eq, items_before, first_of, last_of, In}
+use Rattle.dom_parts.proofs.Cited.{Each}
 
 -- ---- lists whose items two tests treat alike
 

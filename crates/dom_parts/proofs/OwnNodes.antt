@@ -1,15 +1,12 @@
 -- An owner's nodes, as cursors read them in the trees of all owners and in the owner's own.
-use Rattle.dom_base.proofs.Std.{◌≡◌, Bool, true, false, not, ◌&&◌, ◌||◌, List, [], ◌∷◌, ◌++◌, Option, Some, None, refl, sym, ap, ◌∙◌, filter, find, drop}
-use Rattle.dom_base.proofs.Std.{is_none, if◌then◌else◌, unwrap_or, option_map_or, list_any, list_all, none-some}
-use Rattle.dom_model.proofs.Model.{NodeName, Owner, Verdict, Skip, Move, Parent, First, Last, Next, Previous, NextSibling, PreviousSibling, name_eq, is_in}
-use Rattle.dom_model.proofs.Model.{items_before, items_after, first_of, last_of, Trees, parent_of, children_of, siblings, next_sibling, previous_sibling}
-use Rattle.dom_model.proofs.Model.{inclusive_ancestors, inclusive_descendants, ancestors, is_inclusive_ancestor, Iterator, moved_to, adjusted_iterator}
-use Rattle.dom_model.proofs.Model.{answer_at, verdict_at, is_shown, is_skip, is_reject, accepts, skips, rejects, between, Walker, walker_parent}
-use Rattle.dom_model.proofs.Model.{walker_children, walker_nodes, walker_siblings, sibling_top, walker_step, walker_move, nodes_ahead, nodes_passed}
-use Rattle.dom_model.proofs.Model.{iterator_next_node, iterator_previous_node, Filter}
-use Rattle.dom_tree.specs.Definitions.{AreOwned, trees_of_owner}
-use Rattle.dom_tree.proofs.Owned.{read_own, stays_own}
-use Rattle.dom_laws.proofs.Laws.{In, is_in-from, after-in, Each, each_all, behind_all}
+use Rattle.dom_parts.proofs.Cited.{◌≡◌, Bool, true, false, not, ◌&&◌, ◌||◌, List, [], ◌∷◌, ◌++◌, Option, Some, None, refl, sym, ap, ◌∙◌, filter, find, drop}
+use Rattle.dom_parts.proofs.Cited.{is_none, if◌then◌else◌, unwrap_or, option_map_or, list_any, list_all, none-some, NodeName, Owner, Verdict, Skip, Move}
+use Rattle.dom_parts.proofs.Cited.{Parent, First, Last, Next, Previous, NextSibling, PreviousSibling, name_eq, is_in, items_before, items_after, first_of}
+use Rattle.dom_parts.proofs.Cited.{last_of, Trees, parent_of, children_of, siblings, next_sibling, previous_sibling, inclusive_ancestors, inclusive_descendants}
+use Rattle.dom_parts.proofs.Cited.{ancestors, is_inclusive_ancestor, Iterator, moved_to, adjusted_iterator, answer_at, verdict_at, is_shown, is_skip, is_reject}
+use Rattle.dom_parts.proofs.Cited.{accepts, skips, rejects, between, Walker, walker_parent, walker_children, walker_nodes, walker_siblings, sibling_top}
+use Rattle.dom_parts.proofs.Cited.{walker_step, walker_move, nodes_ahead, nodes_passed, iterator_next_node, iterator_previous_node, Filter, AreOwned}
+use Rattle.dom_parts.proofs.Cited.{trees_of_owner, read_own, stays_own, In, is_in-from, after-in, Each, each_all, behind_all}
 use Rattle.dom_parts.proofs.Own.{filter_same, each_in, each_before, each_append, each_drop, all_same, any_same, find_same, each_filter, each_first}
 use Rattle.dom_parts.proofs.Own.{each_last, each_find}
 

@@ -1,16 +1,11 @@
 -- Each owner's part of what is held is a part as every reached world has them: its nodes are its own, numbered below their count,
 -- each once; and no node of it has more children than it has nodes.
-use Rattle.dom_base.proofs.Std.{◌≡◌, ℕ, zero, suc, ◌+◌, ◌≤◌, ◌<◌, ◌⊎◌, true, length, Some, refl, sym, ap, subst, ◌∙◌, inl, inr, arith, eq-or-lt_of_le}
-use Rattle.dom_base.proofs.Std.{slice_get, count_by, if◌then◌else◌, cases_Bool}
-use Rattle.dom_model.proofs.Model.{NodeName, Owner, name_eq, node_of, Part, Trees, none, tree, Node, nodes, has_node, children_of, times_in, name_eq-same}
-use Rattle.dom_model.proofs.Model.{name_eq-true}
-use Rattle.dom_worlds.specs.Definitions.{IsPart}
-use Rattle.dom_worlds.proofs.TreeLemmas.{times-has_node, kids, kids-absent, rooted, length-children}
-use Rattle.dom_tree.specs.Definitions.{name_at, count_of, AreOf, AreOwned, trees_of_owner}
-use Rattle.dom_tree.proofs.Owned.{own_trees}
-use Rattle.dom_parts.specs.Definitions.{Contents, part_in, AreNumbered}
+use Rattle.dom_parts.proofs.Cited.{◌≡◌, ℕ, zero, suc, ◌+◌, ◌≤◌, ◌<◌, ◌⊎◌, true, length, Some, refl, sym, ap, subst, ◌∙◌, inl, inr, arith, eq-or-lt_of_le}
+use Rattle.dom_parts.proofs.Cited.{slice_get, count_by, if◌then◌else◌, cases_Bool, NodeName, Owner, name_eq, node_of, Part, Trees, none, tree, Node, nodes}
+use Rattle.dom_parts.proofs.Cited.{has_node, children_of, times_in, name_eq-same, name_eq-true, IsPart, times-has_node, kids, kids-absent, rooted}
+use Rattle.dom_parts.proofs.Cited.{length-children, name_at, count_of, AreOf, AreOwned, trees_of_owner, own_trees, Contents, part_in, AreNumbered, name_found}
+use Rattle.dom_parts.proofs.Cited.{Once-forest, once_own, times_own}
 use Rattle.dom_parts.proofs.Numbers.{pick_first, pick_second}
-use Rattle.dom_tree.proofs.Standing.{name_found, Once-forest, once_own, times_own}
 
 -- ---- an owner's part
 

@@ -1,14 +1,13 @@
 -- The plans of changes set the node documents of their owner's nodes alone.
-use Rattle.dom_base.proofs.Std.{◌≡◌, ℕ, Bool, true, false, not, List, [], ◌∷◌, ◌++◌, Option, Some, None, drop, length, flat_map, ◌+◌, ◌-◌, ◌∙◌, if◌then◌else◌}
-use Rattle.dom_base.proofs.Std.{◌==◌, AllByRecursion, option_map_or}
-use Rattle.dom_model.proofs.Model.{NodeName, Owner, DomString, is_empty, Trees, roots, names_of, node_in, children_of, kind_of, is_fragment, length_of}
-use Rattle.dom_model.proofs.Model.{index_of, next_sibling, parent_of, subtree, trees_below, none, tree, Change, child_list, Part, next_name, Step, make}
-use Rattle.dom_model.proofs.Model.{make_room, place, set_document, queue_record, split_at, part_step, after, Plan, ◌and_then◌, in_turn, doing, steps_of}
-use Rattle.dom_model.proofs.Model.{Observing, observed, suppressed, telling, remove_plan, removing_from, document_below, has_document, changing_document}
-use Rattle.dom_model.proofs.Model.{adopt_plan, placed_nodes, emptying, making_room, placing, sibling_before, inserting_nodes, insert_plan, replacing_data}
-use Rattle.dom_model.proofs.Model.{new_text_node, placing_tail, splitting, joins, joining, contiguous_texts_after, normalizing_text, owner-part_step}
-use Rattle.dom_tree.specs.Definitions.{AreOf}
-use Rattle.dom_parts.specs.Definitions.{SetsOwnDocuments, IsOwnPart, PlansOwn}
+use Rattle.dom_parts.proofs.Cited.{◌≡◌, ℕ, Bool, true, false, not, List, [], ◌∷◌, ◌++◌, Option, Some, None, drop, length, flat_map, ◌+◌, ◌-◌, ◌∙◌}
+use Rattle.dom_parts.proofs.Cited.{if◌then◌else◌, ◌==◌, AllByRecursion, option_map_or, NodeName, Owner, DomString, is_empty, Trees, roots, names_of, node_in}
+use Rattle.dom_parts.proofs.Cited.{children_of, kind_of, is_fragment, length_of, index_of, next_sibling, parent_of, subtree, trees_below, none, tree, Change}
+use Rattle.dom_parts.proofs.Cited.{child_list, Part, Step, make, make_room, place, set_document, queue_record, split_at, part_step, after, Plan, ◌and_then◌}
+use Rattle.dom_parts.proofs.Cited.{in_turn, doing, steps_of, Observing, observed, suppressed, telling, remove_plan, removing_from, document_below, has_document}
+use Rattle.dom_parts.proofs.Cited.{changing_document, adopt_plan, placed_nodes, emptying, making_room, placing, sibling_before, inserting_nodes, insert_plan}
+use Rattle.dom_parts.proofs.Cited.{replacing_data, new_text_node, placing_tail, splitting, joins, joining, contiguous_texts_after, normalizing_text}
+use Rattle.dom_parts.proofs.Cited.{owner-part_step, AreOf, SetsOwnDocuments, IsOwnPart, PlansOwn}
+use Rattle.dom_model.proofs.Model.{next_name}
 use Rattle.dom_parts.proofs.OwnSteps.{own_step, own_subtree}
 
 module _ (o : Owner) where

@@ -1,13 +1,11 @@
 -- An owner's steps do in its own part what they do in a part alone, where they set the node documents of its own nodes.
-use Rattle.dom_base.proofs.Std.{◌≡◌, Bool, true, false, List, [], ◌∷◌, ◌++◌, Option, Some, None, refl, sym, ap, ◌∙◌, if◌then◌else◌, AllByRecursion}
-use Rattle.dom_base.proofs.Std.{option_map_or}
-use Rattle.dom_model.proofs.Model.{NodeName, Owner, name_eq, is_in, Trees, none, tree, Node, subtree, parent_of, inclusive_descendants, with_name, with_node}
-use Rattle.dom_model.proofs.Model.{placed, taken_out, map_nodes, with_document, with_attribute, with_data_replaced, Plan, ◌and_then◌, Part, next_name, Step}
-use Rattle.dom_model.proofs.Model.{make, make_room, place, take_out, set_document, set_attribute, replace_data, split_at, join_at, set_range, queue_record}
-use Rattle.dom_model.proofs.Model.{part_step, after, leave, World, part_of, world_step, world_after, owner-part_of, part_of-own_step}
-use Rattle.dom_worlds.proofs.WorldLemmas.{Ground, ground-world_step, part-own_step}
-use Rattle.dom_tree.specs.Definitions.{AreOf}
-use Rattle.dom_parts.specs.Definitions.{made, SetsOwnDocuments}
+use Rattle.dom_parts.proofs.Cited.{◌≡◌, Bool, true, false, List, [], ◌∷◌, ◌++◌, Option, Some, None, refl, sym, ap, ◌∙◌, if◌then◌else◌, AllByRecursion}
+use Rattle.dom_parts.proofs.Cited.{option_map_or, NodeName, Owner, name_eq, is_in, Trees, none, tree, Node, subtree, parent_of, inclusive_descendants}
+use Rattle.dom_parts.proofs.Cited.{with_name, with_node, placed, taken_out, map_nodes, with_document, with_attribute, with_data_replaced, Plan, ◌and_then◌}
+use Rattle.dom_parts.proofs.Cited.{Part, Step, make, make_room, place, take_out, set_document, set_attribute, replace_data, split_at, join_at, set_range}
+use Rattle.dom_parts.proofs.Cited.{queue_record, part_step, after, leave, World, part_of, world_step, world_after, owner-part_of, part_of-own_step, Ground}
+use Rattle.dom_parts.proofs.Cited.{ground-world_step, part-own_step, AreOf, made, SetsOwnDocuments}
+use Rattle.dom_model.proofs.Model.{next_name}
 use Rattle.dom_parts.proofs.EveryNode.{EachNode, each_subtree, each_placed, each_taken, each_put_root, each_mapped}
 
 -- ---- a step keeps nodes an owner's

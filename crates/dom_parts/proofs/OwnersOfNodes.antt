@@ -1,8 +1,6 @@
 -- Whoever has nodes is there, and the page.
-use Rattle.dom_base.proofs.Std.{◌≡◌, ◌≢◌, ◌<◌, Bool, true, false, inl, inr, [], ◌∷◌, sym, ap, subst, refl, ◌∙◌, arith, nat_lt, lt-ltb, le-ltb}
-use Rattle.dom_model.proofs.Model.{Owner, Page, is_there}
-use Rattle.dom_tree.specs.Definitions.{NamedTrees, count_of}
-use Rattle.dom_parts.specs.Definitions.{AllTables, DocState, contents, world_from, state_from, IsDoc, host_owners}
+use Rattle.dom_parts.proofs.Cited.{◌≡◌, ◌≢◌, ◌<◌, Bool, true, false, inl, inr, [], ◌∷◌, sym, ap, subst, refl, ◌∙◌, arith, nat_lt, lt-ltb, le-ltb, Owner, Page}
+use Rattle.dom_parts.proofs.Cited.{is_there, NamedTrees, count_of, AllTables, DocState, contents, world_from, state_from, IsDoc, host_owners}
 use Rattle.dom_parts.proofs.Attachable.{owner_node}
 use Rattle.dom_parts.proofs.AttachedWorlds.{count_none}
 use Rattle.dom_parts.proofs.DocInvariant.{are_hosts}

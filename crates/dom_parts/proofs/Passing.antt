@@ -1,16 +1,12 @@
 -- Calls that pass a command on to an owner's tables: what they ask, what holds after them, and that they do what the model
 -- says of the command.
-use Rattle.dom_base.proofs.Std.{◌≡◌, ◌≢◌, ℕ, ◌<◌, ◌≤◌, Bool, true, List, [], ◌∷◌, ◌++◌, length, Option, Some, None, Result, Ok, Err, option_map, refl, sym, ap}
-use Rattle.dom_base.proofs.Std.{subst, ◌∙◌, arith, is_some, slice_get, slice_set, IfOk, OnOk, OnErr, ◌↔◌, on_err_weaker, length-set, length-map, length_push}
-use Rattle.dom_model.proofs.Model.{Fault, Refused, Limit, NodeName, Owner, Move, Command, Filter, own, effect, Iterator, Walker, walker_move, Value}
-use Rattle.dom_model.proofs.Model.{an_iterator, a_walker, past_limit, part_of, is_there, Effect, node_or_null}
-use Rattle.dom_tree.specs.Definitions.{NamedTrees, name_at, AreOwned}
-use Rattle.dom_traversal.specs.Definitions.{KeyedIterator, IsIteratorOf, iterator_view, iterator_at, KeyedWalker, IsWalkerOf, walker_view, walker_at}
-use Rattle.dom_traversal.specs.Definitions.{KeyedTables, EachItem, with_cursors}
-use Rattle.dom_tree.proofs.Standing.{StandOnce}
-use Rattle.dom_laws.proofs.Laws.{above-itself, was_some}
-use Rattle.dom_parts.specs.Definitions.{IsOwnIterator, IsOwnWalker, AreTablesOf, AllTables, MovesTo, DocState, owner_in, world_from, state_from, IsDoc, Makes}
-use Rattle.dom_traversal.proofs.Items.{set_items, push_items}
+use Rattle.dom_parts.proofs.Cited.{◌≡◌, ◌≢◌, ℕ, ◌<◌, ◌≤◌, Bool, true, List, [], ◌∷◌, ◌++◌, length, Option, Some, None, Result, Ok, Err, option_map, refl, sym}
+use Rattle.dom_parts.proofs.Cited.{ap, subst, ◌∙◌, arith, is_some, slice_get, slice_set, IfOk, OnOk, OnErr, ◌↔◌, on_err_weaker, length-set, length-map}
+use Rattle.dom_parts.proofs.Cited.{length_push, Fault, Refused, Limit, NodeName, Owner, Move, Command, Filter, own, effect, Iterator, Walker, walker_move}
+use Rattle.dom_parts.proofs.Cited.{Value, an_iterator, a_walker, past_limit, part_of, is_there, Effect, node_or_null, NamedTrees, name_at, AreOwned}
+use Rattle.dom_parts.proofs.Cited.{KeyedIterator, IsIteratorOf, iterator_view, iterator_at, KeyedWalker, IsWalkerOf, walker_view, walker_at, KeyedTables}
+use Rattle.dom_parts.proofs.Cited.{EachItem, with_cursors, StandOnce, above-itself, was_some, IsOwnIterator, IsOwnWalker, AreTablesOf, AllTables, MovesTo}
+use Rattle.dom_parts.proofs.Cited.{DocState, owner_in, world_from, state_from, IsDoc, Makes, set_items, push_items}
 use Rattle.dom_parts.proofs.OwnNodes.{moved_own}
 use Rattle.dom_parts.proofs.Limits.{limit_count}
 use Rattle.dom_parts.proofs.Cursors.{iterators_in, walkers_in, iterator_effect_new, walker_effect_new, has_iterator, has_walker, there_iterator}

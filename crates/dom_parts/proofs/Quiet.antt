@@ -1,7 +1,7 @@
 -- Where there are no registrations no record is taken.
-use Rattle.dom_base.proofs.Std.{◌≡◌, ℕ, false, not, List, [], ◌∷◌, ◌++◌, map, filter, fold, ap, ◌∙◌, slice_set, nat_eq}
-use Rattle.dom_model.proofs.Model.{NodeName, name_eq, distinct, append_once, is_empty, inclusive_ancestors, Registration, target_of, fits, interested, Change}
-use Rattle.dom_model.proofs.Model.{Part, queue_of, queue_record, part_step, interested_in, is_taken, record_in, registrations_none}
+use Rattle.dom_parts.proofs.Cited.{◌≡◌, ℕ, false, not, List, [], ◌∷◌, ◌++◌, map, filter, fold, ap, ◌∙◌, slice_set, nat_eq, NodeName, name_eq, distinct}
+use Rattle.dom_parts.proofs.Cited.{append_once, is_empty, inclusive_ancestors, Registration, target_of, fits, interested, Change, Part, queue_of, queue_record}
+use Rattle.dom_parts.proofs.Cited.{part_step, interested_in, is_taken, record_in, registrations_none}
 
 -- no observer is interested
 none_interested : (p : Part) → p.registrations ≡ [] → (c : Change NodeName) → interested_in p c ≡ []

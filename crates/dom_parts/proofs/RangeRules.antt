@@ -1,9 +1,7 @@
 -- Each rule for boundary points rewrites those of the owner of the changed nodes alone.
-use Rattle.dom_base.proofs.Std.{◌≡◌, ◌≢◌, ℕ, ◌+◌, ◌-◌, Bool, true, false, not, cond, ◌&&◌, ◌||◌, eqb, nat_lt, nat_le, sym, ap, ◌∙◌}
-use Rattle.dom_model.proofs.Model.{NodeName, Owner, name_eq, Trees, is_inclusive_ancestor, Boundary, at, boundary_eq, after_insert, after_removal}
-use Rattle.dom_model.proofs.Model.{after_replace_data, after_split, after_join, name_eq-other}
-use Rattle.dom_tree.specs.Definitions.{AreOwned}
-use Rattle.dom_parts.specs.Definitions.{IsRuleOf}
+use Rattle.dom_parts.proofs.Cited.{◌≡◌, ◌≢◌, ℕ, ◌+◌, ◌-◌, Bool, true, false, not, cond, ◌&&◌, ◌||◌, eqb, nat_lt, nat_le, sym, ap, ◌∙◌, NodeName, Owner, name_eq}
+use Rattle.dom_parts.proofs.Cited.{Trees, is_inclusive_ancestor, Boundary, at, boundary_eq, after_insert, after_removal, after_replace_data, after_split}
+use Rattle.dom_parts.proofs.Cited.{after_join, name_eq-other, AreOwned, IsRuleOf}
 use Rattle.dom_parts.proofs.Keeping.{apart_above}
 
 -- nodes of different owners are different

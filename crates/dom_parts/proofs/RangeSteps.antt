@@ -1,12 +1,9 @@
 -- The step that gives a live range its ends.
-use Rattle.dom_base.proofs.Std.{◌≡◌, ℕ, ◌<◌, ◌^◌, true, length, List, Option, Some, None, is_some, refl, sym, ap, subst, ◌∙◌, slice_get, slice_set, option_map}
-use Rattle.dom_base.proofs.Std.{option_flatten}
-use Rattle.dom_model.proofs.Model.{NodeName, Owner, Part, range_at, Boundary, Range, set_range, World, part_of, with_part, is_there}
-use Rattle.dom_ranges.specs.Definitions.{named_range, named_ranges, RangeList, RangeLists, EachRange, BothEnds, ranges_of, range_in, with_ranges}
-use Rattle.dom_ranges.proofs.Naming.{rewritten-named}
-use Rattle.dom_tree.specs.Definitions.{NamedTrees}
-use Rattle.dom_parts.specs.Definitions.{Contents, part_in, DocState, contents, world_from, state_from, IsDoc, owner_in, stepped, AllTables, with_live}
-use Rattle.dom_parts.specs.Definitions.{IsOwnPoint, ranged}
+use Rattle.dom_parts.proofs.Cited.{◌≡◌, ℕ, ◌<◌, ◌^◌, true, length, List, Option, Some, None, is_some, refl, sym, ap, subst, ◌∙◌, slice_get, slice_set}
+use Rattle.dom_parts.proofs.Cited.{option_map, option_flatten, NodeName, Owner, Part, range_at, Boundary, Range, set_range, World, part_of, with_part, is_there}
+use Rattle.dom_parts.proofs.Cited.{named_range, named_ranges, RangeList, RangeLists, EachRange, BothEnds, ranges_of, range_in, with_ranges, rewritten-named}
+use Rattle.dom_parts.proofs.Cited.{NamedTrees, Contents, part_in, DocState, contents, world_from, state_from, IsDoc, owner_in, stepped, AllTables, with_live}
+use Rattle.dom_parts.proofs.Cited.{IsOwnPoint, ranged}
 use Rattle.dom_parts.proofs.DocInvariant.{single_owners}
 use Rattle.dom_parts.proofs.RangedCalls.{set_change, rewritten_own, written_few}
 use Rattle.dom_parts.proofs.RangedPassing.{range_is, there_range, live_held}

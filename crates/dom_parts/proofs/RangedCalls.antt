@@ -1,19 +1,14 @@
 -- What the commands on ranges do to what is held: a range more, one that is dropped, and one with other ends.
-use Rattle.dom_base.proofs.Std.{◌≡◌, ◌≢◌, ℕ, ◌+◌, ◌≤◌, ◌<◌, Bool, true, false, cond, List, [], ◌∷◌, ◌++◌, length, Option, Some, None, refl, sym, ap, subst, ◌∙◌}
-use Rattle.dom_base.proofs.Std.{inl, inr, arith, true≢false, slice_get, slice_set, option_map, option_flatten, option_map_or, cases_Bool, ltb-false, length-map}
-use Rattle.dom_base.proofs.Std.{length-set, length_push, slice_get-map}
-use Rattle.dom_model.proofs.Model.{NodeName, Owner, Command, NodeWord, effect, past_limit, Effect, changes_range, collapsed_to, both_at, owner_eq, node_of}
-use Rattle.dom_model.proofs.Model.{Value, nothing, a_range, boundaries, range_at, Boundary, Trees, Range, at, from_to, with_start, with_end, part_of, with_part}
-use Rattle.dom_model.proofs.Model.{is_there, owner_eq-same, owner_eq-true, owner_eq-false, ne-owner_eq}
-use Rattle.dom_ranges.specs.Definitions.{named_boundary, named_range, named_ranges, start_set, end_set, RangeList, RangeLists, EachRange, BothEnds, ranges_of}
-use Rattle.dom_ranges.specs.Definitions.{range_in, with_ranges, collapsed_range}
-use Rattle.dom_ranges.proofs.Naming.{made-named, removed-named, rewritten-named, start-named, end-named}
-use Rattle.dom_ranges.proofs.EndsAfterCalls.{stand-made, stand-cleared, stand-at, stand-rewritten}
-use Rattle.dom_tree.proofs.Standing.{StandOnce, StandAlone, Once-forest, Has-forest}
-use Rattle.dom_laws.proofs.Laws.{Once}
-use Rattle.dom_tree.specs.Definitions.{NamedTrees, name_at, AreOwned, trees_of_owner}
-use Rattle.dom_parts.specs.Definitions.{Contents, part_in, world_of, Makes, named_trees, IsOwnPoint, AreRangesOf, ranged}
-use Rattle.dom_ranges.proofs.OwnOrder.{IsOwnIn, with_start-own, with_end-own}
+use Rattle.dom_parts.proofs.Cited.{◌≡◌, ◌≢◌, ℕ, ◌+◌, ◌≤◌, ◌<◌, Bool, true, false, cond, List, [], ◌∷◌, ◌++◌, length, Option, Some, None, refl, sym, ap, subst}
+use Rattle.dom_parts.proofs.Cited.{◌∙◌, inl, inr, arith, true≢false, slice_get, slice_set, option_map, option_flatten, option_map_or, cases_Bool, ltb-false}
+use Rattle.dom_parts.proofs.Cited.{length-map, length-set, length_push, slice_get-map, NodeName, Owner, Command, NodeWord, effect, past_limit, Effect}
+use Rattle.dom_parts.proofs.Cited.{changes_range, collapsed_to, both_at, owner_eq, node_of, Value, nothing, a_range, boundaries, range_at, Boundary, Trees}
+use Rattle.dom_parts.proofs.Cited.{Range, at, from_to, with_start, with_end, part_of, with_part, is_there, owner_eq-same, owner_eq-true, owner_eq-false}
+use Rattle.dom_parts.proofs.Cited.{ne-owner_eq, named_boundary, named_range, named_ranges, start_set, end_set, RangeList, RangeLists, EachRange, BothEnds}
+use Rattle.dom_parts.proofs.Cited.{ranges_of, range_in, with_ranges, collapsed_range, made-named, removed-named, rewritten-named, start-named, end-named}
+use Rattle.dom_parts.proofs.Cited.{stand-made, stand-cleared, stand-at, stand-rewritten, StandOnce, StandAlone, Once-forest, Has-forest, Once, NamedTrees}
+use Rattle.dom_parts.proofs.Cited.{name_at, AreOwned, trees_of_owner, Contents, part_in, world_of, Makes, named_trees, IsOwnPoint, AreRangesOf, ranged, IsOwnIn}
+use Rattle.dom_parts.proofs.Cited.{with_start-own, with_end-own}
 use Rattle.dom_parts.proofs.Worlds.{Single, IsChangeOf, part_at, there_same, changed}
 
 -- ---- an owner's list is another one

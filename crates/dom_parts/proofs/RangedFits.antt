@@ -1,15 +1,11 @@
 -- Where offsets are within their nodes' lengths, each step that tells the table of ranges leaves offsets that are numbers of the
 -- code's: only the lengths of the nodes that the step names are asked for.
-use Rattle.dom_base.proofs.Std.{◌≡◌, ℕ, zero, suc, ◌+◌, ◌-◌, ◌<◌, ◌≤◌, ◌^◌, Bool, true, false, not, cond, ◌&&◌, ◌||◌, eqb, nat_lt, nat_le, List, [], ◌∷◌}
-use Rattle.dom_base.proofs.Std.{Option, Some, refl, sym, ap, subst, ◌∙◌, inl, inr, arith, slice_get, nat_eq, option_map, AllByRecursion, cases_Bool, and_parts}
-use Rattle.dom_base.proofs.Std.{eqb-true, same_Some}
-use Rattle.dom_model.proofs.Model.{NodeName, Owner, owner_eq, Boundary, Range, at, boundary_eq, after_insert, after_removal, after_replace_data, after_split}
-use Rattle.dom_model.proofs.Model.{after_join, length_of, owner_eq-true, owner_eq-false}
-use Rattle.dom_worlds.specs.Definitions.{EndsWithin, HasBounds}
-use Rattle.dom_ranges.specs.Definitions.{Fits, named_range, named_ranges, RangeList, RangeLists, EachRange, BothEnds, ranges_of}
-use Rattle.dom_ranges.proofs.EndsAfterCalls.{EachRange-weaker, fits-split}
-use Rattle.dom_tree.specs.Definitions.{name_at}
-use Rattle.dom_parts.specs.Definitions.{Contents, part_in, IsOwnPoint, AreRangesOf}
+use Rattle.dom_parts.proofs.Cited.{◌≡◌, ℕ, zero, suc, ◌+◌, ◌-◌, ◌<◌, ◌≤◌, ◌^◌, Bool, true, false, not, cond, ◌&&◌, ◌||◌, eqb, nat_lt, nat_le, List, [], ◌∷◌}
+use Rattle.dom_parts.proofs.Cited.{Option, Some, refl, sym, ap, subst, ◌∙◌, inl, inr, arith, slice_get, nat_eq, option_map, AllByRecursion, cases_Bool}
+use Rattle.dom_parts.proofs.Cited.{and_parts, eqb-true, same_Some, NodeName, Owner, owner_eq, Boundary, Range, at, boundary_eq, after_insert, after_removal}
+use Rattle.dom_parts.proofs.Cited.{after_replace_data, after_split, after_join, length_of, owner_eq-true, owner_eq-false, EndsWithin, HasBounds, Fits}
+use Rattle.dom_parts.proofs.Cited.{named_range, named_ranges, RangeList, RangeLists, EachRange, BothEnds, ranges_of, EachRange-weaker, fits-split, name_at}
+use Rattle.dom_parts.proofs.Cited.{Contents, part_in, IsOwnPoint, AreRangesOf}
 use Rattle.dom_parts.proofs.RangedLists.{each_both}
 
 -- what holds of all ranges by names holds of those over keys

@@ -1,10 +1,6 @@
 -- What is held keeps its table of ranges where names are added, and where nothing of the ranges changes.
-use Rattle.dom_base.proofs.Std.{◌≡◌, ℕ, List, [], ◌∷◌, ◌++◌, sym, ap, subst, ◌∙◌, arith}
-use Rattle.dom_model.proofs.Model.{NodeName, Owner, Boundary}
-use Rattle.dom_ranges.specs.Definitions.{named_ranges, RangeLists, ranges_of}
-use Rattle.dom_ranges.proofs.Naming.{grown-named}
-use Rattle.dom_ranges.proofs.EndsAfterCalls.{EachRange-weaker}
-use Rattle.dom_parts.specs.Definitions.{Contents, IsOwnPoint, AreOwnRanges, AreRangesOf}
+use Rattle.dom_parts.proofs.Cited.{◌≡◌, ℕ, List, [], ◌∷◌, ◌++◌, sym, ap, subst, ◌∙◌, arith, NodeName, Owner, Boundary, named_ranges, RangeLists, ranges_of}
+use Rattle.dom_parts.proofs.Cited.{grown-named, EachRange-weaker, Contents, IsOwnPoint, AreOwnRanges, AreRangesOf}
 use Rattle.dom_parts.proofs.HostedSteps.{KeepsNames, names_pushed}
 use Rattle.dom_parts.proofs.RangedLists.{own_at_nodes}
 use Rattle.dom_parts.proofs.Worlds.{there_same}

@@ -1,14 +1,10 @@
 -- A rule that rewrites one owner's boundary points, over the lists of all owners: by names the owner's ranges are rewritten,
 -- the others' stay, and all ends stay at nodes of their owners.
-use Rattle.dom_base.proofs.Std.{◌≡◌, ◌≢◌, ℕ, zero, suc, List, [], ◌∷◌, length, Option, Some, None, option_map, refl, sym, ap, subst, ◌∙◌, inl, inr, cases_Bool}
-use Rattle.dom_base.proofs.Std.{length-map, same_Some}
-use Rattle.dom_model.proofs.Model.{NodeName, Owner, owner_eq, Boundary, Range, from_to, map_ends, owner_eq-true, owner_eq-false}
-use Rattle.dom_ranges.specs.Definitions.{StandAtNodes, IsNamedRule, KeepsNodes, named_ends_by, Fits, IsAtNode, named_boundary, named_range, named_ranges}
-use Rattle.dom_ranges.specs.Definitions.{RangeList, RangeLists, EachRange, BothEnds, ends_by, ranges_of}
-use Rattle.dom_ranges.proofs.Lists.{cons_same}
-use Rattle.dom_ranges.proofs.Naming.{EachRange-ends}
-use Rattle.dom_ranges.proofs.EndsAfterCalls.{EachRange-weaker}
-use Rattle.dom_parts.specs.Definitions.{IsOwnPoint, AreOwnRanges, IsRuleOf}
+use Rattle.dom_parts.proofs.Cited.{◌≡◌, ◌≢◌, ℕ, zero, suc, List, [], ◌∷◌, length, Option, Some, None, option_map, refl, sym, ap, subst, ◌∙◌, inl, inr}
+use Rattle.dom_parts.proofs.Cited.{cases_Bool, length-map, same_Some, NodeName, Owner, owner_eq, Boundary, Range, from_to, map_ends, owner_eq-true}
+use Rattle.dom_parts.proofs.Cited.{owner_eq-false, StandAtNodes, IsNamedRule, KeepsNodes, named_ends_by, Fits, IsAtNode, named_boundary, named_range}
+use Rattle.dom_parts.proofs.Cited.{named_ranges, RangeList, RangeLists, EachRange, BothEnds, ends_by, ranges_of, cons_same, EachRange-ends, EachRange-weaker}
+use Rattle.dom_parts.proofs.Cited.{IsOwnPoint, AreOwnRanges, IsRuleOf}
 
 -- ---- lists
 

@@ -1,9 +1,7 @@
 -- The table of ranges where owners come: of the first one there are no ranges, and a new component has none.
-use Rattle.dom_base.proofs.Std.{◌≡◌, ℕ, true, false, List, [], ◌∷◌, ◌++◌, length, Option, sym, ap, subst, ◌∙◌, ◌⊎◌, inl, inr, true≢false, arith, cases_Bool}
-use Rattle.dom_base.proofs.Std.{false_from_ne_true}
-use Rattle.dom_model.proofs.Model.{NodeName, Owner, owner_eq, Range, is_there, shadow_root_of, owner_eq-true, owner_eq-false}
-use Rattle.dom_ranges.specs.Definitions.{named_ranges, RangeLists, EachRange, BothEnds, ranges_of}
-use Rattle.dom_parts.specs.Definitions.{Contents, Tables, world_of, IsAttached, IsOwnPoint, AreOwnRanges, AreRangesOf}
+use Rattle.dom_parts.proofs.Cited.{◌≡◌, ℕ, true, false, List, [], ◌∷◌, ◌++◌, length, Option, sym, ap, subst, ◌∙◌, ◌⊎◌, inl, inr, true≢false, arith, cases_Bool}
+use Rattle.dom_parts.proofs.Cited.{false_from_ne_true, NodeName, Owner, owner_eq, Range, is_there, shadow_root_of, owner_eq-true, owner_eq-false, named_ranges}
+use Rattle.dom_parts.proofs.Cited.{RangeLists, EachRange, BothEnds, ranges_of, Contents, Tables, world_of, IsAttached, IsOwnPoint, AreOwnRanges, AreRangesOf}
 use Rattle.dom_parts.proofs.RangedKeeping.{named_grown, own_grown}
 use Rattle.dom_parts.proofs.Worlds.{In, there_in, in_there}
 

@@ -1,19 +1,14 @@
 -- Calls that pass a command on to the table of live ranges: what they ask, what holds after them, and that they do what the
 -- model says of the command.
-use Rattle.dom_base.proofs.Std.{◌≡◌, ℕ, ◌<◌, ◌≤◌, ◌^◌, ◌⊎◌, inl, inr, Bool, true, false, true≢false, cond, List, [], ◌∷◌, ◌++◌, length, Option, Some, None}
-use Rattle.dom_base.proofs.Std.{Result, Ok, Err, is_some, refl, sym, ap, subst, ◌∙◌, ⊤, not, ◌&&◌, if◌then◌else◌, IsSome, IfOk, IfErr, OnOk, OnErr, ◌↔◌}
-use Rattle.dom_base.proofs.Std.{option_map, slice_set, cases_Bool, false_from_ne_true, on_ok_weaker}
-use Rattle.dom_model.proofs.Model.{Fault, Refused, Refusal, Limit, Unknown, IndexSize, NodeName, Owner, Command, NodeWord, effect, past_limit, past_end, Effect}
-use Rattle.dom_model.proofs.Model.{node_of, owner_eq, owner_eq-true, Value, nothing, a_range, boundaries, Part, range_at, Range, at, from_to, length_of}
-use Rattle.dom_model.proofs.Model.{part_of, is_there}
-use Rattle.dom_ranges.specs.Definitions.{named_boundary, named_range, named_ranges, start_set, end_set, have_one_root, is_key_before, RangeList, RangeLists}
-use Rattle.dom_ranges.specs.Definitions.{EachRange, BothEnds, ranges_of, range_in, range_from, with_ranges, collapsed_range}
-use Rattle.dom_ranges.specs.declared.table.Points.{Points}
-use Rattle.dom_ranges.proofs.EndsAfterCalls.{stand-at}
-use Rattle.dom_tree.proofs.Standing.{StandOnce, StandAlone}
-use Rattle.dom_tree.specs.Definitions.{NamedTrees, name_at}
-use Rattle.dom_parts.specs.Definitions.{Contents, part_in, world_of, AreEndsOf, SetsEnd, DocState, contents, world_from, state_from, IsDoc, Makes, name_in}
-use Rattle.dom_parts.specs.Definitions.{owner_in, AllTables, with_live, IsOwnPoint, AreRangesOf, ranged}
+use Rattle.dom_parts.proofs.Cited.{◌≡◌, ℕ, ◌<◌, ◌≤◌, ◌^◌, ◌⊎◌, inl, inr, Bool, true, false, true≢false, cond, List, [], ◌∷◌, ◌++◌, length, Option, Some, None}
+use Rattle.dom_parts.proofs.Cited.{Result, Ok, Err, is_some, refl, sym, ap, subst, ◌∙◌, ⊤, not, ◌&&◌, if◌then◌else◌, IsSome, IfOk, IfErr, OnOk, OnErr, ◌↔◌}
+use Rattle.dom_parts.proofs.Cited.{option_map, slice_set, cases_Bool, false_from_ne_true, on_ok_weaker, Fault, Refused, Refusal, Limit, Unknown, IndexSize}
+use Rattle.dom_parts.proofs.Cited.{NodeName, Owner, Command, NodeWord, effect, past_limit, past_end, Effect, node_of, owner_eq, owner_eq-true, Value, nothing}
+use Rattle.dom_parts.proofs.Cited.{a_range, boundaries, Part, range_at, Range, at, from_to, length_of, part_of, is_there, named_boundary, named_range}
+use Rattle.dom_parts.proofs.Cited.{named_ranges, start_set, end_set, have_one_root, is_key_before, RangeList, RangeLists, EachRange, BothEnds, ranges_of}
+use Rattle.dom_parts.proofs.Cited.{range_in, range_from, with_ranges, collapsed_range, Points, stand-at, StandOnce, StandAlone, NamedTrees, name_at, Contents}
+use Rattle.dom_parts.proofs.Cited.{part_in, world_of, AreEndsOf, SetsEnd, DocState, contents, world_from, state_from, IsDoc, Makes, name_in, owner_in}
+use Rattle.dom_parts.proofs.Cited.{AllTables, with_live, IsOwnPoint, AreRangesOf, ranged}
 use Rattle.dom_parts.proofs.DocInvariant.{single_owners, held_live}
 use Rattle.dom_parts.proofs.RangedCalls.{set_makes, set_ranges, make_effect, drop_effect, collapse_effect, points_effect, start_effect, end_effect}
 use Rattle.dom_parts.proofs.RangedCalls.{range_read, made_own, made_few, dropped_own, rewritten_own, written_few}

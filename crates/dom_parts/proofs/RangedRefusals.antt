@@ -1,10 +1,7 @@
 -- What the commands on ranges are refused for, as the table of ranges tests it and as the definitions say it.
-use Rattle.dom_base.proofs.Std.{◌≡◌, ℕ, ◌<◌, true, length, Option, sym, ap, ◌∙◌, nat_lt, option_map, ◌↔◌, lt-ltb, ltb-true, length-map}
-use Rattle.dom_model.proofs.Model.{NodeName, Owner, past_limit, past_end, Range, length_of}
-use Rattle.dom_ranges.specs.Definitions.{named_range, RangeLists, ranges_of}
-use Rattle.dom_tree.specs.Definitions.{name_at, AreOwned}
-use Rattle.dom_tree.proofs.Owned.{read_own}
-use Rattle.dom_parts.specs.Definitions.{Contents, part_in, AreRangesOf}
+use Rattle.dom_parts.proofs.Cited.{◌≡◌, ℕ, ◌<◌, true, length, Option, sym, ap, ◌∙◌, nat_lt, option_map, ◌↔◌, lt-ltb, ltb-true, length-map, NodeName, Owner}
+use Rattle.dom_parts.proofs.Cited.{past_limit, past_end, Range, length_of, named_range, RangeLists, ranges_of, name_at, AreOwned, read_own, Contents, part_in}
+use Rattle.dom_parts.proofs.Cited.{AreRangesOf}
 
 module _ (c : Contents) (t : RangeLists) (ranges : AreRangesOf c t) (o : Owner) where
   -- the ranges that an owner has made, dropped ones counted

@@ -1,21 +1,13 @@
 -- Steps of a `Doc` that move boundary points: what they ask for, what holds after them, and the state then.
-use Rattle.dom_base.proofs.Std.{◌≡◌, ℕ, ◌+◌, ◌-◌, ◌<◌, ◌≤◌, ◌^◌, ◌⊎◌, inl, inr, false, List, [], ◌∷◌, map, length, Some, None, refl, sym, ap, subst, ◌∙◌, arith}
-use Rattle.dom_base.proofs.Std.{nat_eq, AllByRecursion, cases_Bool, cond-true, eq-or-lt_of_le}
-use Rattle.dom_model.proofs.Model.{NodeName, Owner, DomString, name_eq, Part, after_insert, after_replace_data, after_join, Boundary, Step, replace_data}
-use Rattle.dom_model.proofs.Model.{join_at, part_step, Trees, node_in, kind_of, has_data, children_of, parent_of, index_of, length_of, change_node}
-use Rattle.dom_model.proofs.Model.{with_data_replaced, replaced, part_of, is_there, world_step, world_after, steps_of, joins}
-use Rattle.dom_worlds.specs.Definitions.{HasBounds, IsPart}
-use Rattle.dom_worlds.proofs.RangeLemmas.{length-replaced}
-use Rattle.dom_worlds.proofs.TreeLemmas.{index-below, length-children}
-use Rattle.dom_ranges.specs.Definitions.{RangeLists, ends_by, ranges_of, range_in, IsNamedRule, KeepsNodes, named_ends_by}
-use Rattle.dom_ranges.proofs.Naming.{replace_data-named, join-named}
-use Rattle.dom_ranges.proofs.Vacant.{ends-none}
-use Rattle.dom_tree.proofs.Standing.{StandOnce, StandAlone}
-use Rattle.dom_tree.specs.Definitions.{NamedTrees, name_at, count_of, IsOwnChange, TellApart}
-use Rattle.dom_tree.proofs.OwnPlacings.{changed_node}
-use Rattle.dom_slots.specs.Definitions.{AreSlotsOf}
-use Rattle.dom_parts.specs.Definitions.{Contents, part_in, part_with, world_of, DocState, named_trees, contents, state_from, world_from, IsDoc, name_in}
-use Rattle.dom_parts.specs.Definitions.{owner_in, trees_in, stepped, planned, IsChild, IsOwnNode, MayCome, AllTables, with_live, AreRangesOf, IsRuleOf, ranged}
+use Rattle.dom_parts.proofs.Cited.{◌≡◌, ℕ, ◌+◌, ◌-◌, ◌<◌, ◌≤◌, ◌^◌, ◌⊎◌, inl, inr, false, List, [], ◌∷◌, map, length, Some, None, refl, sym, ap, subst, ◌∙◌}
+use Rattle.dom_parts.proofs.Cited.{arith, nat_eq, AllByRecursion, cases_Bool, cond-true, eq-or-lt_of_le, NodeName, Owner, DomString, name_eq, Part}
+use Rattle.dom_parts.proofs.Cited.{after_insert, after_replace_data, after_join, Boundary, Step, replace_data, join_at, part_step, Trees, node_in, kind_of}
+use Rattle.dom_parts.proofs.Cited.{has_data, children_of, parent_of, index_of, length_of, change_node, with_data_replaced, replaced, part_of, is_there}
+use Rattle.dom_parts.proofs.Cited.{world_step, world_after, steps_of, joins, HasBounds, IsPart, length-replaced, index-below, length-children, RangeLists}
+use Rattle.dom_parts.proofs.Cited.{ends_by, ranges_of, range_in, IsNamedRule, KeepsNodes, named_ends_by, replace_data-named, join-named, ends-none, StandOnce}
+use Rattle.dom_parts.proofs.Cited.{StandAlone, NamedTrees, name_at, count_of, IsOwnChange, TellApart, changed_node, AreSlotsOf, Contents, part_in, part_with}
+use Rattle.dom_parts.proofs.Cited.{world_of, DocState, named_trees, contents, state_from, world_from, IsDoc, name_in, owner_in, trees_in, stepped, planned}
+use Rattle.dom_parts.proofs.Cited.{IsChild, IsOwnNode, MayCome, AllTables, with_live, AreRangesOf, IsRuleOf, ranged, keeps_changed}
 use Rattle.dom_parts.proofs.BoundedPlans.{length_few}
 use Rattle.dom_parts.proofs.DocInvariant.{are_hosts, held_changed, held_live}
 use Rattle.dom_parts.proofs.OwnParts.{own_part}
@@ -23,7 +15,6 @@ use Rattle.dom_parts.proofs.RangedFits.{EachFits, room_fits, data_fits, data_fit
 use Rattle.dom_parts.proofs.HostedSteps.{IsPlain, plain_step}
 use Rattle.dom_parts.proofs.RangeRules.{replace_data_rule, join_rule}
 use Rattle.dom_parts.proofs.RangedSteps.{Holds, ruled, same_part}
-use Rattle.dom_laws.proofs.Laws.{keeps_changed}
 use Rattle.dom_parts.proofs.Shown.{state_with, known, owner_there}
 use Rattle.dom_parts.proofs.Worlds.{IsChangeOf, part_at, part_off}
 

@@ -1,14 +1,10 @@
 -- Steps that move boundary points, over what is held: where the table of ranges is told of a step, the owner's part has the
 -- ends that the step says, no other part changes, and the table is that of what is held.
-use Rattle.dom_base.proofs.Std.{◌≡◌, ◌≢◌, ℕ, ◌<◌, cond, ◌++◌, length, Some, map, refl, sym, ap, subst, ◌∙◌, arith, nat_eq, nat_lt, ◌&&◌, ◌-◌, option_map_or}
-use Rattle.dom_model.proofs.Model.{NodeName, Owner, name_eq, is_in, transients_for, Part, Boundary, at, after_removal, take_out, part_step, leave}
-use Rattle.dom_model.proofs.Model.{adjusted_iterator, parent_of, index_of, inclusive_ancestors, is_inclusive_ancestor, taken_out}
-use Rattle.dom_ranges.specs.Definitions.{IsNamedRule, KeepsNodes, named_ends_by, Fits, is_inside, named_ranges, RangeLists, EachRange, BothEnds, ends_by}
-use Rattle.dom_ranges.specs.Definitions.{ranges_of}
-use Rattle.dom_ranges.proofs.Naming.{removal-named}
-use Rattle.dom_tree.specs.Definitions.{name_at, AreOwned, TellApart}
-use Rattle.dom_tree.proofs.Owned.{read_own, stays_own}
-use Rattle.dom_parts.specs.Definitions.{Contents, part_in, named_trees, AreOwnRanges, AreRangesOf, ranged, IsRuleOf}
+use Rattle.dom_parts.proofs.Cited.{◌≡◌, ◌≢◌, ℕ, ◌<◌, cond, ◌++◌, length, Some, map, refl, sym, ap, subst, ◌∙◌, arith, nat_eq, nat_lt, ◌&&◌, ◌-◌, option_map_or}
+use Rattle.dom_parts.proofs.Cited.{NodeName, Owner, name_eq, is_in, transients_for, Part, Boundary, at, after_removal, take_out, part_step, leave}
+use Rattle.dom_parts.proofs.Cited.{adjusted_iterator, parent_of, index_of, inclusive_ancestors, is_inclusive_ancestor, taken_out, IsNamedRule, KeepsNodes}
+use Rattle.dom_parts.proofs.Cited.{named_ends_by, Fits, is_inside, named_ranges, RangeLists, EachRange, BothEnds, ends_by, ranges_of, removal-named, name_at}
+use Rattle.dom_parts.proofs.Cited.{AreOwned, TellApart, read_own, stays_own, Contents, part_in, named_trees, AreOwnRanges, AreRangesOf, ranged, IsRuleOf}
 use Rattle.dom_parts.proofs.RangeRules.{removal_rule}
 use Rattle.dom_parts.proofs.RangedLists.{agreed, named_own, named_others, own_moved, as_many}
 use Rattle.dom_parts.proofs.Worlds.{IsChangeOf, there_same}

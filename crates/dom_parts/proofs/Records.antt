@@ -1,17 +1,11 @@
 -- The record of a change, and what a `Doc` holds after it.
-use Rattle.dom_base.proofs.Std.{◌≡◌, ℕ, ◌<◌, Bool, true, false, List, length, map, Result, Ok, Err, refl, sym, ap, subst, ◌∙◌, nat_eq, if◌then◌else◌, OnOk}
-use Rattle.dom_base.proofs.Std.{OnErr, AllByRecursion}
-use Rattle.dom_model.proofs.Model.{NodeName, Owner, name_eq, owner_eq, inclusive_ancestors, Change, child_list, attributes, character_data, target_of}
-use Rattle.dom_model.proofs.Model.{part_step, queue_record, is_taken, Task, is_there, queued_notify, world_step}
-use Rattle.dom_tree.specs.Definitions.{NamedTrees, name_at, trees_of_owner, TellApart}
-use Rattle.dom_tree.proofs.Owned.{read_own}
-use Rattle.dom_tree.proofs.Standing.{StandOnce, StandAlone}
-use Rattle.dom_observers.specs.Definitions.{TablesOf, is_taken as keyed_taken, told as keyed_told, path_keys, named_tables, named_change, IsKey, IsChangeAt}
-use Rattle.dom_observers.proofs.Naming.{taken_law, told_law}
-use Rattle.dom_observers.proofs.Ascending.{path_keys-named}
-use Rattle.dom_observers.proofs.Speaking.{speaks_told}
-use Rattle.dom_parts.specs.Definitions.{part_in, AllTables, with_observers, with_queue, DocState, contents, world_from, state_from, IsDoc, IsDue, name_in}
-use Rattle.dom_parts.specs.Definitions.{owner_in, stepped}
+use Rattle.dom_parts.proofs.Cited.{◌≡◌, ℕ, ◌<◌, Bool, true, false, List, length, map, Result, Ok, Err, refl, sym, ap, subst, ◌∙◌, nat_eq, if◌then◌else◌, OnOk}
+use Rattle.dom_parts.proofs.Cited.{OnErr, AllByRecursion, NodeName, Owner, name_eq, owner_eq, inclusive_ancestors, Change, child_list, attributes}
+use Rattle.dom_parts.proofs.Cited.{character_data, target_of, part_step, queue_record, is_taken, Task, is_there, queued_notify, world_step, NamedTrees, name_at}
+use Rattle.dom_parts.proofs.Cited.{trees_of_owner, TellApart, read_own, StandOnce, StandAlone, TablesOf, path_keys, named_tables, named_change, IsKey}
+use Rattle.dom_parts.proofs.Cited.{IsChangeAt, taken_law, told_law, path_keys-named, speaks_told, part_in, AllTables, with_observers, with_queue, DocState}
+use Rattle.dom_parts.proofs.Cited.{contents, world_from, state_from, IsDoc, IsDue, name_in, owner_in, stepped}
+use Rattle.dom_observers.specs.Definitions.{is_taken as keyed_taken, told as keyed_told}
 use Rattle.dom_parts.proofs.Worlds.{there_same}
 use Rattle.dom_parts.proofs.HostedSteps.{record_hosted}
 use Rattle.dom_parts.proofs.DocInvariant.{are_hosts, held_tasks}

@@ -1,16 +1,12 @@
 -- Node documents set one tree after another.
-use Rattle.dom_base.proofs.Std.{◌≡◌, ℕ, ◌<◌, List, [], ◌∷◌, All, map, fold, length, refl, sym, ap, subst, ◌∙◌, All-head, All-tail}
-use Rattle.dom_model.proofs.Model.{NodeName, is_in, name_eq, max_depth, Trees, inclusive_descendants, change_subtree, with_document, set_document}
-use Rattle.dom_tree.specs.Definitions.{NamedTrees, name_at}
-use Rattle.dom_tree.proofs.OwnPlacings.{changed_subtree}
-use Rattle.dom_slots.proofs.Recast.{keeps_if, slots-recast}
-use Rattle.dom_parts.specs.Definitions.{Contents, world_of, DocState, named_trees, contents, world_from, state_from, IsDoc, name_in, owner_in, stepped}
-use Rattle.dom_parts.specs.Definitions.{document_in, forest_in, AllTables}
-use Rattle.dom_node_trees.specs.Documents.{under_each, roots_within}
+use Rattle.dom_parts.proofs.Cited.{◌≡◌, ℕ, ◌<◌, List, [], ◌∷◌, All, map, fold, length, refl, sym, ap, subst, ◌∙◌, All-head, All-tail, NodeName, is_in, name_eq}
+use Rattle.dom_parts.proofs.Cited.{Trees, inclusive_descendants, change_subtree, with_document, set_document, NamedTrees, name_at, changed_subtree}
+use Rattle.dom_parts.proofs.Cited.{keeps_if, slots-recast, Contents, world_of, DocState, named_trees, contents, world_from, state_from, IsDoc, name_in}
+use Rattle.dom_parts.proofs.Cited.{owner_in, stepped, document_in, forest_in, AllTables, under_each, roots_within, keeps_changed_below}
+use Rattle.dom_model.proofs.Model.{max_depth}
 use Rattle.dom_parts.proofs.DocInvariant.{are_hosts, held_changed}
 use Rattle.dom_parts.proofs.HostedDocuments.{documents_world}
 use Rattle.dom_parts.proofs.Shown.{known, owner_there, step_done}
-use Rattle.dom_laws.proofs.Laws.{keeps_changed_below}
 
 -- how many closed trees can lie in one another, as the code has it
 pub depth_is : max_depth ≡ 8

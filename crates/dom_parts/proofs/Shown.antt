@@ -1,9 +1,8 @@
 -- What the forest says of a node is what its owner's part in the world says of it.
-use Rattle.dom_base.proofs.Std.{◌≡◌, ℕ, ◌<◌, inl, inr, true, List, [], length, Option, Some, None, option_map, refl, sym, ap, subst, ◌∙◌, ForSome, cases_Bool}
-use Rattle.dom_model.proofs.Model.{NodeName, Owner, Trees, World, part_of, is_there, Part, Change, Step, queue_record, world_step}
-use Rattle.dom_tree.specs.Definitions.{NamedTrees, name_at, trees_of_owner, IsReadOwn}
-use Rattle.dom_tree.proofs.Owned.{read_own}
-use Rattle.dom_parts.specs.Definitions.{AllTables, IsReadFrom, DocState, contents, state_from, world_from, IsDoc, name_in, owner_in, trees_in, stepped}
+use Rattle.dom_parts.proofs.Cited.{◌≡◌, ℕ, ◌<◌, inl, inr, true, List, [], length, Option, Some, None, option_map, refl, sym, ap, subst, ◌∙◌, ForSome}
+use Rattle.dom_parts.proofs.Cited.{cases_Bool, NodeName, Owner, Trees, World, part_of, is_there, Part, Change, Step, queue_record, world_step, NamedTrees}
+use Rattle.dom_parts.proofs.Cited.{name_at, trees_of_owner, IsReadOwn, read_own, AllTables, IsReadFrom, DocState, contents, state_from, world_from, IsDoc}
+use Rattle.dom_parts.proofs.Cited.{name_in, owner_in, trees_in, stepped}
 use Rattle.dom_parts.proofs.Worlds.{part_at, part_off}
 use Rattle.dom_parts.proofs.Steps.{record_world}
 

@@ -1,23 +1,16 @@
 -- Steps that signal slots: what holds after them, and the state then; and what holds where they were refused memory.
-use Rattle.dom_base.proofs.Std.{◌≡◌, ℕ, ◌^◌, arith, ◌<◌, true, false, List, ◌∷◌, fold, length, Result, Ok, Err, Option, Some, refl, sym, ap, subst, ◌∙◌}
-use Rattle.dom_base.proofs.Std.{on_ok_weaker, OnOk, nat_eq, if◌then◌else◌, AllByRecursion}
-use Rattle.dom_model.proofs.Model.{NodeName, Owner, Page, name_eq, owner_eq, append_once, Trees, parent_of, index_of, taken_out, Step as ModelStep, take_out}
-use Rattle.dom_model.proofs.Model.{Task, is_there, world_step, after_removal}
-use Rattle.dom_slots.specs.Definitions.{ShadowHost, AreSlotsOf}
+use Rattle.dom_parts.proofs.Cited.{◌≡◌, ℕ, ◌^◌, arith, ◌<◌, true, false, List, ◌∷◌, fold, length, Result, Ok, Err, Option, Some, refl, sym, ap, subst, ◌∙◌}
+use Rattle.dom_parts.proofs.Cited.{on_ok_weaker, OnOk, nat_eq, if◌then◌else◌, AllByRecursion, NodeName, Owner, Page, name_eq, owner_eq, append_once, Trees}
+use Rattle.dom_parts.proofs.Cited.{parent_of, index_of, taken_out, take_out, Task, is_there, world_step, after_removal, ShadowHost, AreSlotsOf, Removal}
+use Rattle.dom_parts.proofs.Cited.{NamedTrees, name_at, IsOwnChange, TellApart, read_own, taken, is_inside, RangeLists, ends_by, ranges_of, StandOnce}
+use Rattle.dom_parts.proofs.Cited.{StandAlone, TablesOf, path_keys, IsKey, SpeaksOf, Contents, part_in, world_of, host_owners, signals_in, AllTables}
+use Rattle.dom_parts.proofs.Cited.{AreTablesOf, IsSettled, trees_with, with_live, with_observers, AreRangesOf, ranged, DocState, named_trees, shown_tables}
+use Rattle.dom_parts.proofs.Cited.{contents, world_from, state_from, IsDoc, IsDue, name_in, owner_in, stepped, NodeTrees, AreNames, HasStepped, signals_of}
+use Rattle.dom_parts.proofs.Cited.{KeyedTables, AreLeft, no_keyed_tables, with_cursors, all_appended, all_named, KeepsAbove}
+use Rattle.dom_model.proofs.Model.{Step as ModelStep}
 use Rattle.dom_slots.specs.declared.step.Step.{Step}
-use Rattle.dom_slots.specs.declared.step.Step.TheVariants.{Removal}
-use Rattle.dom_tree.specs.Definitions.{NamedTrees, name_at, IsOwnChange, TellApart}
-use Rattle.dom_tree.proofs.Owned.{read_own}
-use Rattle.dom_tree.proofs.OwnPlacings.{taken}
-use Rattle.dom_ranges.specs.Definitions.{is_inside, RangeLists, ends_by, ranges_of}
-use Rattle.dom_tree.proofs.Standing.{StandOnce, StandAlone}
-use Rattle.dom_observers.specs.Definitions.{TablesOf, no_tables as no_observers, left as keyed_left, path_keys, IsKey, SpeaksOf}
-use Rattle.dom_parts.specs.Definitions.{Contents, part_in, world_of, host_owners, signals_in, AllTables, AreTablesOf, IsSettled, trees_with, with_live}
-use Rattle.dom_parts.specs.Definitions.{with_signals, with_observers, AreRangesOf, ranged, DocState, named_trees, shown_tables, contents, world_from}
-use Rattle.dom_parts.specs.Definitions.{state_from, IsDoc, IsDue, name_in, owner_in, stepped}
-use Rattle.dom_node_trees.specs.declared.steps.NodeTrees.{NodeTrees}
-use Rattle.dom_node_trees.specs.Signalled.{AreNames, HasStepped, signals_of}
-use Rattle.dom_traversal.specs.Definitions.{KeyedTables, AreLeft, no_keyed_tables, with_cursors}
+use Rattle.dom_observers.specs.Definitions.{no_tables as no_observers, left as keyed_left}
+use Rattle.dom_parts.specs.Definitions.{with_signals}
 use Rattle.dom_parts.proofs.BoundedPlans.{index_few}
 use Rattle.dom_parts.proofs.DocInvariant.{are_hosts, held_with, still_named}
 use Rattle.dom_parts.proofs.HeldNodes.{given_up}
@@ -28,9 +21,7 @@ use Rattle.dom_parts.proofs.RangedFits.{removal_fits}
 use Rattle.dom_parts.proofs.RangedKeeping.{ranges_stay}
 use Rattle.dom_parts.proofs.RangedSteps.{removal_ranged}
 use Rattle.dom_parts.proofs.Shown.{state_with, owner_there}
-use Rattle.dom_node_trees.proofs.Signals.{all_appended, all_named}
 use Rattle.dom_parts.proofs.Tasks.{due_signalled}
-use Rattle.dom_laws.proofs.Laws.{KeepsAbove}
 use Rattle.dom_parts.proofs.Steps.{left_own, left_idle, left_speaks, left_off, left_part, left_change}
 use Rattle.dom_parts.proofs.Worlds.{IsChangeOf}
 

@@ -1,23 +1,14 @@
 -- What the elementary steps do to what a `Doc` holds: the world after each.
-use Rattle.dom_base.proofs.Std.{◌≡◌, ℕ, ◌<◌, inl, inr, Bool, true, false, true≢false, List, [], ◌++◌, length, Some, map, refl, sym, ap, subst, ◌∙◌, nat_eq}
-use Rattle.dom_base.proofs.Std.{if◌then◌else◌, cases_Bool, cond-true, cond-false}
-use Rattle.dom_model.proofs.Model.{NodeName, Owner, name_eq, owner_eq, Trees, inclusive_ancestors, parent_of, taken_out, Iterator, Walker, adjusted_iterator}
-use Rattle.dom_model.proofs.Model.{transients_for, Part, Change, Step, queue_record, part_step, is_taken, is_there, queued_notify, world_step, owner_eq-true}
-use Rattle.dom_model.proofs.Model.{owner_eq-false}
-use Rattle.dom_tree.specs.Definitions.{NamedTrees, name_at, count_of, trees_of_owner, IsOwnChange, TellApart}
-use Rattle.dom_tree.proofs.OwnPlacings.{taken}
-use Rattle.dom_tree.proofs.Owned.{read_own, stays_own}
-use Rattle.dom_tree.proofs.Standing.{StandOnce, StandAlone}
-use Rattle.dom_observers.specs.Definitions.{TablesOf, no_tables as no_observers, left as keyed_left, path_keys, named_tables, named_registration, IsKey}
-use Rattle.dom_observers.specs.Definitions.{SpeaksOf}
-use Rattle.dom_observers.proofs.Naming.{left_law}
-use Rattle.dom_observers.proofs.Ascending.{path_keys-named}
-use Rattle.dom_observers.proofs.Speaking.{speaks_left}
-use Rattle.dom_traversal.specs.Definitions.{iterator_view, with_taken_out, walker_view, KeyedTables, AreLeft, no_keyed_tables, with_cursors}
-use Rattle.dom_ranges.specs.Definitions.{named_ranges, ranges_of}
-use Rattle.dom_parts.specs.Definitions.{Contents, part_with, part_in, world_of, tables_with, AreTablesOf, AllTables, with_table, with_observers, named_trees}
-use Rattle.dom_parts.specs.Definitions.{shown_tables, contents, world_from, IsDoc, attached_of}
-use Rattle.dom_traversal.proofs.Owners.{with-own, with-other}
+use Rattle.dom_parts.proofs.Cited.{◌≡◌, ℕ, ◌<◌, inl, inr, Bool, true, false, true≢false, List, [], ◌++◌, length, Some, map, refl, sym, ap, subst, ◌∙◌, nat_eq}
+use Rattle.dom_parts.proofs.Cited.{if◌then◌else◌, cases_Bool, cond-true, cond-false, NodeName, Owner, name_eq, owner_eq, Trees, inclusive_ancestors, parent_of}
+use Rattle.dom_parts.proofs.Cited.{taken_out, Iterator, Walker, adjusted_iterator, transients_for, Part, Change, Step, queue_record, part_step, is_taken}
+use Rattle.dom_parts.proofs.Cited.{is_there, queued_notify, world_step, owner_eq-true, owner_eq-false, NamedTrees, name_at, count_of, trees_of_owner}
+use Rattle.dom_parts.proofs.Cited.{IsOwnChange, TellApart, taken, read_own, stays_own, StandOnce, StandAlone, TablesOf, path_keys, named_tables}
+use Rattle.dom_parts.proofs.Cited.{named_registration, IsKey, SpeaksOf, left_law, path_keys-named, speaks_left, iterator_view, with_taken_out, walker_view}
+use Rattle.dom_parts.proofs.Cited.{KeyedTables, AreLeft, no_keyed_tables, with_cursors, named_ranges, ranges_of, Contents, part_with, part_in, world_of}
+use Rattle.dom_parts.proofs.Cited.{tables_with, AreTablesOf, AllTables, with_table, with_observers, named_trees, shown_tables, contents, world_from, IsDoc}
+use Rattle.dom_parts.proofs.Cited.{attached_of, with-own, with-other}
+use Rattle.dom_observers.specs.Definitions.{no_tables as no_observers, left as keyed_left}
 use Rattle.dom_parts.proofs.Worlds.{IsChangeOf}
 use Rattle.dom_parts.proofs.Quiet.{untaken, untold_part}
 use Rattle.dom_parts.proofs.HostedSteps.{record_hosted}

@@ -1,9 +1,6 @@
 -- The signalled slots of an owner, taken out of those of all.
-use Rattle.dom_base.proofs.Std.{◌≡◌, ℕ, ◌<◌, true, not, List, All, filter, map, length, refl, sym, ap, subst, All-filter}
-use Rattle.dom_model.proofs.Model.{NodeName, Owner, name_eq, is_in, is_owned_by, without_signals}
-use Rattle.dom_tree.specs.Definitions.{NamedTrees, name_at}
-use Rattle.dom_parts.specs.Definitions.{AllTables, DocState, IsDoc, contents, state_from, name_in}
-use Rattle.dom_node_trees.specs.Signalled.{AreNames}
+use Rattle.dom_parts.proofs.Cited.{◌≡◌, ℕ, ◌<◌, true, not, List, All, filter, map, length, refl, sym, ap, subst, All-filter, NodeName, Owner, name_eq, is_in}
+use Rattle.dom_parts.proofs.Cited.{is_owned_by, without_signals, NamedTrees, name_at, AllTables, DocState, IsDoc, contents, state_from, name_in, AreNames}
 use Rattle.dom_parts.proofs.DocInvariant.{held_beside}
 use Rattle.dom_parts.proofs.RangedKeeping.{ranges_stay}
 

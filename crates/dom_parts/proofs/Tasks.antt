@@ -1,9 +1,7 @@
 -- Other tasks: what holds of a `Doc` then, and its state.
-use Rattle.dom_base.proofs.Std.{◌≡◌, Bool, true, false, List, [], ◌∷◌, ◌++◌, fold, Result, Ok, Err, sym, ap, subst, ◌∙◌, OnOk, OnErr, if◌then◌else◌}
-use Rattle.dom_base.proofs.Std.{AllByRecursion, list_any}
-use Rattle.dom_model.proofs.Model.{NodeName, Owner, World, Task, notify_task, is_there, is_notify_of, queued_notify}
-use Rattle.dom_tree.specs.Definitions.{NamedTrees}
-use Rattle.dom_parts.specs.Definitions.{AllTables, with_queue, DocState, IsDoc, IsDue, world_from, state_from, with_tasks}
+use Rattle.dom_parts.proofs.Cited.{◌≡◌, Bool, true, false, List, [], ◌∷◌, ◌++◌, fold, Result, Ok, Err, sym, ap, subst, ◌∙◌, OnOk, OnErr, if◌then◌else◌}
+use Rattle.dom_parts.proofs.Cited.{AllByRecursion, list_any, NodeName, Owner, World, Task, notify_task, is_there, is_notify_of, queued_notify, NamedTrees}
+use Rattle.dom_parts.proofs.Cited.{AllTables, with_queue, DocState, IsDoc, IsDue, world_from, state_from, with_tasks}
 use Rattle.dom_parts.proofs.DocInvariant.{held_tasks}
 
 -- ---- tasks that are due

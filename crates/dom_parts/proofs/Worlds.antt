@@ -1,10 +1,8 @@
 -- The world of what a `Doc` holds: who is there, what an owner's part is, and that a change of one owner's part is the
 -- world with that part written.
-use Rattle.dom_base.proofs.Std.{◌≡◌, ◌≢◌, true, false, true≢false, List, [], ◌∷◌, ◌++◌, Option, Some, None, map, unwrap_or, ◌⊎◌, inl, inr, refl, sym, ap, subst}
-use Rattle.dom_base.proofs.Std.{◌∙◌, is_some, cases_Bool}
-use Rattle.dom_model.proofs.Model.{NodeName, Owner, owner_eq, Part, empty_part, World, Task, find_part, put_part, part_of, with_part, is_there, owner_eq-same}
-use Rattle.dom_model.proofs.Model.{owner_eq-true, owner_eq-false}
-use Rattle.dom_parts.specs.Definitions.{Contents, part_in, world_of}
+use Rattle.dom_parts.proofs.Cited.{◌≡◌, ◌≢◌, true, false, true≢false, List, [], ◌∷◌, ◌++◌, Option, Some, None, map, unwrap_or, ◌⊎◌, inl, inr, refl, sym, ap}
+use Rattle.dom_parts.proofs.Cited.{subst, ◌∙◌, is_some, cases_Bool, NodeName, Owner, owner_eq, Part, empty_part, World, Task, find_part, put_part, part_of}
+use Rattle.dom_parts.proofs.Cited.{with_part, is_there, owner_eq-same, owner_eq-true, owner_eq-false, Contents, part_in, world_of}
 
 -- an owner is one of these
 abbrev pub In : Owner → List Owner → Type 0

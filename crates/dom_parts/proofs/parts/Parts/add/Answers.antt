@@ -1,6 +1,4 @@
-use Rattle.dom_base.proofs.Std.{refl}
-use Rattle.dom_tree.specs.Definitions.{node_from}
-use Rattle.dom_parts.specs.Definitions.{all_tables}
+use Rattle.dom_parts.proofs.Cited.{refl, node_from, all_tables}
 use Rattle.dom_parts.proofs.HeldNodes.{AsksNode, added_held, not_added}
 use Rattle.dom_parts.proofs.Limits.{limit_held}
 use Rattle.dom_parts.proofs.parts.Parts.add.Goals as goal

@@ -1,9 +1,6 @@
-use Rattle.dom_base.proofs.Std.{◌<◌, length, refl, sym, ap, ◌∙◌, nat_lt}
-use Rattle.dom_model.proofs.Model.{node_in, part_of, component_made, component_made-no_page}
-use Rattle.dom_tree.specs.Definitions.{name_at}
-use Rattle.dom_traversal.specs.Definitions.{cursors_of}
+use Rattle.dom_parts.proofs.Cited.{◌<◌, length, refl, sym, ap, ◌∙◌, nat_lt, node_in, part_of, component_made, component_made-no_page, name_at, cursors_of}
+use Rattle.dom_parts.proofs.Cited.{tables_with_trees, all_tables, owner_in}
 use Rattle.dom_observers.specs.Definitions.{tables_of as observers_of}
-use Rattle.dom_parts.specs.Definitions.{tables_with_trees, all_tables, owner_in}
 use Rattle.dom_parts.proofs.HeldNodes.{given_up}
 use Rattle.dom_parts.proofs.Attachable.{accepted, next_is_for, new_owner, held_then, names_then, world_then}
 use Rattle.dom_parts.proofs.OwnersOfNodes.{nodes_there}

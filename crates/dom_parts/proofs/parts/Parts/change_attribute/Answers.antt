@@ -1,16 +1,10 @@
-use Rattle.dom_base.proofs.Std.{◌≡◌, Option, Some, None, refl, option_map}
-use Rattle.dom_model.proofs.Model.{Word, DomString, Node, change_node, with_attribute, set_attribute}
-use Rattle.dom_slots.specs.declared.step.Step.TheVariants.{Attribute}
-use Rattle.dom_tree.specs.Definitions.{name_at}
-use Rattle.dom_tree.proofs.OwnPlacings.{changed_node}
-use Rattle.dom_traversal.specs.Definitions.{cursors_of}
+use Rattle.dom_parts.proofs.Cited.{◌≡◌, Option, Some, None, refl, option_map, Word, DomString, Node, change_node, with_attribute, set_attribute, Attribute}
+use Rattle.dom_parts.proofs.Cited.{name_at, changed_node, cursors_of, tables_with_trees, contents, all_tables, name_in, owner_in, stepped, keeps_changed}
 use Rattle.dom_observers.specs.Definitions.{tables_of as observers_of}
-use Rattle.dom_parts.specs.Definitions.{tables_with_trees, contents, all_tables, name_in, owner_in, stepped}
 use Rattle.dom_parts.proofs.DocInvariant.{are_hosts}
 use Rattle.dom_parts.proofs.HostedSteps.{attribute_hosted}
 use Rattle.dom_parts.proofs.Shown.{owner_there}
 use Rattle.dom_parts.proofs.Signalling.{IsAfter, tree_step}
-use Rattle.dom_laws.proofs.Laws.{keeps_changed}
 use Rattle.dom_parts.proofs.Steps.{trees_change}
 use Rattle.dom_parts.proofs.parts.Parts.change_attribute.Goals as goal
 

@@ -1,8 +1,4 @@
-use Rattle.dom_base.proofs.Std.{ap, ◌∙◌, subst, option_map, ◌≡◌, ForSome}
-use Rattle.dom_model.proofs.Model.{pre_insert_refusal}
-use Rattle.dom_tree.specs.Definitions.{name_at, err_of}
-use Rattle.dom_tree.proofs.Owned.{insertion_own}
-use Rattle.dom_parts.specs.Definitions.{name_in, owner_in, trees_in}
+use Rattle.dom_parts.proofs.Cited.{ap, ◌∙◌, subst, option_map, ◌≡◌, ForSome, pre_insert_refusal, name_at, err_of, insertion_own, name_in, owner_in, trees_in}
 use Rattle.dom_parts.proofs.Shown.{known, own_in_part, of_owner}
 use Rattle.dom_parts.proofs.parts.Parts.check_insert.Goals as goal
 

@@ -1,8 +1,4 @@
-use Rattle.dom_base.proofs.Std.{ap, ◌∙◌, subst, ◌≡◌, refl}
-use Rattle.dom_model.proofs.Model.{replace_refusal}
-use Rattle.dom_tree.specs.Definitions.{name_at, err_of}
-use Rattle.dom_tree.proofs.Owned.{replacement_own}
-use Rattle.dom_parts.specs.Definitions.{name_in, owner_in, trees_in}
+use Rattle.dom_parts.proofs.Cited.{ap, ◌∙◌, subst, ◌≡◌, refl, replace_refusal, name_at, err_of, replacement_own, name_in, owner_in, trees_in}
 use Rattle.dom_parts.proofs.Shown.{known, own_in_part}
 use Rattle.dom_parts.proofs.parts.Parts.check_replace.Goals as goal
 

@@ -1,7 +1,6 @@
-use Rattle.dom_base.proofs.Std.{◌<◌, ◌≤◌, ℕ, sym, ap, ◌∙◌, inl, inr, arith, is_some, eq-or-lt_of_le}
-use Rattle.dom_model.proofs.Model.{NodeName, max_depth, may_be_host, component_made}
-use Rattle.dom_tree.specs.Definitions.{name_at}
-use Rattle.dom_parts.specs.Definitions.{all_tables}
+use Rattle.dom_parts.proofs.Cited.{◌<◌, ◌≤◌, ℕ, sym, ap, ◌∙◌, inl, inr, arith, is_some, eq-or-lt_of_le, NodeName, may_be_host, component_made}
+use Rattle.dom_parts.proofs.Cited.{name_at, all_tables}
+use Rattle.dom_model.proofs.Model.{max_depth}
 use Rattle.dom_parts.proofs.Attachable.{refused_host, refused_name, refused_depth, refused_limit, taken, may_of_depth, components_of, count_at, next_is_for}
 use Rattle.dom_parts.proofs.parts.Parts.component_for.Goals as goal
 use Rattle.dom_parts.proofs.parts.Parts.component_for.Goals.{then-is_some-via-then-is_some, then-is_some-via-else-is_some+then-not-may_be_host}

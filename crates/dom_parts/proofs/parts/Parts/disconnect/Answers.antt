@@ -1,4 +1,4 @@
-use Rattle.dom_observers.specs.Definitions.{tables_of}
+use Rattle.dom_parts.proofs.Cited.{tables_of}
 use Rattle.dom_parts.proofs.Observing.{disconnected_held, disconnected_world}
 use Rattle.dom_parts.proofs.parts.Parts.disconnect.Goals as goal
 

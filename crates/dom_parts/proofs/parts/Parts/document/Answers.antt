@@ -1,6 +1,4 @@
-use Rattle.dom_base.proofs.Std.{option_map, ap}
-use Rattle.dom_model.proofs.Model.{node_in}
-use Rattle.dom_tree.specs.Definitions.{name_at}
+use Rattle.dom_parts.proofs.Cited.{option_map, ap, node_in, name_at}
 use Rattle.dom_parts.proofs.Shown.{shown}
 use Rattle.dom_parts.proofs.parts.Parts.document.Goals as goal
 

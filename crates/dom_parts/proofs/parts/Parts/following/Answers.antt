@@ -1,7 +1,5 @@
-use Rattle.dom_base.proofs.Std.{◌≡◌, true, ◌<◌, length, option_map, refl, ap, sym, subst, ◌∙◌}
-use Rattle.dom_model.proofs.Model.{first_of, items_after, name_eq, is_in, inclusive_descendants, is_inclusive_ancestor, part_of}
-use Rattle.dom_tree.specs.Definitions.{name_at}
-use Rattle.dom_parts.specs.Definitions.{DocState, name_in, owner_in, trees_in}
+use Rattle.dom_parts.proofs.Cited.{◌≡◌, true, ◌<◌, length, option_map, refl, ap, sym, subst, ◌∙◌, first_of, items_after, name_eq, is_in, inclusive_descendants}
+use Rattle.dom_parts.proofs.Cited.{is_inclusive_ancestor, part_of, name_at, DocState, name_in, owner_in, trees_in}
 use Rattle.dom_parts.proofs.OwnNodes.{owner_below}
 use Rattle.dom_parts.proofs.Shown.{known, read_there, shown}
 use Rattle.dom_parts.proofs.parts.Parts.following.Goals as goal

@@ -1,7 +1,4 @@
-use Rattle.dom_base.proofs.Std.{◌≡◌, subst}
-use Rattle.dom_tree.specs.Definitions.{trees_of_owner}
-use Rattle.dom_model.proofs.Model.{part_of}
-use Rattle.dom_parts.specs.Definitions.{DocState}
+use Rattle.dom_parts.proofs.Cited.{◌≡◌, subst, trees_of_owner, part_of, DocState}
 use Rattle.dom_parts.proofs.Shown.{own_in_part}
 use Rattle.dom_parts.proofs.parts.Parts.forest.Goals as goal
 

@@ -1,8 +1,4 @@
-use Rattle.dom_base.proofs.Std.{◌≡◌, subst}
-use Rattle.dom_tree.specs.Definitions.{trees_of_owner}
-use Rattle.dom_model.proofs.Model.{part_of}
-use Rattle.dom_slots.specs.Definitions.{IsShownBy, shadows}
-use Rattle.dom_parts.specs.Definitions.{DocState, contents, all_tables}
+use Rattle.dom_parts.proofs.Cited.{◌≡◌, subst, trees_of_owner, part_of, IsShownBy, shadows, DocState, contents, all_tables}
 use Rattle.dom_parts.proofs.DocInvariant.{are_hosts}
 use Rattle.dom_parts.proofs.HostedWorlds.{world_shown}
 use Rattle.dom_parts.proofs.Shown.{own_in_part}

@@ -1,6 +1,5 @@
-use Rattle.dom_traversal.specs.Definitions.{cursors_of}
+use Rattle.dom_parts.proofs.Cited.{cursors_of, tables_with_trees}
 use Rattle.dom_observers.specs.Definitions.{tables_of as observers_of}
-use Rattle.dom_parts.specs.Definitions.{tables_with_trees}
 use Rattle.dom_parts.proofs.HeldNodes.{given_up, nothing_shown}
 use Rattle.dom_parts.proofs.parts.Parts.give_up.Goals as goal
 

@@ -1,5 +1,4 @@
-use Rattle.dom_base.proofs.Std.{Option, Some, None, option_map, ap, ◌∙◌, ◌≡◌, refl, is_some}
-use Rattle.dom_model.proofs.Model.{attribute_value, node_in}
+use Rattle.dom_parts.proofs.Cited.{Option, Some, None, option_map, ap, ◌∙◌, ◌≡◌, refl, is_some, attribute_value, node_in}
 use Rattle.dom_parts.proofs.Shown.{shown}
 use Rattle.dom_parts.proofs.parts.Parts.has_attr.Goals as goal
 

@@ -1,4 +1,4 @@
-use Rattle.dom_base.proofs.Std.{◌∙◌}
+use Rattle.dom_parts.proofs.Cited.{◌∙◌}
 use Rattle.dom_parts.proofs.Passing.{iter_is}
 use Rattle.dom_parts.proofs.parts.Parts.has_iter.Goals as goal
 

@@ -1,6 +1,5 @@
-use Rattle.dom_base.proofs.Std.{is_some, sym, ap, ◌∙◌}
+use Rattle.dom_parts.proofs.Cited.{is_some, sym, ap, ◌∙◌, range_from}
 use Rattle.dom_parts.proofs.RangedPassing.{some_of, range_is}
-use Rattle.dom_ranges.specs.Definitions.{range_from}
 use Rattle.dom_parts.proofs.parts.Parts.has_range.Goals as goal
 
 pub returns : goal.returns

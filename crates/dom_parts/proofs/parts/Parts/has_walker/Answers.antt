@@ -1,4 +1,4 @@
-use Rattle.dom_base.proofs.Std.{◌∙◌}
+use Rattle.dom_parts.proofs.Cited.{◌∙◌}
 use Rattle.dom_parts.proofs.Passing.{walk_is}
 use Rattle.dom_parts.proofs.parts.Parts.has_walker.Goals as goal
 

@@ -1,4 +1,4 @@
-use Rattle.dom_model.proofs.Model.{index_of}
+use Rattle.dom_parts.proofs.Cited.{index_of}
 use Rattle.dom_parts.proofs.Shown.{shown}
 use Rattle.dom_parts.proofs.parts.Parts.index.Goals as goal
 

@@ -1,8 +1,5 @@
-use Rattle.dom_base.proofs.Std.{◌≡◌, ap, sym, subst, ◌∙◌}
-use Rattle.dom_model.proofs.Model.{NodeName, owner_depth, is_document, kind_of, root_of, is_connected}
-use Rattle.dom_slots.specs.Definitions.{shadows}
-use Rattle.dom_tree.specs.Definitions.{name_at}
-use Rattle.dom_parts.specs.Definitions.{DocState, name_in, outermost_root}
+use Rattle.dom_parts.proofs.Cited.{◌≡◌, ap, sym, subst, ◌∙◌, NodeName, owner_depth, is_document, kind_of, root_of, is_connected, shadows, name_at, DocState}
+use Rattle.dom_parts.proofs.Cited.{name_in, outermost_root}
 use Rattle.dom_parts.proofs.Connected.{connected_held}
 use Rattle.dom_parts.proofs.parts.Parts.is_connected.Goals as goal
 

@@ -1,5 +1,4 @@
-use Rattle.dom_base.proofs.Std.{◌≢◌, true≢false, sym, ap, ◌∙◌, nat_lt}
-use Rattle.dom_model.proofs.Model.{Page, is_there}
+use Rattle.dom_parts.proofs.Cited.{◌≢◌, true≢false, sym, ap, ◌∙◌, nat_lt, Page, is_there}
 use Rattle.dom_parts.proofs.OwnersOfNodes.{page_there, nodes_there}
 use Rattle.dom_parts.proofs.parts.Parts.is_there.Goals as goal
 use Rattle.dom_parts.proofs.parts.Parts.is_there.Goals.{in-Page, in_default}

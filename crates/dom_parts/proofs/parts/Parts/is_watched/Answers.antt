@@ -1,7 +1,4 @@
-use Rattle.dom_base.proofs.Std.{◌≡◌, false, not, List, [], ◌∷◌, refl, sym, ap, ◌∙◌}
-use Rattle.dom_model.proofs.Model.{is_empty}
-use Rattle.dom_tree.specs.Definitions.{name_at}
-use Rattle.dom_observers.specs.Definitions.{tables_of}
+use Rattle.dom_parts.proofs.Cited.{◌≡◌, false, not, List, [], ◌∷◌, refl, sym, ap, ◌∙◌, is_empty, name_at, tables_of}
 use Rattle.dom_parts.proofs.Shown.{untold}
 use Rattle.dom_parts.proofs.parts.Parts.is_watched.Goals as goal
 

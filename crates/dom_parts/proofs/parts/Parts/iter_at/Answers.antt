@@ -1,9 +1,6 @@
-use Rattle.dom_base.proofs.Std.{ℕ, ◌<◌, Bool, [], length, sym, ap, subst, ◌∙◌}
-use Rattle.dom_model.proofs.Model.{Command, reference, Effect}
-use Rattle.dom_tree.specs.Definitions.{name_at}
+use Rattle.dom_parts.proofs.Cited.{ℕ, ◌<◌, Bool, [], length, sym, ap, subst, ◌∙◌, Command, reference, Effect, name_at, all_tables}
 use Rattle.dom_parts.proofs.Cursors.{with_own, at_effect}
 use Rattle.dom_parts.proofs.Passing.{there_iter, iter_there, the_iterator, reads, name_known}
-use Rattle.dom_parts.specs.Definitions.{all_tables}
 use Rattle.dom_parts.proofs.parts.Parts.iter_at.Goals as goal
 
 pub iter_at-requires : goal.iter_at-requires

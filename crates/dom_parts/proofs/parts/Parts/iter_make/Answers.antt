@@ -1,4 +1,4 @@
-use Rattle.dom_traversal.specs.Definitions.{cursors_of, filter_of}
+use Rattle.dom_parts.proofs.Cited.{cursors_of, filter_of}
 use Rattle.dom_parts.proofs.Passing.{iter_made, iter_made_writes, iter_limit, none_made}
 use Rattle.dom_parts.proofs.parts.Parts.iter_make.Goals as goal
 

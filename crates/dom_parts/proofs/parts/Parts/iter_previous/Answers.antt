@@ -1,7 +1,4 @@
-use Rattle.dom_base.proofs.Std.{true}
-use Rattle.dom_model.proofs.Model.{Command}
-use Rattle.dom_traversal.specs.Definitions.{cursors_of}
-use Rattle.dom_parts.specs.Definitions.{all_tables}
+use Rattle.dom_parts.proofs.Cited.{true, Command, cursors_of, all_tables}
 use Rattle.dom_parts.proofs.Cursors.{previous_effect}
 use Rattle.dom_parts.proofs.Passing.{there_iter, iter_there, iters_of, the_iterator, Moves, iter_moves}
 use Rattle.dom_parts.proofs.parts.Parts.iter_previous.Goals as goal

@@ -1,8 +1,6 @@
-use Rattle.dom_base.proofs.Std.{◌≡◌, ◌+◌, ◌<◌, ◌^◌, ℕ, length, refl, ap, subst, ◌∙◌, arith, nat_eq}
-use Rattle.dom_model.proofs.Model.{name_eq, after_join, join_at, index_of, length_of, part_of}
-use Rattle.dom_ranges.proofs.Naming.{join-named}
-use Rattle.dom_tree.specs.Definitions.{NamedTrees, name_at}
-use Rattle.dom_parts.specs.Definitions.{AllTables, DocState, IsDoc, name_in, owner_in, trees_in, state_from, stepped, all_tables}
+use Rattle.dom_parts.proofs.Cited.{◌≡◌, ◌+◌, ◌<◌, ◌^◌, ℕ, length, refl, ap, subst, ◌∙◌, arith, nat_eq, name_eq, after_join, join_at, index_of, length_of}
+use Rattle.dom_parts.proofs.Cited.{part_of, join-named, NamedTrees, name_at, AllTables, DocState, IsDoc, name_in, owner_in, trees_in, state_from, stepped}
+use Rattle.dom_parts.proofs.Cited.{all_tables}
 use Rattle.dom_parts.proofs.RangeRules.{join_rule}
 use Rattle.dom_parts.proofs.RangedStates.{MovesEnds, ends_moved, join_asks}
 use Rattle.dom_parts.proofs.Shown.{known, shown}

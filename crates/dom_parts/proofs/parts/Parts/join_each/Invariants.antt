@@ -1,4 +1,4 @@
-use Rattle.dom_base.proofs.Std.{drop}
+use Rattle.dom_parts.proofs.Cited.{drop}
 use Rattle.dom_parts.proofs.JoinedEach.{Joins}
 use Rattle.dom_parts.proofs.parts.Parts.join_each.Given as goal
 

@@ -1,5 +1,4 @@
-use Rattle.dom_base.proofs.Std.{ap}
-use Rattle.dom_model.proofs.Model.{kind_of}
+use Rattle.dom_parts.proofs.Cited.{ap, kind_of}
 use Rattle.dom_parts.proofs.Shown.{shown}
 use Rattle.dom_parts.proofs.parts.Parts.kind.Goals as goal
 

@@ -1,5 +1,4 @@
-use Rattle.dom_base.proofs.Std.{ap}
-use Rattle.dom_model.proofs.Model.{last_of, children_of}
+use Rattle.dom_parts.proofs.Cited.{ap, last_of, children_of}
 use Rattle.dom_parts.proofs.OwnNodes.{last_near}
 use Rattle.dom_parts.proofs.Shown.{read_from}
 use Rattle.dom_parts.proofs.parts.Parts.last.Goals as goal

@@ -1,11 +1,6 @@
-use Rattle.dom_base.proofs.Std.{◌≡◌, ◌<◌, ◌≤◌, length, true, false, arith, subst, sym, count_by}
-use Rattle.dom_model.proofs.Model.{name_eq, Node, Trees, nodes, has_node, part_of, is_there, past_limit}
-use Rattle.dom_worlds.specs.Definitions.{IsPart}
-use Rattle.dom_tree.specs.Definitions.{trees_of_owner, AreOf, name_at}
-use Rattle.dom_laws.proofs.Laws.{times_count}
-use Rattle.dom_tree.proofs.Standing.{Once-forest, once_own}
-use Rattle.dom_parts.specs.Definitions.{world_of, DocState, owner_in, contents, all_tables, IsAlone}
-use Rattle.dom_tree.proofs.Owned.{AreOf-own}
+use Rattle.dom_parts.proofs.Cited.{◌≡◌, ◌<◌, ◌≤◌, length, true, false, arith, subst, sym, count_by, name_eq, Node, Trees, nodes, has_node, part_of, is_there}
+use Rattle.dom_parts.proofs.Cited.{past_limit, IsPart, trees_of_owner, AreOf, name_at, times_count, Once-forest, once_own, world_of, DocState, owner_in}
+use Rattle.dom_parts.proofs.Cited.{contents, all_tables, IsAlone, AreOf-own}
 use Rattle.dom_parts.proofs.DocInvariant.{are_hosts}
 use Rattle.dom_parts.proofs.HostedWorlds.{makers_hosted}
 use Rattle.dom_parts.proofs.Limits.{within_limit}

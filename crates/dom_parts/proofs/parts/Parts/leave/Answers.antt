@@ -1,9 +1,6 @@
-use Rattle.dom_base.proofs.Std.{◌≡◌, true, true≢false, Result, Ok, Err, option_map, refl, sym, ap, subst, ◌∙◌, is_some, OnOk}
-use Rattle.dom_model.proofs.Model.{parent_of, take_out, NodeName, Owner}
-use Rattle.dom_tree.specs.Definitions.{name_at}
-use Rattle.dom_traversal.specs.Definitions.{cursors_of, with_cursors, KeyedTables, AreLeft}
+use Rattle.dom_parts.proofs.Cited.{◌≡◌, true, true≢false, Result, Ok, Err, option_map, refl, sym, ap, subst, ◌∙◌, is_some, OnOk, parent_of, take_out, NodeName}
+use Rattle.dom_parts.proofs.Cited.{Owner, name_at, cursors_of, with_cursors, KeyedTables, AreLeft, tables_with_trees, name_in, owner_in, trees_in, stepped}
 use Rattle.dom_observers.specs.Definitions.{tables_of as observers_of}
-use Rattle.dom_parts.specs.Definitions.{tables_with_trees, name_in, owner_in, trees_in, stepped}
 use Rattle.dom_parts.proofs.Observing.{none_held}
 use Rattle.dom_parts.proofs.RangedLists.{own_at_nodes}
 use Rattle.dom_parts.proofs.Shown.{known, read_there}

@@ -1,4 +1,4 @@
-use Rattle.dom_model.proofs.Model.{length_of}
+use Rattle.dom_parts.proofs.Cited.{length_of}
 use Rattle.dom_parts.proofs.Shown.{shown}
 use Rattle.dom_parts.proofs.parts.Parts.length.Goals as goal
 

@@ -1,6 +1,4 @@
-use Rattle.dom_base.proofs.Std.{◌≡◌, subst}
-use Rattle.dom_model.proofs.Model.{make_room, index_of}
-use Rattle.dom_parts.specs.Definitions.{DocState, name_in, owner_in, trees_in, stepped}
+use Rattle.dom_parts.proofs.Cited.{◌≡◌, subst, make_room, index_of, DocState, name_in, owner_in, trees_in, stepped}
 use Rattle.dom_parts.proofs.parts.Parts.make_room.Goals as goal
 
 pub returns : goal.returns

@@ -1,8 +1,5 @@
-use Rattle.dom_base.proofs.Std.{◌<◌, ℕ, length, refl, ap, ◌∙◌, nat_eq}
-use Rattle.dom_model.proofs.Model.{name_eq, after_insert, make_room, index_of}
-use Rattle.dom_ranges.proofs.Naming.{insert-named}
-use Rattle.dom_tree.specs.Definitions.{name_at}
-use Rattle.dom_parts.specs.Definitions.{name_in, owner_in, stepped, all_tables}
+use Rattle.dom_parts.proofs.Cited.{◌<◌, ℕ, length, refl, ap, ◌∙◌, nat_eq, name_eq, after_insert, make_room, index_of, insert-named, name_at, name_in, owner_in}
+use Rattle.dom_parts.proofs.Cited.{stepped, all_tables}
 use Rattle.dom_parts.proofs.RangeRules.{insert_rule}
 use Rattle.dom_parts.proofs.RangedStates.{MovesEnds, ends_moved, room_asks}
 use Rattle.dom_parts.proofs.Shown.{known, shown}

@@ -1,10 +1,5 @@
-use Rattle.dom_base.proofs.Std.{[], ◌∷◌, ◌++◌, None, refl, ap, ◌∙◌}
-use Rattle.dom_model.proofs.Model.{Document, Page, node_of, with_node}
-use Rattle.dom_tree.specs.Definitions.{next_name, node_from}
-use Rattle.dom_tree.specs.declared.data.NodeData.{NodeData}
-use Rattle.dom_traversal.specs.Definitions.{no_keyed_tables}
-use Rattle.dom_parts.specs.Definitions.{tables_with_trees}
-use Rattle.dom_node_trees.specs.declared.steps.NodeTrees.{NodeTrees}
+use Rattle.dom_parts.proofs.Cited.{[], ◌∷◌, ◌++◌, None, refl, ap, ◌∙◌, Document, Page, node_of, with_node, next_name, node_from, NodeData, no_keyed_tables}
+use Rattle.dom_parts.proofs.Cited.{tables_with_trees, NodeTrees}
 use Rattle.dom_parts.proofs.HeldNodes.{first_held}
 use Rattle.dom_observers.specs.Definitions.{no_tables as no_observers}
 use Rattle.dom_parts.proofs.parts.Parts.new.Goals as goal

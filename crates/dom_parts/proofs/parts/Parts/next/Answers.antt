@@ -1,4 +1,4 @@
-use Rattle.dom_model.proofs.Model.{next_sibling}
+use Rattle.dom_parts.proofs.Cited.{next_sibling}
 use Rattle.dom_parts.proofs.OwnNodes.{next_near}
 use Rattle.dom_parts.proofs.Shown.{read_from}
 use Rattle.dom_parts.proofs.parts.Parts.next.Goals as goal

@@ -1,6 +1,4 @@
-use Rattle.dom_base.proofs.Std.{◌≡◌, true, sym, ap, subst, ◌∙◌}
-use Rattle.dom_model.proofs.Model.{Part, part_of, is_there}
-use Rattle.dom_parts.specs.Definitions.{DocState, all_tables, contents}
+use Rattle.dom_parts.proofs.Cited.{◌≡◌, true, sym, ap, subst, ◌∙◌, Part, part_of, is_there, DocState, all_tables, contents}
 use Rattle.dom_parts.proofs.Worlds.{part_at}
 use Rattle.dom_parts.proofs.parts.Parts.node_count.Goals as goal
 

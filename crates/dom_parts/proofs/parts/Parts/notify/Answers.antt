@@ -1,5 +1,4 @@
-use Rattle.dom_base.proofs.Std.{refl}
-use Rattle.dom_observers.specs.Definitions.{tables_of}
+use Rattle.dom_parts.proofs.Cited.{refl, tables_of}
 use Rattle.dom_parts.proofs.Observing.{none_held, notified_held, notified_world, notified_notices, notified_nodes, unseen}
 use Rattle.dom_parts.proofs.parts.Parts.notify.Goals as goal
 

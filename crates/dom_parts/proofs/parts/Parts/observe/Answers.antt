@@ -1,6 +1,4 @@
-use Rattle.dom_base.proofs.Std.{◌≡◌, ◌<◌, length}
-use Rattle.dom_observers.specs.Definitions.{tables_of, words_of}
-use Rattle.dom_parts.specs.Definitions.{owner_in}
+use Rattle.dom_parts.proofs.Cited.{◌≡◌, ◌<◌, length, tables_of, words_of, owner_in}
 use Rattle.dom_parts.proofs.Shown.{known}
 use Rattle.dom_parts.proofs.Observing.{same_if, refused_known, faults_known, observed_held, observed_world}
 use Rattle.dom_parts.proofs.parts.Parts.observe.Goals as goal

@@ -1,6 +1,4 @@
-use Rattle.dom_base.proofs.Std.{◌≡◌, true, Err, subst, ◌↔◌}
-use Rattle.dom_model.proofs.Model.{Refused, Limit, past_limit}
-use Rattle.dom_observers.specs.Definitions.{tables_of}
+use Rattle.dom_parts.proofs.Cited.{◌≡◌, true, Err, subst, ◌↔◌, Refused, Limit, past_limit, tables_of}
 use Rattle.dom_parts.proofs.Observing.{made_held, made_world, count_is, same_if}
 use Rattle.dom_parts.proofs.parts.Parts.observer_make.Goals as goal
 

@@ -1,5 +1,4 @@
-use Rattle.dom_base.proofs.Std.{Some, None, ap, ◌∙◌}
-use Rattle.dom_model.proofs.Model.{attribute_value, node_in}
+use Rattle.dom_parts.proofs.Cited.{Some, None, ap, ◌∙◌, attribute_value, node_in}
 use Rattle.dom_parts.proofs.Shown.{shown}
 use Rattle.dom_parts.proofs.parts.Parts.old_value.Goals as goal
 

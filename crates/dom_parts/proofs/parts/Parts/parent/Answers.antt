@@ -1,4 +1,4 @@
-use Rattle.dom_model.proofs.Model.{parent_of}
+use Rattle.dom_parts.proofs.Cited.{parent_of}
 use Rattle.dom_parts.proofs.OwnNodes.{parent_near}
 use Rattle.dom_parts.proofs.Shown.{read_from}
 use Rattle.dom_parts.proofs.parts.Parts.parent.Goals as goal

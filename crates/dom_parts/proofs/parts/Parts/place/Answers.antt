@@ -1,12 +1,6 @@
-use Rattle.dom_base.proofs.Std.{◌≡◌, ℕ, ◌<◌, length, false, Some, None, option_map, refl, ap, ◌∙◌}
-use Rattle.dom_model.proofs.Model.{name_eq, is_in, parent_of, is_inclusive_ancestor, placed, place}
-use Rattle.dom_tree.specs.Definitions.{NamedTrees, name_at}
-use Rattle.dom_tree.proofs.OwnPlacings.{put}
-use Rattle.dom_parts.specs.Definitions.{DocState, IsDoc, name_in, owner_in, trees_in, contents, all_tables, state_from, stepped, AllTables, tables_with_trees}
-use Rattle.dom_tree.proofs.Standing.{Once-forest, Has-forest}
-use Rattle.dom_laws.proofs.Laws.{keeps_placed}
-use Rattle.dom_slots.specs.declared.step.Step.TheVariants.{Place}
-use Rattle.dom_traversal.specs.Definitions.{cursors_of}
+use Rattle.dom_parts.proofs.Cited.{◌≡◌, ℕ, ◌<◌, length, false, Some, None, option_map, refl, ap, ◌∙◌, name_eq, is_in, parent_of, is_inclusive_ancestor, placed}
+use Rattle.dom_parts.proofs.Cited.{place, NamedTrees, name_at, put, DocState, IsDoc, name_in, owner_in, trees_in, contents, all_tables, state_from, stepped}
+use Rattle.dom_parts.proofs.Cited.{AllTables, tables_with_trees, Once-forest, Has-forest, keeps_placed, Place, cursors_of}
 use Rattle.dom_observers.specs.Definitions.{tables_of as observers_of}
 use Rattle.dom_parts.proofs.DocInvariant.{are_hosts}
 use Rattle.dom_parts.proofs.HostedSteps.{place_hosted}

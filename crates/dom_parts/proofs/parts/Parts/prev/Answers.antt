@@ -1,4 +1,4 @@
-use Rattle.dom_model.proofs.Model.{previous_sibling}
+use Rattle.dom_parts.proofs.Cited.{previous_sibling}
 use Rattle.dom_parts.proofs.OwnNodes.{previous_near}
 use Rattle.dom_parts.proofs.Shown.{read_from}
 use Rattle.dom_parts.proofs.parts.Parts.prev.Goals as goal

@@ -1,5 +1,4 @@
-use Rattle.dom_base.proofs.Std.{◌∷◌, ◌++◌, []}
-use Rattle.dom_model.proofs.Model.{micro_task}
+use Rattle.dom_parts.proofs.Cited.{◌∷◌, ◌++◌, [], micro_task}
 use Rattle.dom_parts.proofs.Tasks.{pushed, pushed_none, held_pushed}
 use Rattle.dom_parts.proofs.parts.Parts.push_micro.Goals as goal
 

@@ -1,5 +1,4 @@
-use Rattle.dom_base.proofs.Std.{true≢false, is_some, sym, ap, ◌∙◌, option_map}
-use Rattle.dom_ranges.specs.Definitions.{range_from}
+use Rattle.dom_parts.proofs.Cited.{true≢false, is_some, sym, ap, ◌∙◌, option_map, range_from}
 use Rattle.dom_parts.proofs.RangedPassing.{range_is, points_are}
 use Rattle.dom_parts.proofs.parts.Parts.range_points.Goals as goal
 

@@ -1,5 +1,4 @@
-use Rattle.dom_base.proofs.Std.{rules, ◌∙◌}
-use Rattle.dom_ranges.specs.Definitions.{range_from}
+use Rattle.dom_parts.proofs.Cited.{rules, ◌∙◌, range_from}
 use Rattle.dom_parts.proofs.RangeSteps.{put_held, put_made}
 use Rattle.dom_parts.proofs.RangedPassing.{range_is}
 use Rattle.dom_parts.proofs.parts.Parts.range_put.Goals as goal

@@ -1,6 +1,4 @@
-use Rattle.dom_base.proofs.Std.{arith}
-use Rattle.dom_model.proofs.Model.{Command, own}
-use Rattle.dom_parts.specs.Definitions.{all_tables, name_in}
+use Rattle.dom_parts.proofs.Cited.{arith, Command, own, all_tables, name_in}
 use Rattle.dom_parts.proofs.RangedLists.{own_at_nodes}
 use Rattle.dom_parts.proofs.RangedPassing.{EndIsSet, end_is_set}
 use Rattle.dom_parts.proofs.parts.Parts.range_set_end.Goals as goal

@@ -1,8 +1,4 @@
-use Rattle.dom_base.proofs.Std.{false, refl, sym, ap, ◌∙◌}
-use Rattle.dom_model.proofs.Model.{NodeName, target_of}
-use Rattle.dom_tree.specs.Definitions.{name_at}
-use Rattle.dom_observers.specs.Definitions.{tables_of, change_of}
-use Rattle.dom_parts.specs.Definitions.{NamesNodes}
+use Rattle.dom_parts.proofs.Cited.{false, refl, sym, ap, ◌∙◌, NodeName, target_of, name_at, tables_of, change_of, NamesNodes}
 use Rattle.dom_parts.proofs.Shown.{known}
 use Rattle.dom_parts.proofs.Observing.{none_held}
 use Rattle.dom_parts.proofs.Records.{record_held, record_state, notify_held, notify_state}

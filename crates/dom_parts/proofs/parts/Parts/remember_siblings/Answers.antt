@@ -1,6 +1,4 @@
-use Rattle.dom_base.proofs.Std.{sym, subst, ap, ◌∙◌}
-use Rattle.dom_tree.specs.Definitions.{NamedTrees}
-use Rattle.dom_parts.specs.Definitions.{all_tables, state_from, IsDoc}
+use Rattle.dom_parts.proofs.Cited.{sym, subst, ap, ◌∙◌, NamedTrees, all_tables, state_from, IsDoc}
 use Rattle.dom_parts.proofs.parts.Parts.remember_siblings.Goals as goal
 
 pub invariant_of-self : goal.invariant_of-self

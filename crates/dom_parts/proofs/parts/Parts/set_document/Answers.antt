@@ -1,8 +1,5 @@
-use Rattle.dom_base.proofs.Std.{◌≡◌, ◌<◌, ℕ, List, All, map, fold, length, sym, ap, subst, ◌∙◌}
-use Rattle.dom_model.proofs.Model.{NodeName, Trees, max_depth}
-use Rattle.dom_tree.specs.Definitions.{NamedTrees, name_at}
-use Rattle.dom_slots.specs.Definitions.{ShadowHost}
-use Rattle.dom_node_trees.specs.Documents.{under_each, roots_within}
+use Rattle.dom_parts.proofs.Cited.{◌≡◌, ◌<◌, ℕ, List, All, map, fold, length, sym, ap, subst, ◌∙◌, NodeName, Trees, max_depth, NamedTrees, name_at, ShadowHost}
+use Rattle.dom_parts.proofs.Cited.{under_each, roots_within}
 use Rattle.dom_parts.proofs.Roots.{depth_is, documents_are_held, documents_are_set}
 use Rattle.dom_parts.proofs.parts.Parts.set_document.Goals as goal
 

@@ -1,9 +1,5 @@
-use Rattle.dom_base.proofs.Std.{◌≡◌, ◌<◌, ℕ, length, Some, refl, subst, arith, nat_eq, same_Some}
-use Rattle.dom_model.proofs.Model.{Owner, name_eq, after_split, split_at}
-use Rattle.dom_ranges.specs.Definitions.{Fits, EachRange, BothEnds, ranges_of}
-use Rattle.dom_ranges.proofs.Naming.{split-named}
-use Rattle.dom_tree.specs.Definitions.{name_at}
-use Rattle.dom_parts.specs.Definitions.{owner_in, contents, all_tables}
+use Rattle.dom_parts.proofs.Cited.{◌≡◌, ◌<◌, ℕ, length, Some, refl, subst, arith, nat_eq, same_Some, Owner, name_eq, after_split, split_at, Fits, EachRange}
+use Rattle.dom_parts.proofs.Cited.{BothEnds, ranges_of, split-named, name_at, owner_in, contents, all_tables}
 use Rattle.dom_parts.proofs.RangeRules.{split_rule}
 use Rattle.dom_parts.proofs.RangedFits.{split_fits}
 use Rattle.dom_parts.proofs.RangedStates.{MovesEnds, ends_moved}

@@ -1,6 +1,4 @@
-use Rattle.dom_base.proofs.Std.{◌≡◌, subst, OnOk}
-use Rattle.dom_model.proofs.Model.{take_out}
-use Rattle.dom_parts.specs.Definitions.{DocState, name_in, owner_in, stepped}
+use Rattle.dom_parts.proofs.Cited.{◌≡◌, subst, OnOk, take_out, DocState, name_in, owner_in, stepped}
 use Rattle.dom_parts.proofs.parts.Parts.take_out.Goals as goal
 
 pub returns : goal.returns

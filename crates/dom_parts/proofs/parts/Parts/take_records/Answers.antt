@@ -1,5 +1,4 @@
-use Rattle.dom_base.proofs.Std.{◌∙◌, slice_get}
-use Rattle.dom_observers.specs.Definitions.{tables_of}
+use Rattle.dom_parts.proofs.Cited.{◌∙◌, slice_get, tables_of}
 use Rattle.dom_parts.proofs.Observing.{observer_is, shown_one, taken_held, taken_nodes, taken_world}
 use Rattle.dom_parts.proofs.parts.Parts.take_records.Goals as goal
 

@@ -1,7 +1,6 @@
-use Rattle.dom_base.proofs.Std.{[], sym, subst, ◌∙◌, AllByRecursion}
+use Rattle.dom_parts.proofs.Cited.{[], sym, subst, ◌∙◌, AllByRecursion, all_tables, IsDue, world_from}
 use Rattle.dom_parts.proofs.Tasks.{tasks_are, queued}
 use Rattle.dom_parts.proofs.DocInvariant.{held_tasks}
-use Rattle.dom_parts.specs.Definitions.{all_tables, IsDue, world_from}
 use Rattle.dom_parts.proofs.parts.Parts.take_tasks.Goals as goal
 
 pub invariant_of-self : goal.invariant_of-self

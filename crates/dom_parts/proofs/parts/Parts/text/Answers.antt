@@ -1,5 +1,4 @@
-use Rattle.dom_base.proofs.Std.{ap}
-use Rattle.dom_model.proofs.Model.{node_in}
+use Rattle.dom_parts.proofs.Cited.{ap, node_in}
 use Rattle.dom_parts.proofs.Shown.{shown}
 use Rattle.dom_parts.proofs.parts.Parts.text.Goals as goal
 

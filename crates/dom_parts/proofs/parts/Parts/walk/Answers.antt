@@ -1,6 +1,4 @@
-use Rattle.dom_model.proofs.Model.{Command}
-use Rattle.dom_traversal.specs.Definitions.{cursors_of}
-use Rattle.dom_parts.specs.Definitions.{all_tables}
+use Rattle.dom_parts.proofs.Cited.{Command, cursors_of, all_tables}
 use Rattle.dom_parts.proofs.Passing.{walk_there, walks_of, the_walker, Moves, walk_moves}
 use Rattle.dom_parts.proofs.parts.Parts.walk.Goals as goal
 

@@ -1,9 +1,6 @@
-use Rattle.dom_base.proofs.Std.{◌<◌, [], length, sym, ap, subst, ◌∙◌}
-use Rattle.dom_model.proofs.Model.{Command, a_node, Effect}
-use Rattle.dom_tree.specs.Definitions.{name_at}
+use Rattle.dom_parts.proofs.Cited.{◌<◌, [], length, sym, ap, subst, ◌∙◌, Command, a_node, Effect, name_at, all_tables}
 use Rattle.dom_parts.proofs.Cursors.{with_own, walk_at_effect}
 use Rattle.dom_parts.proofs.Passing.{there_walk, walk_there, the_walker, reads, name_known}
-use Rattle.dom_parts.specs.Definitions.{all_tables}
 use Rattle.dom_parts.proofs.parts.Parts.walk_at.Goals as goal
 
 pub walker_at-requires : goal.walker_at-requires

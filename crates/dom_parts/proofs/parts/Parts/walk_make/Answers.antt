@@ -1,4 +1,4 @@
-use Rattle.dom_traversal.specs.Definitions.{cursors_of, filter_of}
+use Rattle.dom_parts.proofs.Cited.{cursors_of, filter_of}
 use Rattle.dom_parts.proofs.Passing.{walk_made, walk_made_writes, walk_limit, none_made}
 use Rattle.dom_parts.proofs.parts.Parts.walk_make.Goals as goal
 

@@ -1,13 +1,8 @@
-use Rattle.dom_base.proofs.Std.{◌≡◌, ◌<◌, length, slice_get, slice_set}
-use Rattle.dom_model.proofs.Model.{Command, own, nothing}
-use Rattle.dom_tree.specs.Definitions.{name_at}
-use Rattle.dom_traversal.specs.Definitions.{cursors_of}
-use Rattle.dom_parts.specs.Definitions.{owner_in, all_tables}
+use Rattle.dom_parts.proofs.Cited.{◌≡◌, ◌<◌, length, slice_get, slice_set, Command, own, nothing, name_at, cursors_of, owner_in, all_tables, was_some}
 use Rattle.dom_parts.proofs.Shown.{known}
 use Rattle.dom_parts.proofs.Cursors.{walk_set_effect}
 use Rattle.dom_parts.proofs.Passing.{there_walk, walk_there, writes, held_written, walk_moved}
 use Rattle.dom_parts.proofs.parts.Parts.walk_set.Goals as goal
-use Rattle.dom_laws.proofs.Laws.{was_some}
 
 pub set_walker-requires : goal.set_walker-requires
 set_walker-requires c =

@@ -1,8 +1,5 @@
-use Rattle.dom_base.proofs.Std.{◌≡◌, ◌+◌, [], length, refl, ap, ◌∙◌, arith, length_push}
-use Rattle.dom_model.proofs.Model.{slots_among, Node, subtree, Shadow}
-use Rattle.dom_tree.specs.Definitions.{name_at, next_name, node_from}
-use Rattle.dom_slots.specs.Definitions.{HasOneMore}
-use Rattle.dom_slots.proofs.Added.{slots-more}
+use Rattle.dom_parts.proofs.Cited.{◌≡◌, ◌+◌, [], length, refl, ap, ◌∙◌, arith, length_push, slots_among, Node, subtree, Shadow, name_at, next_name, node_from}
+use Rattle.dom_parts.proofs.Cited.{HasOneMore, slots-more}
 use Rattle.dom_parts.proofs.parts.attaching.attach_root.Goals as goal
 
 pub returns-clause-slots : goal.returns-clause-slots

@@ -1,6 +1,4 @@
-use Rattle.dom_base.proofs.Std.{◌≢◌, ◌+◌, ◌/◌, ap, ◌∙◌, arith}
-use Rattle.dom_model.proofs.Model.{Owner, component_made}
-use Rattle.dom_tree.specs.Definitions.{count_of}
+use Rattle.dom_parts.proofs.Cited.{◌≢◌, ◌+◌, ◌/◌, ap, ◌∙◌, arith, Owner, component_made, count_of}
 use Rattle.dom_parts.proofs.parts.attaching.count_made.Goals as goal
 
 -- a component that has nodes: so have all before it

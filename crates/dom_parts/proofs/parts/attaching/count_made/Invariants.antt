@@ -1,6 +1,4 @@
-use Rattle.dom_base.proofs.Std.{◌≡◌, ◌≢◌, ℕ, ◌<◌, ◌≤◌, ◌-◌}
-use Rattle.dom_model.proofs.Model.{component_made}
-use Rattle.dom_tree.specs.Definitions.{count_of}
+use Rattle.dom_parts.proofs.Cited.{◌≡◌, ◌≢◌, ℕ, ◌<◌, ◌≤◌, ◌-◌, component_made, count_of}
 use Rattle.dom_parts.proofs.parts.attaching.count_made.Given as goal
 
 abbrev pub invariant-loop-low : goal.invariant-loop-low

@@ -1,8 +1,5 @@
-use Rattle.dom_base.proofs.Std.{◌≡◌, ◌-◌, suc, Some, None, option_map, sym, ap, ◌∙◌, arith}
-use Rattle.dom_slots.proofs.Hosted.{host-named, host-node}
-use Rattle.dom_slots.specs.Definitions.{host_named, shadows}
-use Rattle.dom_tree.specs.Definitions.{name_at}
-use Rattle.dom_parts.specs.Definitions.{outermost_root}
+use Rattle.dom_parts.proofs.Cited.{◌≡◌, ◌-◌, suc, Some, None, option_map, sym, ap, ◌∙◌, arith, host-named, host-node, host_named, shadows, name_at}
+use Rattle.dom_parts.proofs.Cited.{outermost_root}
 use Rattle.dom_parts.proofs.Connected.{outermost_none, outermost_some}
 use Rattle.dom_parts.proofs.parts.reads.outermost_root.Goals as goal
 

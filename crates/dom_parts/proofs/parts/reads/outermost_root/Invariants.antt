@@ -1,8 +1,4 @@
-use Rattle.dom_base.proofs.Std.{◌≡◌, ◌<◌, length}
-use Rattle.dom_model.proofs.Model.{root_of}
-use Rattle.dom_slots.specs.Definitions.{shadows}
-use Rattle.dom_tree.specs.Definitions.{name_at}
-use Rattle.dom_parts.specs.Definitions.{outermost_root}
+use Rattle.dom_parts.proofs.Cited.{◌≡◌, ◌<◌, length, root_of, shadows, name_at, outermost_root}
 use Rattle.dom_parts.proofs.parts.reads.outermost_root.Given as goal
 
 abbrev pub invariant-loop-left : goal.invariant-loop-left

@@ -1,8 +1,5 @@
-use Rattle.dom_base.proofs.Std.{ap, ◌∙◌}
-use Rattle.dom_node_trees.specs.declared.steps.NodeTrees.{NodeTrees}
+use Rattle.dom_parts.proofs.Cited.{ap, ◌∙◌, NodeTrees, no_keyed_tables, tables_with_trees}
 use Rattle.dom_observers.specs.Definitions.{no_tables as no_observers}
-use Rattle.dom_traversal.specs.Definitions.{no_keyed_tables}
-use Rattle.dom_parts.specs.Definitions.{tables_with_trees}
 use Rattle.dom_parts.proofs.parts.settling.give_up.Goals as goal
 
 pub returns-clause-empty : goal.returns-clause-empty
