@@ -3,7 +3,7 @@ ghost use Rattle.std.specs.Prelude.{◌≡◌, ◌↔◌, ◌⊎◌, ◌++◌, �
 ghost use Rattle.std.specs.Option.{option_map, ForSome};
 ghost use Rattle.dom_base.specs.declared.Refusal.{Refusal as RefusalOf};
 ghost use Rattle.dom_base.specs.declared.Refusal.TheVariants.{IndexSize, Limit};
-ghost use Rattle.dom_model.specs.Tree.{parent_of, is_inclusive_ancestor, node_in, kind_of, is_text};
+ghost use Rattle.dom_model.specs.Tree.{parent_of, is_inclusive_ancestor, index_of, node_in, kind_of, is_text};
 ghost use Rattle.dom_model.specs.Part.{next_name};
 ghost use Rattle.dom_model.specs.Steps.{make};
 ghost use Rattle.dom_model.specs.Changes.{doing};
@@ -149,8 +149,31 @@ fn placing_tail(
     ensures { OnOk result (parts.new ≡ planned (owner_in parts.old node)
         (placing_tail (name_in parts.old node) offset (name_in parts.old new) (Some (name_in parts.old parent))) parts.old) }
 {
+    let index = parts.index_remembered(node);
+    placing_at(parts, node, offset, new, parent, index)
+}
+
+/// The new Text is placed just behind the one that was split, the child of this parent at an index.
+fn placing_at(
+    parts: &mut Parts,
+    node: Key,
+    offset: usize,
+    new: Key,
+    parent: Key,
+    index: usize,
+) -> Result<(), AllocError>
+    requires new_is_node { HoldsNode parts.old new }
+    requires parent_is_node { HoldsNode parts.old parent }
+    requires node_is_child { IsChild parts.old parent node }
+    requires one_owner { owner_in parts.old new ≡ owner_in parts.old parent }
+    requires unlinked { parent_of (trees_in parts.old node) (name_in parts.old new) ≡ None }
+    requires not_above { is_inclusive_ancestor (trees_in parts.old node) (name_in parts.old new) (name_in parts.old node) ≡ false }
+    requires bounds { HasBounds (part_of parts.old.world (owner_in parts.old node)) }
+    requires at_index { index ≡ index_of (trees_in parts.old node) (name_in parts.old node) }
+    ensures { OnOk result (parts.new ≡ planned (owner_in parts.old node)
+        (placing_tail (name_in parts.old node) offset (name_in parts.old new) (Some (name_in parts.old parent))) parts.old) }
+{
     parts.laws();
-    let index = parts.index(node);
     let next = parts.next(node);
     inserting(parts, SuppressObserversFlag::Observed, new, parent, next)?;
     parts.split_at(node, offset, new, parent, index);

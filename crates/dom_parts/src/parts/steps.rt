@@ -18,6 +18,9 @@ use dom_traversal::law_iterators_stay;
 use node_arena::Key;
 use std::alloc::{AllocError, Global};
 
+/// So many siblings are counted, and not remembered.
+const FEW: usize = 64;
+
 /// A change of the data of a node: from an offset on, so many code units give way to others (DOM Standard, replace data).
 #[derive(Drop)]
 pub struct DataChange {
@@ -52,6 +55,20 @@ impl Parts {
         }
         let reach = self.ranges.reach(parent);
         self.trees.forest.remember_siblings(child, reach);
+    }
+
+    /// The index of a child, as `index` says. Many siblings before it are remembered, so that it is found sooner when it is asked
+    /// for again (own rule). Nothing is changed that can be seen.
+    pub fn index_remembered(&mut self, child: Key) -> usize
+        requires { HoldsNode self.old child }
+        ensures value { result ≡ index_of (trees_in self.old child) (name_in self.old child) }
+        ensures state { self.new ≡ self.old }
+    {
+        if let Some(index) = self.trees.forest.index_below(child, FEW) {
+            return index;
+        }
+        self.trees.forest.remember_siblings(child, usize::MAX);
+        self.trees.forest.index(child)
     }
 
     /// A node leaves its parent, as `take_out` says.
