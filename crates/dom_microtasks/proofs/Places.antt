@@ -2,14 +2,14 @@
 use Rattle.dom_base.proofs.Std.{◌≡◌, ℕ, Bool, true, false, ◌&&◌, Option, None, Some, refl, sym, ap, subst, ◌∙◌, true≢false, nat_eq, nat_lt, slice_index_or}
 use Rattle.dom_base.proofs.Std.{if◌then◌else◌, option_map_or, eqb-true, eq-eqb, same_Some, none-some}
 use Rattle.dom_model.proofs.Model.{Owner, path_of, owner_eq, owner_eq-same, owner_eq-true}
-use Rattle.dom_microtasks.specs.OwnerNumbers.{component, place_of}
+use Rattle.dom_microtasks.specs.OwnerNumbers.{placed, place_of}
 
--- an owner with a place is the component of that number
-place-owner : (o : Owner) (i : ℕ) → place_of o ≡ Some i → o ≡ component i
+-- an owner with a place is the one who has it
+place-owner : (o : Owner) (i : ℕ) → place_of o ≡ Some i → o ≡ placed i
 place-owner o i e = by (slice_index_or (path_of o).parts 0 0) (nat_lt (slice_index_or (path_of o).parts 0 0) 65536) _ refl e
   where
-    by : (n : ℕ) (small b : Bool) → owner_eq o (component n) ≡ b → (if small && b then Some n else None) ≡ Some i → o ≡ component i
-    by n true true h f = owner_eq-true o (component n) h ∙ ap component (same_Some n i f)
+    by : (n : ℕ) (small b : Bool) → owner_eq o (placed n) ≡ b → (if small && b then Some n else None) ≡ Some i → o ≡ placed i
+    by n true true h f = owner_eq-true o (placed n) h ∙ ap placed (same_Some n i f)
     by n true false h f = absurd (none-some i f)
     by n false b h f = absurd (none-some i f)
 
@@ -25,7 +25,7 @@ module _ {X : Type 0} (change : X → X) (was now : ℕ → X) (off : X) where
 
       other : (j : ℕ) (b : Bool) → place_of p ≡ Some j → owner_eq o p ≡ false → nat_eq i j ≡ b → now j ≡ (if b then change (was j) else was j) → now j ≡ was j
       other j true there differs e f =
-          let one : o ≡ p = place-owner o i at ∙ (ap component (eqb-true i j e) ∙ sym (place-owner p j there)) in
+          let one : o ≡ p = place-owner o i at ∙ (ap placed (eqb-true i j e) ∙ sym (place-owner p j there)) in
           absurd (true≢false (sym (subst (λ q. owner_eq o q ≡ true) one (owner_eq-same o)) ∙ differs))
       other j false there differs e f = f
 

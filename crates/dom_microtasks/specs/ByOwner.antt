@@ -24,12 +24,12 @@ since_in m o = option_map_or (λ w. w.since) (get OwnerImpl.ghosts.eq m o) 0
 
 -- the numbers of an owner's slots
 abbrev pub numbers_of : ByOwner → Owner → List ℕ
-numbers_of t o = option_map_or (λ i. numbers_at t.components.items i) (place_of o) (numbers_in t.others o)
+numbers_of t o = option_map_or (λ i. numbers_at t.listed.items i) (place_of o) (numbers_in t.others o)
 
 -- how many slots had been signalled when those of an owner were last taken
 abbrev pub since_of : ByOwner → Owner → ℕ
-since_of t o = option_map_or (λ i. since_at t.components.items i) (place_of o) (since_in t.others o)
+since_of t o = option_map_or (λ i. since_at t.listed.items i) (place_of o) (since_in t.others o)
 
 -- an owner has its place, or its entry
 abbrev pub IsThere : ByOwner → Owner → Type 0
-IsThere t o = option_map_or (λ i. nat_lt i (length t.components.items)) (place_of o) (is_some (get OwnerImpl.ghosts.eq t.others o)) ≡ true
+IsThere t o = option_map_or (λ i. nat_lt i (length t.listed.items)) (place_of o) (is_some (get OwnerImpl.ghosts.eq t.others o)) ≡ true

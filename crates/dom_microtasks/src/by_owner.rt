@@ -33,11 +33,11 @@ impl OwnSlots {
     }
 }
 
-/// The signalled slots of each owner that has had one. Those of the page's components, which are counted one by one, stand in a
-/// list, and are found without a hash.
+/// The signalled slots of each owner that has had one. Those of the page and of its components, which are counted one by one, stand in
+/// a list, and are found without a hash.
 #[derive(Drop)]
 pub(crate) struct ByOwner {
-    components: Vec<OwnSlots>,
+    listed: Vec<OwnSlots>,
     others: HashMap<Owner, OwnSlots>,
     alloc: Global,
 }
@@ -49,7 +49,7 @@ impl ByOwner {
         ensures since { (o : Owners) → since_of result o ≡ 0 }
     {
         ByOwner {
-            components: Vec::new(alloc),
+            listed: Vec::new(alloc),
             others: HashMap::new(alloc),
             alloc,
         }
@@ -60,7 +60,7 @@ impl ByOwner {
         ensures { option_map_or (λ own. own.now.numbers) result [] ≡ numbers_of self.now owner }
     {
         match place_of(owner) {
-            Some(place) => self.components.get(place),
+            Some(place) => self.listed.get(place),
             None => self.others.get(&owner),
         }
     }
@@ -90,7 +90,7 @@ impl ByOwner {
     pub(crate) fn is_over(&self, counting: usize, signalled: usize) -> bool
         ensures { result ≡ true → counting ≡ 0 }
     {
-        counting == 0 && self.components.len() <= signalled
+        counting == 0 && self.listed.len() <= signalled
     }
 
     /// Puts a slot that is not among them behind the others of its owner.
@@ -103,7 +103,7 @@ impl ByOwner {
     {
         self.prepare(slot.owner)?;
         match place_of(slot.owner) {
-            Some(place) => push_at(self.alloc, &mut self.components, place, slot.number),
+            Some(place) => push_at(self.alloc, &mut self.listed, place, slot.number),
             None => push_other(self.alloc, &mut self.others, slot.owner, slot.number),
         }
     }
@@ -115,7 +115,7 @@ impl ByOwner {
         ensures there { OnOk result (IsThere self.new owner) }
     {
         if let Some(place) = place_of(owner) {
-            return reach(self.alloc, &mut self.components, place);
+            return reach(self.alloc, &mut self.listed, place);
         }
         if self.others.contains_key(&owner) {
             return Ok(());
@@ -131,21 +131,21 @@ impl ByOwner {
         ensures since { (o : Owners) → since_of self.new o ≡ (if owner_eq owner o then since else since_of self.old o) }
     {
         match place_of(owner) {
-            Some(place) => empty_at(&mut self.components, place, since),
+            Some(place) => empty_at(&mut self.listed, place, since),
             None => empty_other(&mut self.others, owner, since),
         }
     }
 }
 
 /// Lets a list have a place, with no slots at each new one.
-fn reach(alloc: Global, components: &mut Vec<OwnSlots>, place: usize) -> Result<(), AllocError>
+fn reach(alloc: Global, listed: &mut Vec<OwnSlots>, place: usize) -> Result<(), AllocError>
     requires { place < 65536 }
-    ensures numbers { (i : ℕ) → numbers_at components.new.items i ≡ numbers_at components.old.items i }
-    ensures since { (i : ℕ) → since_at components.new.items i ≡ since_at components.old.items i }
-    ensures there { OnOk result (place < length components.new.items) }
+    ensures numbers { (i : ℕ) → numbers_at listed.new.items i ≡ numbers_at listed.old.items i }
+    ensures since { (i : ℕ) → since_at listed.new.items i ≡ since_at listed.old.items i }
+    ensures there { OnOk result (place < length listed.new.items) }
 {
-    for _ in components.len()..place + 1 {
-        components.push(OwnSlots::new(alloc))?;
+    for _ in listed.len()..place + 1 {
+        listed.push(OwnSlots::new(alloc))?;
     }
     Ok(())
 }
@@ -153,27 +153,27 @@ fn reach(alloc: Global, components: &mut Vec<OwnSlots>, place: usize) -> Result<
 /// Puts a slot that is not among those at a place of a list behind them.
 fn push_at(
     alloc: Global,
-    components: &mut Vec<OwnSlots>,
+    listed: &mut Vec<OwnSlots>,
     place: usize,
     number: u32,
 ) -> Result<(), AllocError>
-    requires there { place < length components.old.items }
-    requires new { is_in nat_eq number (numbers_at components.old.items place) ≡ false }
-    ensures numbers { OnOk result ((i : ℕ) → numbers_at components.new.items i ≡
-        (if nat_eq place i then numbers_at components.old.items i ++ number ∷ [] else numbers_at components.old.items i)) }
-    ensures since { (i : ℕ) → since_at components.new.items i ≡ since_at components.old.items i }
-    ensures err { OnErr result ((i : ℕ) → numbers_at components.new.items i ≡ numbers_at components.old.items i) }
+    requires there { place < length listed.old.items }
+    requires new { is_in nat_eq number (numbers_at listed.old.items place) ≡ false }
+    ensures numbers { OnOk result ((i : ℕ) → numbers_at listed.new.items i ≡
+        (if nat_eq place i then numbers_at listed.old.items i ++ number ∷ [] else numbers_at listed.old.items i)) }
+    ensures since { (i : ℕ) → since_at listed.new.items i ≡ since_at listed.old.items i }
+    ensures err { OnErr result ((i : ℕ) → numbers_at listed.new.items i ≡ numbers_at listed.old.items i) }
 {
-    components[place].numbers.push(alloc, number)
+    listed[place].numbers.push(alloc, number)
 }
 
 /// Takes the slots at a place of a list away.
-fn empty_at(components: &mut Vec<OwnSlots>, place: usize, since: usize)
-    requires { place < length components.old.items }
-    ensures numbers { (i : ℕ) → numbers_at components.new.items i ≡ (if nat_eq place i then [] else numbers_at components.old.items i) }
-    ensures since { (i : ℕ) → since_at components.new.items i ≡ (if nat_eq place i then since else since_at components.old.items i) }
+fn empty_at(listed: &mut Vec<OwnSlots>, place: usize, since: usize)
+    requires { place < length listed.old.items }
+    ensures numbers { (i : ℕ) → numbers_at listed.new.items i ≡ (if nat_eq place i then [] else numbers_at listed.old.items i) }
+    ensures since { (i : ℕ) → since_at listed.new.items i ≡ (if nat_eq place i then since else since_at listed.old.items i) }
 {
-    let own = &mut components[place];
+    let own = &mut listed[place];
     own.since = since;
     own.numbers.clear();
 }

@@ -9,14 +9,14 @@ use dom_base::Owner;
 use std::alloc::{AllocError, Global};
 use std::collections::HashMap;
 
-/// How many components of the page have a place in the list at most.
+/// How many owners have a place in the list at most.
 const PLACES: u32 = 65_536;
 
-/// A number for each owner, 0 for one that was not given any. Those of the page's components, which are counted one by one, stand
-/// in a list, and are found without a hash.
+/// A number for each owner, 0 for one that was not given any. Those of the page and of its components, which are counted one by one,
+/// stand in a list, and are found without a hash.
 #[derive(Drop)]
 pub(crate) struct OwnerNumbers {
-    components: Vec<usize>,
+    listed: Vec<usize>,
     others: HashMap<Owner, usize>,
 }
 
@@ -26,7 +26,7 @@ impl OwnerNumbers {
         ensures { (o : Owners) → number_at result o ≡ 0 }
     {
         OwnerNumbers {
-            components: Vec::new(alloc),
+            listed: Vec::new(alloc),
             others: HashMap::new(alloc),
         }
     }
@@ -36,7 +36,7 @@ impl OwnerNumbers {
         ensures { result ≡ number_at self.now owner }
     {
         match place_of(owner) {
-            Some(place) => self.components.get(place).copied().unwrap_or(0),
+            Some(place) => self.listed.get(place).copied().unwrap_or(0),
             None => self.others.get(&owner).copied().unwrap_or(0),
         }
     }
@@ -47,7 +47,7 @@ impl OwnerNumbers {
         ensures err { OnErr result ((o : Owners) → number_at self.new o ≡ number_at self.old o) }
     {
         match place_of(owner) {
-            Some(place) => put(&mut self.components, place, number)?,
+            Some(place) => put(&mut self.listed, place, number)?,
             None => {
                 let _ = self.others.insert(owner, number)?;
             }
@@ -60,24 +60,27 @@ impl OwnerNumbers {
         ensures { (o : Owners) → number_at self.new o ≡ (if owner_eq owner o then 0 else number_at self.old o) }
     {
         match place_of(owner) {
-            Some(place) => put_zero(&mut self.components, place),
+            Some(place) => put_zero(&mut self.listed, place),
             None => {
-                let _ = self.others.remove(&owner);
+                if let Some(number) = self.others.get_mut(&owner) {
+                    *number = 0;
+                }
             }
         }
     }
 }
 
-/// The place of a component of the page in the list, none of another owner.
+/// The place of the page or of a component of it in the list, none of another owner.
+#[tactic(auto, unfolding(crate::specs::OwnerNumbers::placed))]
 pub(crate) fn place_of(owner: Owner) -> Option<usize>
     ensures value { result ≡ place_of owner }
     ensures small { ForSome result (λ place. place < 65536) }
 {
     let Owner::Component(path) = owner else {
-        return None;
+        return Some(0);
     };
     match path.parts {
-        [number, 0, 0, 0, 0, 0, 0, 0] if path.depth == 1 && number < PLACES => {
+        [number, 0, 0, 0, 0, 0, 0, 0] if path.depth == 1 && number != 0 && number < PLACES => {
             Some(number as usize)
         }
         _ => None,
