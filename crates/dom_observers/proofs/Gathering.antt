@@ -1,6 +1,6 @@
 -- What the walk over the registrations on a path gathers is what the rules say.
 use Rattle.dom_base.proofs.Std.{◌≡◌, ℕ, Bool, true, false, ◌&&◌, ◌||◌, cond, eqb, List, [], ◌∷◌, ◌++◌, map, refl, sym, ap, ◌∙◌, fold, filter, list_any}
-use Rattle.dom_base.proofs.Std.{append_assoc, append-nil, cond-true, cond-false}
+use Rattle.dom_base.proofs.Std.{and_right, append_assoc, append-nil, cond-true, cond-false}
 use Rattle.dom_model.proofs.Model.{is_in, append_once, distinct, is_empty, Change, Registration, registrations_on, fits, fitting, interested, asks_for_old}
 use Rattle.dom_model.proofs.Model.{transients_for}
 use Rattle.dom_observers.specs.Definitions.{Found, none_found, and_found, found_by, transient_copy, copied_by}
@@ -48,11 +48,7 @@ one_more ks k j true = is_in-append_once k j ks ∙ ap (λ b. is_in eqb k ks || 
     and_true : (b : Bool) → (b && true) ≡ b
     and_true true = refl
     and_true false = refl
-one_more ks k j false = sym (or_no (is_in eqb k ks) (eqb j k && false) (and_false (eqb j k)))
-  where
-    and_false : (b : Bool) → (b && false) ≡ false
-    and_false true = refl
-    and_false false = refl
+one_more ks k j false = sym (or_no (is_in eqb k ks) (eqb j k && false) (and_right (eqb j k) false refl))
 
 or-assoc : (x y z : Bool) → ((x || y) || z) ≡ (x || (y || z))
 or-assoc true y z = refl

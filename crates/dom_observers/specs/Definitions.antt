@@ -2,6 +2,7 @@
 pub use Rattle.dom_observers.specs.InterestedObservers.{found_of, record_of}
 pub use Rattle.dom_observers.specs.Naming.{AreAll, AreRegistered, DisconnectedLaw, EmptiedLaw, IsChangeAt, IsKey, IsSourceOf, LeftLaw, MakingLaw, named_change}
 pub use Rattle.dom_observers.specs.Naming.{named_registration, named_source, named_tables, NoticesLaw, NotifiedLaw, ObservingLaw, SpeaksOf, TakenLaw, ToldLaw}
+pub use Rattle.dom_observers.specs.Numbers.{numbers_in}
 pub use Rattle.dom_observers.specs.Owners.{all_tables, ChangesTables, KeepsTables, tables_of}
 pub use Rattle.dom_observers.specs.Paths.{key_of, path_keys}
 pub use Rattle.dom_observers.specs.Removals.{goes, HaveLeft}

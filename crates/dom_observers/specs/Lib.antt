@@ -1,4 +1,5 @@
 -- Unmarked: own rules, about what the code holds and its contracts say.
+pub mod Numbers
 pub mod Views
 pub mod Removals
 pub mod Tables

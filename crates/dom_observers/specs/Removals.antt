@@ -5,12 +5,13 @@ use Rattle.dom_model.specs.Observers.{Registration, is_transient, stems_from}
 use Rattle.dom_observers.specs.declared.registered.Registered.{Registered}
 use Rattle.dom_observers.specs.declared.removal.Removal.{Removal}
 use Rattle.dom_observers.specs.declared.removal.Removal.TheVariants.{Of, TransientsOf, CopiesOf}
+use Rattle.dom_observers.specs.Numbers.{numbers_in}
 use Rattle.dom_observers.specs.Views.{registration_of, those_there, there_in}
 
 -- whether a registration goes (DOM Standard, disconnect(), concept: notify mutation observers, observe())
 abbrev pub goes : Removal → Registration ℕ → Bool
 goes (Of k) r = nat_eq r.observer k
-goes (TransientsOf ks) r = is_transient r.source && is_in nat_eq r.observer ks.keys
+goes (TransientsOf ks) r = is_transient r.source && is_in nat_eq r.observer (numbers_in ks)
 goes (CopiesOf k x) r = nat_eq r.observer k && stems_from nat_eq x r.source
 
 -- A list before and after those in some places that go were taken away, so many as this (own rule).

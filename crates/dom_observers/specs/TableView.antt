@@ -1,6 +1,7 @@
 -- What contracts see of an owner's table.
 use Rattle.std.specs.Prelude.{ℕ, map}
 use Rattle.dom_observers.specs.declared.table.Table.{Table}
+use Rattle.dom_observers.specs.Numbers.{numbers_in}
 use Rattle.dom_observers.specs.Tables.{TablesOf}
 use Rattle.dom_observers.specs.Views.{change_of}
 
@@ -10,5 +11,5 @@ table_of t =
     record {
       registrations = t.registrations;
       record_queues = map (λ queue. map change_of queue.items) t.queues.items;
-      pending = t.pending.keys;
+      pending = numbers_in t.pending;
     }

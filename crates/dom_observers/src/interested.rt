@@ -6,21 +6,23 @@ ghost use Rattle.dom_observers.specs.Paths.{path_keys};
 ghost use Rattle.dom_observers.specs.Views.{change_of};
 ghost use Rattle.dom_observers.specs.Taking.{none_found, and_found, found_by, found_at, picked};
 ghost use Rattle.dom_observers.specs.InterestedObservers.{found_of};
+ghost use Rattle.dom_observers.specs.Numbers.{numbers_in};
 ghost use Rattle.dom_tree.specs.Forest.{IsNode};
 
 use crate::change::Change;
+use crate::numbers::Numbers;
 use crate::registered::{Registered, there_at};
 use crate::watched::Watched;
 use dom_tree::Forest;
-use indexmap::IndexSet;
 use std::alloc::{AllocError, Global};
 
 /// The observers that take the record of a change, in their order, and those of them that asked for the old value (DOM
 /// Standard, queue a mutation record: interested observers).
 #[derive(Drop)]
 pub struct InterestedObservers {
-    pub observers: IndexSet<u32>,
-    with_old: IndexSet<u32>,
+    pub observers: Numbers,
+    with_old: Numbers,
+    alloc: Global,
 }
 
 impl InterestedObservers {
@@ -29,8 +31,9 @@ impl InterestedObservers {
         ensures { found_of result ≡ none_found }
     {
         InterestedObservers {
-            observers: IndexSet::new(alloc),
-            with_old: IndexSet::new(alloc),
+            observers: Numbers::Empty,
+            with_old: Numbers::Empty,
+            alloc,
         }
     }
 
@@ -82,17 +85,17 @@ impl InterestedObservers {
     fn add(&mut self, observer: u32, with_old: bool) -> Result<(), AllocError>
         ensures { OnOk result (found_of self.new ≡ and_found (found_of self.old) observer with_old) }
     {
-        self.observers.insert(observer)?;
+        self.observers.insert(self.alloc, observer)?;
         if with_old {
-            self.with_old.insert(observer)?;
+            self.with_old.insert(self.alloc, observer)?;
         }
         Ok(())
     }
 
     /// Whether an observer gets the old value.
     pub(crate) fn get_old(&self, observer: u32) -> bool
-        ensures { result ≡ list_any (nat_eq observer) self.now.with_old.keys }
+        ensures { result ≡ list_any (nat_eq observer) (numbers_in self.now.with_old) }
     {
-        self.with_old.contains(&observer)
+        self.with_old.contains(observer)
     }
 }

@@ -7,6 +7,7 @@ mod change;
 mod interested;
 mod laws;
 mod marks;
+mod numbers;
 mod observers;
 mod options;
 mod owned;

@@ -4,6 +4,7 @@ ghost use Rattle.std.specs.List.{list_any};
 ghost use Rattle.dom_model.specs.Names.{is_empty};
 ghost use Rattle.dom_model.specs.Observers.{is_asked_for, with_registration, transients_for, interested, record_for, target_of, asked_for};
 ghost use Rattle.dom_observers.specs.InterestedObservers.{record_of};
+ghost use Rattle.dom_observers.specs.Numbers.{numbers_in};
 ghost use Rattle.dom_observers.specs.Paths.{path_keys};
 ghost use Rattle.dom_observers.specs.Views.{words_of, change_of, registration_of, AreThere};
 ghost use Rattle.dom_observers.specs.Removals.{goes};
@@ -79,7 +80,7 @@ impl Registrations {
     ) -> Result<InterestedObservers, AllocError>
         requires { IsNode forest.now (target_of (change_of change.now)) }
         ensures keeps { self.new ≡ self.old }
-        ensures observers { IfOk result (λ t. t.observers.keys ≡
+        ensures observers { IfOk result (λ t. numbers_in t.observers ≡
             interested nat_eq (path_keys forest.now (target_of (change_of change.now))) self.old (change_of change.now)) }
         ensures with_old { IfOk result (λ t. (k : ℕ) → record_of t (change_of change.now) k ≡
             record_for nat_eq (path_keys forest.now (target_of (change_of change.now))) self.old (change_of change.now) k) }

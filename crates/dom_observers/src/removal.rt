@@ -4,8 +4,8 @@ ghost use Rattle.std.specs.Option.{option_map_or};
 ghost use Rattle.dom_observers.specs.Views.{registration_of, there_in};
 ghost use Rattle.dom_observers.specs.Removals.{goes, HaveLeft};
 
+use crate::numbers::Numbers;
 use crate::registered::{Registered, there_at};
-use indexmap::IndexSet;
 use node_arena::Key;
 
 /// Which registrations go: all of an observer (DOM Standard, disconnect()), the transient ones of some observers (DOM Standard,
@@ -13,7 +13,7 @@ use node_arena::Key;
 #[derive(Drop)]
 pub enum Removal {
     Of(u32),
-    TransientsOf(IndexSet<u32>),
+    TransientsOf(Numbers),
     CopiesOf(u32, Key),
 }
 
@@ -25,7 +25,7 @@ impl Removal {
         match self {
             Removal::Of(observer) => registered.observer == *observer,
             Removal::TransientsOf(observers) => {
-                registered.is_transient() && observers.contains(&registered.observer)
+                registered.is_transient() && observers.contains(registered.observer)
             }
             Removal::CopiesOf(observer, node) => registered.stems_from(*observer, *node),
         }

@@ -9,18 +9,19 @@ ghost use Rattle.dom_observers.specs.Tables.{no_tables, with_observer, observing
 ghost use Rattle.dom_observers.specs.Tables.{notices, notified};
 ghost use Rattle.dom_observers.specs.Views.{words_of, change_of, notice_of};
 ghost use Rattle.dom_observers.specs.TableView.{table_of};
+ghost use Rattle.dom_observers.specs.Numbers.{numbers_in};
 ghost use Rattle.dom_observers.specs.Paths.{path_keys};
 ghost use Rattle.dom_observers.specs.InterestedObservers.{record_of};
 ghost use Rattle.dom_tree.specs.Forest.{IsNode};
 
 use crate::change::{Change, Record};
 use crate::interested::InterestedObservers;
+use crate::numbers::Numbers;
 use crate::options::Options;
 use crate::registrations::Registrations;
 use crate::removal::Removal;
 use dom_base::{Fault, MAX_NODES, Refusal};
 use dom_tree::Forest;
-use indexmap::IndexSet;
 use node_arena::Key;
 use std::alloc::{AllocError, Global};
 use std::mem;
@@ -32,7 +33,7 @@ use std::rc::Rc;
 pub struct Table {
     registrations: Registrations,
     queues: Vec<Vec<Record>>,
-    pending: IndexSet<u32>,
+    pending: Numbers,
     alloc: Global,
 }
 
@@ -44,7 +45,7 @@ impl Table {
         Table {
             registrations: Registrations::new(alloc),
             queues: Vec::new(alloc),
-            pending: IndexSet::new(alloc),
+            pending: Numbers::Empty,
             alloc,
         }
     }
@@ -152,9 +153,9 @@ impl Table {
         interested: &InterestedObservers,
         change: Change,
     ) -> Result<bool, AllocError>
-        ensures taken { IfOk result (λ taken. taken ≡ not (is_empty interested.now.observers.keys)) }
+        ensures taken { IfOk result (λ taken. taken ≡ not (is_empty (numbers_in interested.now.observers))) }
         ensures tables { OnOk result (table_of self.new ≡
-            fold (λ t k. given (record_of interested.now (change_of change) k) t k) (table_of self.old) interested.now.observers.keys) }
+            fold (λ t k. given (record_of interested.now (change_of change) k) t k) (table_of self.old) (numbers_in interested.now.observers)) }
     {
         let Some((last, others)) = interested.observers.as_slice().split_last() else {
             return Ok(false);
@@ -187,7 +188,7 @@ impl Table {
         ensures { OnOk result (table_of self.new ≡ given (change_of entry) (table_of self.old) observer) }
     {
         self.append(observer, entry)?;
-        self.pending.insert(observer)?;
+        self.pending.insert(self.alloc, observer)?;
         Ok(())
     }
 
@@ -225,7 +226,7 @@ impl Table {
         ensures tables { OnOk result (table_of self.new ≡ notified (table_of self.old)) }
     {
         let alloc = self.alloc;
-        let pending = mem::replace(&mut self.pending, IndexSet::new(alloc));
+        let pending = mem::replace(&mut self.pending, Numbers::Empty);
         let mut notices = Vec::new(alloc);
         for observer in pending.as_slice() {
             let records = self.take(*observer).unwrap_or(Vec::new(alloc));

@@ -1,7 +1,7 @@
 use Rattle.dom_base.proofs.Std.{◌≡◌, ℕ, nat_eq, cond, ap, ◌∙◌, fold, filter, list_any, IfOk-weaker}
 use Rattle.dom_model.proofs.Model.{Registration, interested, record_for, target_of, without_old}
 use Rattle.dom_observers.specs.declared.interested.InterestedObservers.{InterestedObservers}
-use Rattle.dom_observers.specs.Definitions.{found_of, record_of, path_keys, Found, none_found, found_by, found_at, picked, change_of, places_at}
+use Rattle.dom_observers.specs.Definitions.{found_of, record_of, path_keys, Found, none_found, found_by, found_at, picked, change_of, places_at, numbers_in}
 use Rattle.dom_observers.proofs.Gathering.{walk-observers, walk-with_old}
 use Rattle.dom_observers.proofs.Watching.{noted-now, all-now, picked-on, found-on}
 use Rattle.dom_observers.proofs.registrations.Registrations.interested_in.Goals.{After-of}
@@ -28,7 +28,7 @@ pub returns-clause-observers : goal.returns-clause-observers
 returns-clause-observers c =
     let ch = change_of c.args.change.now in
     let path = path_keys c.args.forest.now (target_of ch) in
-    IfOk-weaker c.of.result _ (λ t. t.observers.keys ≡ interested nat_eq path c.args.self.now ch)
+    IfOk-weaker c.of.result _ (λ t. numbers_in t.observers ≡ interested nat_eq path c.args.self.now ch)
     (λ t found. ap (λ (f : Found). f.observers) (walked c t found)
     ∙ walk-observers c.args.self.now (λ x. picked c.self.inside.list.items (places_at c.note.new.self x)) (own c) ch path) c.of.ensures
 

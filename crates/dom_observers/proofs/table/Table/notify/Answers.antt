@@ -1,7 +1,6 @@
-use Rattle.dom_base.proofs.Std.{◌≡◌, ℕ, ◌++◌, ◌∷◌, [], List, take, map, set, get_or, eqb, sym, ap, ◌∙◌, subst, refl, arith, fold, IsDistinct, map_push}
-use Rattle.dom_base.proofs.Std.{map_more, take_all, fold_more}
+use Rattle.dom_base.proofs.Std.{◌≡◌, ℕ, ◌++◌, ◌∷◌, [], List, take, map, set, get_or, sym, ap, ◌∙◌, refl, arith, fold, map_push, map_more, take_all, fold_more}
 use Rattle.dom_model.proofs.Model.{Change, Registration, without_transients}
-use Rattle.dom_observers.specs.Definitions.{TablesOf, queue_at, change_of, notice_of, table_of}
+use Rattle.dom_observers.specs.Definitions.{TablesOf, queue_at, change_of, notice_of, table_of, numbers_in}
 use Rattle.dom_observers.proofs.Tables.{queue_at-emptied, not_before, unwrapped}
 use Rattle.dom_observers.proofs.table.Table.notify.Goals as goal
 
@@ -22,7 +21,7 @@ loop-observer-init c =
     record {
       registrations = refl;
       queues = refl;
-      pending = ap (λ s. s.keys) c.replace-pending.ensures.after ∙ c.new.ensures.empty;
+      pending = ap numbers_in c.replace-pending.ensures.after;
       listed = ap (map notice_of) c.new-notices.ensures.items;
     }
 
@@ -34,11 +33,11 @@ loop-observer-preserved c =
     let t = table_of c.args.self.now in
     let l = c.loop-observer.invariant in
     let records = c.unwrap_or-records.result in
-    let apart = subst (IsDistinct eqb) (sym c.as_slice-observer-items.ensures.keys) c.as_slice-observer-items.ensures.unique in
+    let apart = c.as_slice-observer-items.ensures.unique in
     let had : map change_of records.items ≡ queue_at t.record_queues k =
     ap (λ v. map change_of v.items) c.unwrap_or-records.ensures
-    ∙ (unwrapped c.take.result c.new-in-loop-observer.result (table_of c.loop-observer.self).record_queues k c.take.ensures.records
-    c.new-in-loop-observer.ensures.items
+    ∙ (unwrapped c.take.result c.new.result (table_of c.loop-observer.self).record_queues k c.take.ensures.records
+    c.new.ensures.items
     ∙ (ap (λ queues. queue_at queues k) l.queues
     ∙ queue_at-emptied t.record_queues (take i items) k (not_before items i apart (omega arith)))) in
     record {
@@ -60,7 +59,7 @@ returns-clause-notices c =
     let items = c.as_slice-observer-items.result.now in
     let t = table_of c.args.self.now in
     let all = take_all c.loop-observer.observer-index items (omega arith) ∙
-    (c.as_slice-observer-items.ensures.keys ∙ ap (λ s. s.keys) c.replace-pending.ensures.value) in
+    (c.as_slice-observer-items.ensures.numbers ∙ ap numbers_in c.replace-pending.ensures.value) in
     c.loop-observer.invariant.listed ∙ ap (map (noticed t.record_queues)) all
 
 pub returns-clause-tables : goal.returns-clause-tables
@@ -68,10 +67,10 @@ returns-clause-tables c =
     let items = c.as_slice-observer-items.result.now in
     let t = table_of c.args.self.now in
     let l = c.loop-observer.invariant in
-    let same = ap (λ s. s.keys) c.replace-pending.ensures.value in
-    let all = take_all c.loop-observer.observer-index items (omega arith) ∙ (c.as_slice-observer-items.ensures.keys ∙ same) in
+    let same = ap numbers_in c.replace-pending.ensures.value in
+    let all = take_all c.loop-observer.observer-index items (omega arith) ∙ (c.as_slice-observer-items.ensures.numbers ∙ same) in
     let rs = c.remove.ensures ∙
-    (ap (without_transients c.replace-pending.result.keys) l.registrations ∙ ap (λ ks. without_transients ks t.registrations) same) in
+    (ap (without_transients (numbers_in c.replace-pending.result)) l.registrations ∙ ap (λ ks. without_transients ks t.registrations) same) in
     let queues = l.queues ∙ ap (fold emptying t.record_queues) all in
     ap (λ list. built list (table_of c.loop-observer.self).record_queues (table_of c.loop-observer.self).pending) rs
     ∙ (ap (λ list. built (without_transients t.pending t.registrations) list (table_of c.loop-observer.self).pending) queues
