@@ -41,6 +41,7 @@ impl Numbers {
     }
 
     /// Puts a number behind the others where it is not among them.
+    #[inline(always)]
     pub(crate) fn insert(&mut self, alloc: Global, number: u32) -> Result<(), AllocError>
         ensures { OnOk result (numbers_in self.new ≡ append_once nat_eq (numbers_in self.old) number) }
     {
@@ -48,15 +49,23 @@ impl Numbers {
             Numbers::Empty => *self = Numbers::One(number),
             Numbers::One(only) if *only == number => {}
             Numbers::One(only) => *self = Numbers::More(set_of(alloc, *only, number)?),
-            Numbers::More(set) => {
-                set.insert(number)?;
-            }
+            Numbers::More(set) => insert_into(set, number)?,
         }
         Ok(())
     }
 }
 
+/// Puts a number behind those of a set where it is not among them.
+#[inline(never)]
+fn insert_into(set: &mut Box<IndexSet<u32>>, number: u32) -> Result<(), AllocError>
+    ensures { OnOk result (set.new.value.keys ≡ append_once nat_eq set.old.value.keys number) }
+{
+    set.insert(number)?;
+    Ok(())
+}
+
 /// The set of a number and of another one.
+#[inline(never)]
 fn set_of(alloc: Global, first: u32, number: u32) -> Result<Box<IndexSet<u32>>, AllocError>
     ensures { IfOk result (λ set. set.value.keys ≡ append_once nat_eq (first ∷ []) number) }
 {

@@ -41,8 +41,21 @@ impl Watched {
         }
     }
 
-    /// Notes those registrations of a list that are not noted yet. Where memory is refused some of them stay so.
+    /// Notes those registrations of a list that are not noted yet, if there are some. Where memory is refused some of them stay so.
+    #[inline(always)]
     pub(crate) fn note(&mut self, registrations: &[Registered]) -> Result<(), AllocError>
+        ensures noted { AreNoted self.old registrations.now → AreNoted self.new registrations.now }
+        ensures all { OnOk result (length registrations.now ≤ self.new.noted) }
+    {
+        if self.noted >= registrations.len() {
+            return Ok(());
+        }
+        self.note_each(registrations)
+    }
+
+    /// Notes one after the other of those that are not noted yet.
+    #[inline(never)]
+    fn note_each(&mut self, registrations: &[Registered]) -> Result<(), AllocError>
         ensures noted { AreNoted self.old registrations.now → AreNoted self.new registrations.now }
         ensures all { OnOk result (length registrations.now ≤ self.new.noted) }
     {

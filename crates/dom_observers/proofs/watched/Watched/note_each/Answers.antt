@@ -4,7 +4,7 @@ use Rattle.dom_observers.specs.declared.options.Options.{Options}
 use Rattle.dom_observers.specs.declared.owned.Owned.{Owned}
 use Rattle.dom_observers.specs.Definitions.{registration_of, places_at, is_marked, among}
 use Rattle.dom_observers.proofs.Watching.{noted-next}
-use Rattle.dom_observers.proofs.watched.Watched.note.Goals as goal
+use Rattle.dom_observers.proofs.watched.Watched.note_each.Goals as goal
 
 pub loop-place-preserved : goal.loop-place-preserved
 loop-place-preserved c =
