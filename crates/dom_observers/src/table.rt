@@ -1,6 +1,6 @@
 //! What one owner has of observers.
 ghost use Rattle.std.specs.Prelude.{◌≡◌, ◌↔◌, ◌⊎◌, ℕ, nat_eq, nat_lt, true, false, not, [], map, fold, length, option_map, slice_get, is_some, IfOk, IfErr};
-ghost use Rattle.std.specs.Prelude.{OnOk, OnErr, if◌then◌else◌};
+ghost use Rattle.std.specs.Prelude.{◌++◌, ◌∷◌, OnOk, OnErr, if◌then◌else◌};
 ghost use Rattle.dom_model.specs.Names.{is_empty};
 ghost use Rattle.dom_model.specs.CommandRefusals.{past_limit};
 ghost use Rattle.dom_model.specs.Output.{Change as Changed};
@@ -197,10 +197,7 @@ impl Table {
         ensures { OnOk result (table_of self.new ≡ appended (change_of entry) (table_of self.old) observer) }
     {
         match self.queues.get_mut(observer as usize) {
-            Some(queue) => {
-                queue.push(entry)?;
-                Ok(())
-            }
+            Some(queue) => push_record(queue, entry),
             None => Ok(()),
         }
     }
@@ -235,4 +232,15 @@ impl Table {
         self.registrations.remove(&Removal::TransientsOf(pending));
         Ok(notices)
     }
+}
+
+/// Puts a record behind those of a queue. The first one takes memory for itself alone.
+fn push_record(queue: &mut Vec<Record>, entry: Record) -> Result<(), AllocError>
+    ensures { OnOk result (queue.new.items ≡ queue.old.items ++ entry ∷ []) }
+{
+    if queue.is_empty() {
+        queue.reserve_exact(1)?;
+    }
+    queue.push(entry)?;
+    Ok(())
 }
