@@ -1,10 +1,10 @@
 -- A search along a run of `>` and `+`, step by step: what it has come to answers for what it began with.
 use Rattle.dom_base.proofs.Std.{◌≡◌, inl, inr, Bool, true, false, List, [], ◌∷◌, ◌++◌, Option, Some, None, refl, ap, sym, subst, ◌∙◌, append_assoc, true≢false}
 use Rattle.dom_base.proofs.Std.{◌&&◌, option_to_list, list_any, and_parts, and_left}
-use Rattle.dom_model.proofs.Model.{NodeName, last_of, Trees, ancestors, parent_of, Complex, alone, joined, Combinator, child, next, CompoundPart}
+use Rattle.dom_model.proofs.Model.{NodeName, last_of, Trees, ancestors, parent_of, Complex, alone, joined, Combinator, descendant, child, next, later, CompoundPart}
 use Rattle.dom_model.proofs.Model.{compound_matches, complex_matches, combined_with, elements_before}
 use Rattle.dom_laws.proofs.Laws.{In, In-left, In-right, In-parts, Has, proper-parent, Once}
-use Rattle.dom_selectors.specs.Definitions.{last_compound, elements_to, MatchesAbove}
+use Rattle.dom_selectors.specs.Definitions.{last_compound, elements_to, only_left, IsSearched, MatchesAbove}
 use Rattle.dom_selectors.proofs.JoinedLaws.{or_none}
 use Rattle.dom_selectors.proofs.Earlier.{any-passes, passes-any, stands-matching, IsEarlier, earlier-in, nearest}
 
@@ -143,17 +143,31 @@ module _ (ts : Trees) (l : Complex) (k : List CompoundPart) (x : NodeName) (once
   pub no_next : last_of (elements_before ts x) ≡ None → complex_matches ts (joined l next k) x ≡ false
   no_next e = combined ts l next k x hit ∙ none-left (complex_matches ts l) (last_of (elements_before ts x)) e
 
--- ---- the same, by what a selector is
+-- ---- the same, by what a combinator leaves
 
-module _ (ts : Trees) (c l : Complex) (k : List CompoundPart) (x : NodeName) (once : Once ts) (has : Has ts x) (hit : compound_matches ts k x ≡ true) where
-  pub to_parent : (p : NodeName) → c ≡ joined l child k → parent_of ts x ≡ Some p → Leads ts c x l p
-  to_parent p is up = subst (λ d. Leads ts d x l p) (sym is) (child_leads ts l k x once has hit p up)
+module _ (ts : Trees) {c l : Complex} {how : Combinator} {k : List CompoundPart} (x : NodeName) (is : c ≡ joined l how k)
+    (matches : compound_matches ts (last_compound c) x ≡ true) where
+  -- the compound on the right matches
+  pub hits : compound_matches ts k x ≡ true
+  hits = sym (ap (λ d. compound_matches ts (last_compound d) x) is) ∙ matches
 
-  pub to_nearest : (z : NodeName) → c ≡ joined l next k → last_of (elements_before ts x) ≡ Some z → Leads ts c x l z
-  to_nearest z is e = subst (λ d. Leads ts d x l z) (sym is) (next_leads ts l k x once has hit z e)
+  module _ (once : Once ts) (has : Has ts x) (one : IsSearched how → ⊥) where
+    leads_by : (h : Combinator) → (IsSearched h → ⊥) → (z : NodeName) → only_left ts h x ≡ Some z → Leads ts (joined l h k) x l z
+    leads_by descendant none z e = absurd (none tt)
+    leads_by child none z e = child_leads ts l k x once has hits z e
+    leads_by next none z e = next_leads ts l k x once has hits z e
+    leads_by later none z e = absurd (none tt)
 
-  pub no_parent : c ≡ joined l child k → parent_of ts x ≡ None → complex_matches ts c x ≡ false
-  no_parent is up = ap (λ d. complex_matches ts d x) is ∙ no_child ts l k x once has hit up
+    misses_by : (h : Combinator) → (IsSearched h → ⊥) → only_left ts h x ≡ None → complex_matches ts (joined l h k) x ≡ false
+    misses_by descendant none e = absurd (none tt)
+    misses_by child none e = no_child ts l k x once has hits e
+    misses_by next none e = no_next ts l k x once has hits e
+    misses_by later none e = absurd (none tt)
 
-  pub no_nearest : c ≡ joined l next k → last_of (elements_before ts x) ≡ None → complex_matches ts c x ≡ false
-  no_nearest is e = ap (λ d. complex_matches ts d x) is ∙ no_next ts l k x once has hit e
+    -- to the node that it leaves
+    pub leads-left : (z : NodeName) → only_left ts how x ≡ Some z → Leads ts c x l z
+    leads-left z e = subst (λ d. Leads ts d x l z) (sym is) (leads_by how one z e)
+
+    -- it leaves none
+    pub none_left : only_left ts how x ≡ None → complex_matches ts c x ≡ false
+    none_left e = ap (λ d. complex_matches ts d x) is ∙ misses_by how one e

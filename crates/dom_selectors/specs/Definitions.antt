@@ -2,7 +2,7 @@
 pub use Rattle.dom_selectors.specs.Grammar.{AreEach, double, Form, IsBracketed, IsCombinator, IsComplex, IsCompound, IsCompoundOf, IsLink, IsName, IsPart}
 pub use Rattle.dom_selectors.specs.Grammar.{IsQuoted, IsSelector, IsSimple, IsSpaced, IsSpaces, IsTested, IsType, IsValue, plain, sign, single}
 pub use Rattle.dom_selectors.specs.Reads.{as_parts, behind_list, IsRefusalWhere}
-pub use Rattle.dom_selectors.specs.Search.{ChainEnds, ChainIsBefore, elements_to, IsDescendant, IsSearched, last_compound, MatchesAbove, SegmentEnds}
+pub use Rattle.dom_selectors.specs.Search.{ChainEnds, ChainIsBefore, elements_to, IsDescendant, IsSearched, last_compound, MatchesAbove, only_left, SegmentEnds}
 pub use Rattle.dom_selectors.specs.Search.{SegmentIsAbove, StopsAt}
 pub use Rattle.dom_selectors.specs.Siblings.{element_on, sibling_on}
 pub use Rattle.dom_selectors.specs.Texts.{combinator_signs}

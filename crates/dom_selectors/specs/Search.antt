@@ -1,9 +1,10 @@
 -- What a search from the right has come to, where a selector at a node is to be matched: a selector left of it at
 -- another node that answers for it.
-use Rattle.std.specs.Prelude.{◌≡◌, true, List, [], ◌∷◌, ◌++◌}
+use Rattle.std.specs.Prelude.{◌≡◌, true, List, [], ◌∷◌, ◌++◌, Option, None}
 use Rattle.std.specs.List.{list_any}
 use Rattle.dom_base.specs.declared.NodeName.{NodeName}
-use Rattle.dom_model.specs.Tree.{Trees, ancestors}
+use Rattle.dom_model.specs.Names.{last_of}
+use Rattle.dom_model.specs.Tree.{Trees, ancestors, parent_of}
 use Rattle.dom_model.specs.Selectors.{CompoundPart, Complex, alone, joined, Combinator, descendant, child, next, later}
 use Rattle.dom_model.specs.Selectors.{compound_matches, complex_matches, elements_before}
 
@@ -36,6 +37,13 @@ IsSearched descendant = Unit {0}
 IsSearched child = ⊥
 IsSearched next = ⊥
 IsSearched later = Unit {0}
+
+-- the one node that `>` or `+` leaves from a node, if it leaves one (own rule)
+abbrev pub only_left : Trees → Combinator → NodeName → Option NodeName
+only_left ts descendant x = None
+only_left ts child x = parent_of ts x
+only_left ts next x = last_of (elements_before ts x)
+only_left ts later x = None
 
 -- the last compound matches, and it is the first one or its combinator is such a one (own rule)
 abbrev pub StopsAt : (Combinator → Type 0) → Trees → Complex → NodeName → Type 0

@@ -1,7 +1,7 @@
 //! Which elements match complex selectors, from the right by links. Left of `~` and of white space there is more than
 //! one node to try, the nearest first. What is left of these again is tried from the first alone at which all up to it
 //! matches, since what stands before or above another one stands before or above that one too: no choice is taken back.
-ghost use Rattle.std.specs.Prelude.{◌≡◌, ◌≤◌, false, length, MatchOption, IfSome};
+ghost use Rattle.std.specs.Prelude.{◌≡◌, ◌≤◌, true, false, length, MatchOption, IfSome};
 ghost use Rattle.std.specs.List.{list_any};
 ghost use Rattle.dom_model.specs.Tree.{ancestors};
 ghost use Rattle.dom_model.specs.Selectors.{compound_matches as spec_compound_matches, complex_matches as spec_complex_matches};
@@ -9,21 +9,21 @@ ghost use Rattle.dom_tree.specs.Forest.{IsNode, name_of};
 ghost use Rattle.dom_selectors.specs.Search.{SegmentEnds, SegmentIsAbove, last_compound};
 ghost use Rattle.dom_selectors.specs.Views.{complex_from, complex_view};
 
-use crate::chain::{Place, chain_before, chain_end};
-use crate::matching::compound_matches;
+use crate::chain::{Place, chain_before, chain_end, last_matches};
 use crate::selector::{Combinator, Complex, CompoundPart, Link};
 use dom_tree::Forest;
 use node_arena::Key;
 
-/// Where the segment from a node, chains joined by `~`, ends: before white space or with the first compound; none where
-/// some chain holds at no element before.
+/// Where the segment, chains joined by `~`, from a node that matches the compound on the right ends: before white space or with the
+/// first compound; none where some chain holds at no element before.
 fn segment_end<'a>(
     forest: &Forest,
     first: &[CompoundPart],
     links: &'a [Link],
     key: Key,
 ) -> Option<Place<'a>>
-    requires { IsNode forest.now key }
+    requires node { IsNode forest.now key }
+    requires matches { spec_compound_matches forest.now.trees (last_compound (complex_from first.now links.now)) (name_of forest.now key) ≡ true }
     ensures ends { MatchOption result (spec_complex_matches forest.now.trees (complex_from first.now links.entry.now)
         (name_of forest.now key) ≡ false)
         (λ end. SegmentEnds forest.now.trees (complex_from first.now links.entry.now) (name_of forest.now key)
@@ -45,18 +45,6 @@ fn segment_end<'a>(
         end = next;
     }
     Some(end)
-}
-
-/// Whether a node matches the compound on the right.
-#[inline(always)]
-fn last_matches(forest: &Forest, first: &[CompoundPart], links: &[Link], key: Key) -> bool
-    requires { IsNode forest.now key }
-    ensures { result ≡ spec_compound_matches forest.now.trees (last_compound (complex_from first.now links.now)) (name_of forest.now key) }
-{
-    match links.split_last() {
-        None => compound_matches(forest, first, key),
-        Some((last, _left)) => compound_matches(forest, last.compound.as_slice(), key),
-    }
 }
 
 /// Where the segment from a node ends. Its compound on the right is tried first, since most nodes fail there.
@@ -106,10 +94,11 @@ fn segment_above<'a>(
     None
 }
 
-/// Whether a node matches a complex selector, by its segments.
+/// Whether a node that matches the compound on the right matches a complex selector, by its segments.
 #[inline(never)]
 fn segments_match(forest: &Forest, complex: &Complex, key: Key) -> bool
-    requires { IsNode forest.now key }
+    requires node { IsNode forest.now key }
+    requires matches { spec_compound_matches forest.now.trees (last_compound (complex_view complex.now)) (name_of forest.now key) ≡ true }
     ensures { result ≡ spec_complex_matches forest.now.trees (complex_view complex.now) (name_of forest.now key) }
 {
     let first = complex.first.as_slice();

@@ -3,14 +3,14 @@ ghost use Rattle.std.specs.Prelude.{◌≡◌, ◌&&◌, map, string_bytes};
 ghost use Rattle.std.specs.List.{list_all};
 ghost use Rattle.dom_model.specs.Tree.{node_in};
 ghost use Rattle.dom_model.specs.Selectors.{attribute_passes as spec_attribute_passes, simple_matches as spec_simple_matches};
-ghost use Rattle.dom_model.specs.Selectors.{part_matches as spec_part_matches, compound_matches as spec_compound_matches};
+ghost use Rattle.dom_model.specs.Selectors.{part_matches as spec_part_matches, compound_matches as spec_compound_matches, of_id, of_class};
 ghost use Rattle.dom_tree.specs.Forest.{IsNode, name_of};
 ghost use Rattle.dom_selectors.specs.Views.{test_view, simple_view, part_view, compound_view};
 
 use crate::selector::{AttributeTest, CompoundPart, Simple};
 use crate::siblings::{Side, element_beside, is_element};
-use crate::values::value_passes;
-use dom_attributes::is_same_text;
+use crate::values::{is_among_words, value_passes};
+use dom_attributes::{is_same_string, is_same_text};
 use dom_tree::Forest;
 use node_arena::Key;
 
@@ -32,6 +32,30 @@ fn attribute_passes(
     }
 }
 
+/// Whether a node has this ID.
+#[inline(never)]
+fn has_id(forest: &Forest, key: Key, id: &[u16]) -> bool
+    requires { IsNode forest.now key }
+    ensures { result ≡ spec_simple_matches forest.now.trees (name_of forest.now key) (of_id id.now) }
+{
+    match forest.attr(key, "id") {
+        Some(text) => is_same_string(text, id),
+        None => false,
+    }
+}
+
+/// Whether a node has this class.
+#[inline(never)]
+fn has_class(forest: &Forest, key: Key, class: &[u16]) -> bool
+    requires { IsNode forest.now key }
+    ensures { result ≡ spec_simple_matches forest.now.trees (name_of forest.now key) (of_class class.now) }
+{
+    match forest.attr(key, "class") {
+        Some(text) => is_among_words(class, text),
+        None => false,
+    }
+}
+
 /// Whether an element matches a simple selector.
 #[inline(always)]
 fn simple_matches(forest: &Forest, simple: &Simple, key: Key) -> bool
@@ -41,10 +65,8 @@ fn simple_matches(forest: &Forest, simple: &Simple, key: Key) -> bool
     match simple {
         Simple::OfType(name) => is_same_text(forest.element(key), name.as_str()),
         Simple::OfAnyType => true,
-        Simple::OfId(id) => attribute_passes(forest, key, "id", AttributeTest::Equals, id),
-        Simple::OfClass(class) => {
-            attribute_passes(forest, key, "class", AttributeTest::HasWord, class)
-        }
+        Simple::OfId(id) => has_id(forest, key, id),
+        Simple::OfClass(class) => has_class(forest, key, class),
         Simple::WithAttribute(name) => forest.attr(key, name.as_str()).is_some(),
         Simple::WithValue(name, test, value) => {
             attribute_passes(forest, key, name.as_str(), *test, value)

@@ -11,6 +11,7 @@ ghost use Rattle.dom_model.specs.SelectorText.{read_name as spec_read_name, read
 use std::alloc::{AllocError, Global};
 
 /// Whether a unit is white space. Most are greater than all that is.
+#[inline(always)]
 pub(crate) fn is_space(unit: u16) -> bool
     ensures { result ≡ spec_is_space unit }
 {

@@ -20,6 +20,7 @@ fn has_space(text: &[u16]) -> bool
 }
 
 /// Whether a string begins with a word, behind which is white space or nothing. They are compared in place.
+#[inline(always)]
 fn begins_with_word(text: &[u16], word: &[u16]) -> bool
     ensures { result ≡ spec_begins_with_word word.now text.now }
 {
@@ -37,6 +38,7 @@ fn begins_with_word(text: &[u16], word: &[u16]) -> bool
 }
 
 /// What is behind the first white space of a string, if there is some.
+#[inline(always)]
 fn behind_space(text: &[u16]) -> Option<&[u16]>
     ensures { option_map (λ behind. behind.now) result ≡ spec_behind_space text.entry.now }
 {
@@ -51,6 +53,7 @@ fn behind_space(text: &[u16]) -> Option<&[u16]>
 }
 
 /// Whether a string has this word between white space.
+#[inline(always)]
 fn has_word(text: &[u16], word: &[u16]) -> bool
     ensures { result ≡ list_any (text_eq word.now) (words_from [] text.now) }
 {
@@ -94,6 +97,15 @@ fn begins_with_dash(text: &[u16], value: &[u16]) -> bool
     text.split_at(value.len()).1.starts_with(&[45])
 }
 
+/// Whether a word is among those into which white space parts an attribute's value. Most values have it not, so that it is a word is
+/// seen last.
+#[inline(always)]
+pub(crate) fn is_among_words(word: &[u16], text: &[u16]) -> bool
+    ensures { result ≡ spec_value_passes (test_view AttributeTest.HasWord) word.now text.now }
+{
+    !word.is_empty() && has_word(text, word) && !has_space(word)
+}
+
 /// Whether an attribute's value is as a test with a value of the selector asks.
 #[inline(never)]
 pub(crate) fn value_passes(test: AttributeTest, value: &[u16], text: &[u16]) -> bool
@@ -101,9 +113,7 @@ pub(crate) fn value_passes(test: AttributeTest, value: &[u16], text: &[u16]) -> 
 {
     match test {
         AttributeTest::Equals => is_same_string(text, value),
-        AttributeTest::HasWord => {
-            !value.is_empty() && has_word(text, value) && !has_space(value)
-        }
+        AttributeTest::HasWord => is_among_words(value, text),
         AttributeTest::BeginsWithDash => begins_with_dash(text, value),
         AttributeTest::Begins => !value.is_empty() && text.starts_with(value),
         AttributeTest::Ends => !value.is_empty() && text.ends_with(value),

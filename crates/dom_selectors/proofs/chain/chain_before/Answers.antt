@@ -35,14 +35,14 @@ loop-at-preserved c =
       node = c.element_beside-at-in-Some.ensures.node;
       above = λ j e. step.1 j e ∙ c.loop-at.invariant.above c.in-Some.before c.in-Some.is;
       left = earlier_passed f (complex_matches f.trees (complex_from c.args.first.now c.args.links.now))
-          c.element_beside-at-in-Some.result c.in-Some.is c.in_default-chain_end.ensures.ends step.0 ∙ c.loop-at.invariant.left;
+          c.element_beside-at-in-Some.result c.in-Some.is c.in_default-chain_from.ensures.ends step.0 ∙ c.loop-at.invariant.left;
     }
 
-pub returns-in-Some-chain_end-clause-ends : goal.returns-in-Some-chain_end-clause-ends
-returns-in-Some-chain_end-clause-ends c =
+pub returns-in-Some-chain_from-clause-ends : goal.returns-in-Some-chain_from-clause-ends
+returns-in-Some-chain_from-clause-ends c =
     let f = c.args.forest.now in
     let whole = complex_from c.args.first.now c.args.links.now in
     chain-before (name_at f.names c.args.key)
     (c.loop-at.invariant.above c.in-Some.before c.in-Some.is)
     (sym (ap (λ o. list_any (complex_matches f.trees whole) (elements_upto f.trees (option_map (name_at f.names) o))) c.in-Some.is) ∙ c.loop-at.invariant.left)
-    c.in-Some-chain_end.ensures.ends
+    c.in-Some-chain_from.ensures.ends

@@ -1,7 +1,8 @@
 -- What is left answers for the whole.
-use Rattle.dom_base.proofs.Std.{◌<◌, ◌≤◌, length}
+use Rattle.dom_base.proofs.Std.{◌≡◌, ◌<◌, ◌≤◌, true, length}
+use Rattle.dom_model.proofs.Model.{compound_matches}
 use Rattle.dom_tree.specs.Definitions.{name_at}
-use Rattle.dom_selectors.specs.Definitions.{complex_from}
+use Rattle.dom_selectors.specs.Definitions.{complex_from, last_compound}
 use Rattle.dom_selectors.proofs.Chains.{Leads}
 use Rattle.dom_selectors.proofs.chain.chain_end.Given as goal
 
@@ -10,6 +11,7 @@ invariant-loop-last l = record {
   node : l.at < length l.forest.names;
   shorter : length l.rest ≤ length l.fn.links;
   leads : Leads l.forest.trees (complex_from l.first l.fn.links) (name_at l.forest.names l.fn.key) (complex_from l.first l.rest) (name_at l.forest.names l.at);
+  matches : compound_matches l.forest.trees (last_compound (complex_from l.first l.rest)) (name_at l.forest.names l.at) ≡ true;
 }
 
 abbrev pub decreases-loop-last : goal.decreases-loop-last
