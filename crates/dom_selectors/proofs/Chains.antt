@@ -1,8 +1,8 @@
 -- A search along a run of `>` and `+`, step by step: what it has come to answers for what it began with.
 use Rattle.dom_base.proofs.Std.{◌≡◌, inl, inr, Bool, true, false, List, [], ◌∷◌, ◌++◌, Option, Some, None, refl, ap, sym, subst, ◌∙◌, append_assoc, true≢false}
 use Rattle.dom_base.proofs.Std.{◌&&◌, option_to_list, list_any, and_parts, and_left}
-use Rattle.dom_model.proofs.Model.{NodeName, last_of, Trees, ancestors, parent_of, Complex, alone, joined, Combinator, descendant, child, next, later, CompoundPart}
-use Rattle.dom_model.proofs.Model.{compound_matches, complex_matches, combined_with, elements_before}
+use Rattle.dom_model.proofs.Model.{NodeName, last_of, Trees, ancestors, parent_of, Complex, alone, joined, Combinator, descendant, child, next, later}
+use Rattle.dom_model.proofs.Model.{CompoundPart, compound_matches, complex_matches, combined_with, elements_before}
 use Rattle.dom_laws.proofs.Laws.{In, In-left, In-right, In-parts, Has, proper-parent, Once}
 use Rattle.dom_selectors.specs.Definitions.{last_compound, elements_to, only_left, IsSearched, MatchesAbove}
 use Rattle.dom_selectors.proofs.JoinedLaws.{or_none}

@@ -1,8 +1,16 @@
 -- A walk through the tree below a node.
-use Rattle.dom_base.proofs.Std.{◌≡◌, ℕ, Bool, true, false, List, [], ◌∷◌, ◌++◌, ap, sym, ◌∙◌, append_assoc, map, filter, drop, map-append}
+use Rattle.dom_base.proofs.Std.{◌≡◌, ℕ, Bool, true, false, List, [], ◌∷◌, ◌++◌, ap, sym, ◌∙◌, append_assoc, map, filter, drop, map-append, None, none-some}
 use Rattle.dom_model.proofs.Model.{NodeName, Trees, descendants}
+use Rattle.dom_tree.specs.Definitions.{NamedTrees}
 use Rattle.dom_laws.specs.Within.{behind}
+use Rattle.dom_selectors.specs.declared.selector.Complex.{Complex}
+use Rattle.dom_selectors.specs.Definitions.{IsKnownOfFirst}
 use Rattle.dom_laws.proofs.Laws.{filter-yes, filter-no, IsWithin, ordered, top_places}
+
+-- at first nothing is remembered
+pub nothing_known : (f : NamedTrees) (cs : List Complex) → IsKnownOfFirst f cs None
+nothing_known f [] = tt
+nothing_known f (c ∷ cs) = λ a e. absurd (none-some a e)
 
 -- the nodes behind the top are those below it
 pub behind_top : (ts : Trees) (top : NodeName) → IsWithin ts top top → behind ts top top ≡ descendants ts top

@@ -7,4 +7,5 @@ pub mod Words
 pub mod Grammar
 pub mod Laws
 pub mod Siblings
+pub mod Known
 pub mod Definitions

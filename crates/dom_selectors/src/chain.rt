@@ -48,7 +48,7 @@ fn only_left(forest: &Forest, combinator: Combinator, key: Key) -> Option<Key>
 
 /// The compound on the right.
 #[inline(always)]
-fn last_of<'a>(first: &'a [CompoundPart], links: &'a [Link]) -> &'a [CompoundPart]
+pub(crate) fn last_of<'a>(first: &'a [CompoundPart], links: &'a [Link]) -> &'a [CompoundPart]
     ensures { compound_view result.now ≡ last_compound (complex_from first.entry.now links.entry.now) }
 {
     match links.split_last() {

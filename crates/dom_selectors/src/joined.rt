@@ -6,10 +6,11 @@ ghost use Rattle.std.specs.List.{list_any};
 ghost use Rattle.dom_model.specs.Tree.{ancestors};
 ghost use Rattle.dom_model.specs.Selectors.{compound_matches as spec_compound_matches, complex_matches as spec_complex_matches};
 ghost use Rattle.dom_tree.specs.Forest.{IsNode, name_of};
-ghost use Rattle.dom_selectors.specs.Search.{SegmentEnds, SegmentIsAbove, last_compound};
-ghost use Rattle.dom_selectors.specs.Views.{complex_from, complex_view};
+ghost use Rattle.dom_selectors.specs.Search.{SegmentEnds, SegmentIsAbove, StopsAt, IsDescendant, last_compound};
+ghost use Rattle.dom_selectors.specs.Views.{compound_view, complex_from, complex_view};
 
-use crate::chain::{Place, chain_before, chain_end, last_matches};
+use crate::chain::{Place, chain_before, chain_end, last_matches, last_of};
+use crate::matching::compound_matches;
 use crate::selector::{Combinator, Complex, CompoundPart, Link};
 use dom_tree::Forest;
 use node_arena::Key;
@@ -94,33 +95,75 @@ fn segment_above<'a>(
     None
 }
 
+/// Whether a node where a segment ends matches these links behind the first compound: whether each segment left of it holds at some
+/// node above.
+fn end_matches(forest: &Forest, first: &[CompoundPart], links: &[Link], key: Key) -> bool
+    requires node { IsNode forest.now key }
+    requires stops { StopsAt IsDescendant forest.now.trees (complex_from first.now links.now) (name_of forest.now key) }
+    ensures { result ≡ spec_complex_matches forest.now.trees (complex_from first.now links.now) (name_of forest.now key) }
+{
+    let mut rest = links;
+    let mut at = key;
+    while let Some((_, left)) = rest.split_last() {
+        let Some(next) = segment_above(forest, first, left, at) else {
+            return false;
+        };
+        rest = next.links;
+        at = next.key;
+    }
+    true
+}
+
+/// Whether some ancestor of a node matches these links behind the first compound, by their segments.
+pub(crate) fn ancestors_match(
+    forest: &Forest,
+    first: &[CompoundPart],
+    links: &[Link],
+    key: Key,
+) -> bool
+    requires { IsNode forest.now key }
+    ensures { result ≡ list_any (spec_complex_matches forest.now.trees (complex_from first.now links.now)) (ancestors forest.now.trees (name_of forest.now key)) }
+{
+    match segment_above(forest, first, links, key) {
+        Some(end) => end_matches(forest, first, end.links, end.key),
+        None => false,
+    }
+}
+
 /// Whether a node that matches the compound on the right matches a complex selector, by its segments.
 #[inline(never)]
-fn segments_match(forest: &Forest, complex: &Complex, key: Key) -> bool
+pub(crate) fn segments_match(forest: &Forest, complex: &Complex, key: Key) -> bool
     requires node { IsNode forest.now key }
     requires matches { spec_compound_matches forest.now.trees (last_compound (complex_view complex.now)) (name_of forest.now key) ≡ true }
     ensures { result ≡ spec_complex_matches forest.now.trees (complex_view complex.now) (name_of forest.now key) }
 {
     let first = complex.first.as_slice();
-    let Some(mut end) = segment_end(forest, first, complex.links.as_slice(), key) else {
-        return false;
-    };
-    while let Some((_, left)) = end.links.split_last() {
-        let Some(next) = segment_above(forest, first, left, end.key) else {
-            return false;
-        };
-        end = next;
+    match segment_end(forest, first, complex.links.as_slice(), key) {
+        Some(end) => end_matches(forest, first, end.links, end.key),
+        None => false,
     }
-    true
 }
 
-/// Whether a node matches a complex selector. Its compound on the right is tried first, since most nodes fail there.
+/// The compound on the right of a complex selector.
 #[inline(always)]
-pub(crate) fn complex_matches(forest: &Forest, complex: &Complex, key: Key) -> bool
-    requires { IsNode forest.now key }
+pub(crate) fn last_of_complex(complex: &Complex) -> &[CompoundPart]
+    ensures { compound_view result.now ≡ last_compound (complex_view complex.now) }
+{
+    last_of(complex.first.as_slice(), complex.links.as_slice())
+}
+
+/// Whether a node matches a complex selector, whose compound on the right is given. That is tried first, since most nodes fail there.
+#[inline(always)]
+pub(crate) fn complex_matches(
+    forest: &Forest,
+    complex: &Complex,
+    last: &[CompoundPart],
+    key: Key,
+) -> bool
+    requires node { IsNode forest.now key }
+    requires last { compound_view last.now ≡ last_compound (complex_view complex.now) }
     ensures { result ≡ spec_complex_matches forest.now.trees (complex_view complex.now) (name_of forest.now key) }
 {
-    let links = complex.links.as_slice();
-    last_matches(forest, complex.first.as_slice(), links, key)
-        && (links.is_empty() || segments_match(forest, complex, key))
+    compound_matches(forest, last, key)
+        && (complex.links.is_empty() || segments_match(forest, complex, key))
 }

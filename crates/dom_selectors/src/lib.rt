@@ -4,6 +4,7 @@
 //! A selector's text is taken as it is: no code unit of it is replaced (own rule).
 #![tactic(auto)]
 
+mod above;
 mod chain;
 mod compounds;
 mod grammar;

@@ -33,7 +33,7 @@ fn attribute_passes(
 }
 
 /// Whether a node has this ID.
-#[inline(never)]
+#[inline(always)]
 fn has_id(forest: &Forest, key: Key, id: &[u16]) -> bool
     requires { IsNode forest.now key }
     ensures { result ≡ spec_simple_matches forest.now.trees (name_of forest.now key) (of_id id.now) }
@@ -97,7 +97,7 @@ fn part_matches(forest: &Forest, part: &CompoundPart, key: Key) -> bool
     }
 }
 
-/// Whether an element matches all of some parts of a compound, the first of which is the local name if one is asked for.
+/// Whether an element matches all of some parts of a compound.
 #[inline(always)]
 fn all_parts_match(forest: &Forest, parts: &[CompoundPart], key: Key) -> bool
     requires { IsNode forest.now key }
@@ -111,11 +111,25 @@ fn all_parts_match(forest: &Forest, parts: &[CompoundPart], key: Key) -> bool
     true
 }
 
-/// Whether a node is an element that matches a compound.
+/// Whether a node is an element that matches some parts.
+#[inline(always)]
+fn element_matches(forest: &Forest, parts: &[CompoundPart], key: Key) -> bool
+    requires { IsNode forest.now key }
+    ensures { result ≡ spec_compound_matches forest.now.trees (compound_view parts.now) (name_of forest.now key) }
+{
+    is_element(forest, key) && all_parts_match(forest, parts, key)
+}
+
+/// Whether a node is an element that matches a compound. The local name comes first where one is asked for, since most elements fail there.
 #[inline(always)]
 pub(crate) fn compound_matches(forest: &Forest, parts: &[CompoundPart], key: Key) -> bool
     requires { IsNode forest.now key }
     ensures { result ≡ spec_compound_matches forest.now.trees (compound_view parts.now) (name_of forest.now key) }
 {
-    is_element(forest, key) && all_parts_match(forest, parts, key)
+    match parts {
+        [CompoundPart::Is(Simple::OfType(name)), others @ ..] => {
+            is_same_text(forest.element(key), name.as_str()) && element_matches(forest, others, key)
+        }
+        _ => element_matches(forest, parts, key),
+    }
 }

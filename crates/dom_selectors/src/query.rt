@@ -3,10 +3,12 @@ ghost use Rattle.std.specs.Prelude.{◌≡◌, map, IfOk, All};
 ghost use Rattle.std.specs.List.{list_any};
 ghost use Rattle.dom_model.specs.Selectors.{complex_matches as spec_complex_matches, selector_matches, query_all as spec_query_all};
 ghost use Rattle.dom_tree.specs.Forest.{IsNode, name_of};
+ghost use Rattle.dom_selectors.specs.Known.{IsFirstLast, IsKnownOfFirst};
 ghost use Rattle.dom_selectors.specs.Views.{complex_view, selector_view};
 
-use crate::joined::complex_matches;
-use crate::selector::{Complex, Selector};
+use crate::above::{Above, matches_knowing};
+use crate::joined::{complex_matches, last_of_complex};
+use crate::selector::{Complex, CompoundPart, Selector};
 use dom_tree::Forest;
 use node_arena::Key;
 use std::alloc::{AllocError, Global};
@@ -18,17 +20,70 @@ fn some_complex_matches(forest: &Forest, complexes: &[Complex], key: Key) -> boo
     ensures { result ≡ list_any (λ c. spec_complex_matches forest.now.trees (complex_view c) (name_of forest.now key)) complexes.now }
 {
     for complex in complexes {
-        if complex_matches(forest, complex, key) {
+        if complex_matches(forest, complex, last_of_complex(complex), key) {
             return true;
         }
     }
     false
 }
 
+/// The compound on the right of the first of these complex selectors, or nothing where there is none.
+fn first_last(complexes: &[Complex]) -> &[CompoundPart]
+    ensures { IsFirstLast complexes.now result.now }
+{
+    match complexes {
+        [first, ..] => last_of_complex(first),
+        [] => &[],
+    }
+}
+
+/// Whether a node matches some of these complex selectors, where the compound on the right of the first one is given, and something
+/// may be remembered of what is left of that.
+#[inline(always)]
+fn some_matches(
+    forest: &Forest,
+    complexes: &[Complex],
+    last: &[CompoundPart],
+    key: Key,
+    known: &mut Option<Above>,
+) -> bool
+    requires node { IsNode forest.now key }
+    requires last { IsFirstLast complexes.now last.now }
+    requires known { IsKnownOfFirst forest.now complexes.now known.old }
+    ensures value { result ≡ list_any (λ c. spec_complex_matches forest.now.trees (complex_view c) (name_of forest.now key)) complexes.now }
+    ensures known { IsKnownOfFirst forest.now complexes.now known.new }
+{
+    match complexes {
+        [first, others @ ..] => {
+            matches_knowing(forest, first, last, key, known)
+                || some_complex_matches(forest, others, key)
+        }
+        [] => false,
+    }
+}
+
 impl Selector {
+    /// Whether a node matches a selector, where the compound on the right of its first complex selector is given, and something may
+    /// be remembered of what is left of that.
+    #[inline(always)]
+    fn matches_with(
+        &self,
+        forest: &Forest,
+        last: &[CompoundPart],
+        key: Key,
+        known: &mut Option<Above>,
+    ) -> bool
+        requires node { IsNode forest.now key }
+        requires last { IsFirstLast self.now.complexes.items last.now }
+        requires known { IsKnownOfFirst forest.now self.now.complexes.items known.old }
+        ensures value { result ≡ selector_matches forest.now.trees (selector_view self.now) (name_of forest.now key) }
+        ensures known { IsKnownOfFirst forest.now self.now.complexes.items known.new }
+    {
+        some_matches(forest, self.complexes.as_slice(), last, key, known)
+    }
+
     /// Whether an element matches a selector, which a node of another kind never does (DOM Standard, matches()). It
     /// takes no memory.
-    #[inline(always)]
     pub fn matches(&self, forest: &Forest, key: Key) -> bool
         requires { IsNode forest.now key }
         ensures { result ≡ selector_matches forest.now.trees (selector_view self.now) (name_of forest.now key) }
@@ -51,10 +106,12 @@ impl Selector {
         ensures nodes { IfOk result (λ keys. All (IsNode forest.now) keys.items) }
     {
         forest.law_nodes_stand_once();
+        let last = first_last(self.complexes.as_slice());
+        let mut known = None;
         let mut found = Vec::new(alloc);
         let mut at = forest.following(top, top);
         while let Some(key) = at {
-            if self.matches(forest, key) {
+            if self.matches_with(forest, last, key, &mut known) {
                 found.push(key)?;
             }
             at = forest.following(key, top);

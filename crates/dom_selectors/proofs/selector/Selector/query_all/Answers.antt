@@ -6,9 +6,9 @@ use Rattle.dom_laws.specs.Within.{from_node}
 use Rattle.dom_laws.proofs.Laws.{above-itself}
 use Rattle.dom_tree.proofs.Searching.{IsWithin-key, following_step, length-behind}
 use Rattle.dom_selectors.specs.Definitions.{selector_view}
-use Rattle.dom_selectors.proofs.QueryLaws.{behind_top, taken, left_out}
+use Rattle.dom_selectors.proofs.QueryLaws.{behind_top, nothing_known, taken, left_out}
 use Rattle.dom_selectors.proofs.selector.Selector.query_all.Goals as goal
-use Rattle.dom_selectors.proofs.selector.Selector.query_all.Goals.{then-matches+in_ok-push, else-matches}
+use Rattle.dom_selectors.proofs.selector.Selector.query_all.Goals.{then-matches_with+in_ok-push, else-matches_with}
 
 pub following-at-requires-clause-within : goal.following-at-requires-clause-within
 following-at-requires-clause-within c = above-itself c.args.forest.now.trees (name_at c.args.forest.now.names c.args.top)
@@ -26,6 +26,7 @@ loop-at-init c =
     let left = filter test (from_node f.trees top (option_map (name_at f.names) c.following-at.result)) in
     record {
       stands = step.1;
+      known = nothing_known f c.args.self.now.complexes.items;
       nodes = subst (All (λ k. k < length f.names)) (sym c.new-found.ensures.items) (λ k d h. absurd (omega (arith, h)));
       all = ap (λ xs. map (name_at f.names) xs ++ left) c.new-found.ensures.items
           ∙ ap (filter test) (sym step.0 ∙
@@ -53,22 +54,24 @@ loop-at-preserved c =
     ap (λ rest. map (name_at f.names) c.loop-at.found.items ++ filter test (name_at f.names c.in-Some.key ∷ rest)) (sym step.0)
     ∙ ap (λ o. map (name_at f.names) c.loop-at.found.items ++ filter test (from_node f.trees top (option_map (name_at f.names) o))) (sym c.in-Some.is)
     ∙ c.loop-at.invariant.all in
-    elim c.if-matches.branch [
-      | then-matches+in_ok-push w ↦
-          let grown : c.if-matches.found.items ≡ c.loop-at.found.items ++ c.in-Some.key ∷ [] = rw w.found-is w.in_ok-push.ensures.items in
+    elim c.if-matches_with.branch [
+      | then-matches_with+in_ok-push w ↦
+          let grown : c.if-matches_with.found.items ≡ c.loop-at.found.items ++ c.in-Some.key ∷ [] = rw w.found-is w.in_ok-push.ensures.items in
           record {
             stands = step.1;
+            known = c.matches_with.ensures.known;
             nodes = subst (All (λ k. k < length f.names)) (sym grown)
                 (All-push (λ k. k < length f.names) c.loop-at.found.items c.in-Some.key c.loop-at.invariant.nodes stands.node);
             all = ap (λ xs. map (name_at f.names) xs ++ filter test next) grown ∙ taken (name_at f.names) test c.loop-at.found.items c.in-Some.key
-                next (sym c.matches.ensures ∙ w.if-matches.true) ∙ before;
+                next (sym c.matches_with.ensures.value ∙ w.if-matches_with.true) ∙ before;
           }
-      | else-matches w ↦
-          let same : c.if-matches.found.items ≡ c.loop-at.found.items = rw w.found-is refl in
+      | else-matches_with w ↦
+          let same : c.if-matches_with.found.items ≡ c.loop-at.found.items = rw w.found-is refl in
           record {
             stands = step.1;
+            known = c.matches_with.ensures.known;
             nodes = subst (All (λ k. k < length f.names)) (sym same) c.loop-at.invariant.nodes;
             all = ap (λ xs. map (name_at f.names) xs ++ filter test next) same ∙ left_out (name_at f.names) test c.loop-at.found.items
-                c.in-Some.key next (sym c.matches.ensures ∙ w.if-matches.false) ∙ before;
+                c.in-Some.key next (sym c.matches_with.ensures.value ∙ w.if-matches_with.false) ∙ before;
           }
     ]

@@ -3,12 +3,13 @@ use Rattle.dom_base.proofs.Std.{◌≡◌, ◌<◌, ◌++◌, length, filter, ma
 use Rattle.dom_model.proofs.Model.{selector_matches, query_all}
 use Rattle.dom_tree.specs.Definitions.{name_at, StandsIn}
 use Rattle.dom_laws.specs.Within.{from_node}
-use Rattle.dom_selectors.specs.Definitions.{selector_view}
+use Rattle.dom_selectors.specs.Definitions.{IsKnownOfFirst, selector_view}
 use Rattle.dom_selectors.proofs.selector.Selector.query_all.Given as goal
 
 abbrev pub invariant-loop-at : goal.invariant-loop-at
 invariant-loop-at l = record {
   stands : ForSome l.at (StandsIn l.forest l.top);
+  known : IsKnownOfFirst l.forest l.self.complexes.items l.known;
   nodes : All (λ k. k < length l.forest.names) l.found.items;
   all : map (name_at l.forest.names) l.found.items ++ filter (selector_matches l.forest.trees (selector_view l.self))
       (from_node l.forest.trees (name_at l.forest.names l.top) (option_map (name_at l.forest.names) l.at)) ≡ query_all l.forest.trees

@@ -4,7 +4,7 @@ use Rattle.dom_model.proofs.Model.{part_matches}
 use Rattle.dom_tree.specs.Definitions.{name_at}
 use Rattle.dom_selectors.specs.Definitions.{part_view, compound_view}
 use Rattle.dom_selectors.proofs.Anywhere.{all_seen}
-use Rattle.dom_selectors.proofs.matching.compound_matches.Goals as goal
+use Rattle.dom_selectors.proofs.matching.element_matches.Goals as goal
 
 pub returns-then-is_element : goal.returns-then-is_element
 returns-then-is_element c =

@@ -1,0 +1,15 @@
+-- Some is seen.
+use Rattle.dom_base.proofs.Std.{ap, ◌∙◌, list_any}
+use Rattle.dom_model.proofs.Model.{complex_matches}
+use Rattle.dom_tree.specs.Definitions.{name_at}
+use Rattle.dom_selectors.specs.Definitions.{complex_view}
+use Rattle.dom_selectors.proofs.Anywhere.{any_seen}
+use Rattle.dom_selectors.proofs.selector.Selector.matches_with.Goals as goal
+
+pub returns-clause-value : goal.returns-clause-value
+returns-clause-value c =
+    let f = c.args.forest.now in
+    let x = name_at f.names c.args.key in
+    c.some_matches.ensures.value
+    ∙ ap (list_any (λ d. complex_matches f.trees (complex_view d) x)) c.as_slice.ensures.value
+    ∙ any_seen (λ d. complex_matches f.trees d x) complex_view c.args.self.now.complexes.items
