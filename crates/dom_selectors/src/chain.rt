@@ -113,6 +113,7 @@ pub(crate) fn chain_end<'a>(
 
 /// Where the chain from a node ends, or none where it does not hold there.
 #[inline(always)]
+#[tactic(auto, using(crate::proofs::Chains::not_last))]
 fn chain_from<'a>(
     forest: &Forest,
     first: &[CompoundPart],

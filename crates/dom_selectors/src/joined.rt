@@ -49,6 +49,7 @@ fn segment_end<'a>(
 }
 
 /// Where the segment from a node ends. Its compound on the right is tried first, since most nodes fail there.
+#[tactic(auto, using(crate::proofs::Chains::not_last))]
 fn segment_from<'a>(
     forest: &Forest,
     first: &[CompoundPart],
@@ -122,7 +123,8 @@ pub(crate) fn ancestors_match(
     key: Key,
 ) -> bool
     requires { IsNode forest.now key }
-    ensures { result ≡ list_any (spec_complex_matches forest.now.trees (complex_from first.now links.now)) (ancestors forest.now.trees (name_of forest.now key)) }
+    ensures { result ≡ list_any (spec_complex_matches forest.now.trees (complex_from first.now links.now))
+        (ancestors forest.now.trees (name_of forest.now key)) }
 {
     match segment_above(forest, first, links, key) {
         Some(end) => end_matches(forest, first, end.links, end.key),

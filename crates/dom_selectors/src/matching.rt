@@ -45,7 +45,7 @@ fn has_id(forest: &Forest, key: Key, id: &[u16]) -> bool
 }
 
 /// Whether a node has this class.
-#[inline(never)]
+#[inline(always)]
 fn has_class(forest: &Forest, key: Key, class: &[u16]) -> bool
     requires { IsNode forest.now key }
     ensures { result ≡ spec_simple_matches forest.now.trees (name_of forest.now key) (of_class class.now) }
