@@ -4,6 +4,5 @@ mod Among
 mod Entered
 mod Visiting
 mod Placing
-mod Opening
 mod Staying
 mod Typed

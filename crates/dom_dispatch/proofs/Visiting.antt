@@ -1,10 +1,10 @@
 -- The steps of loops over listeners and over the visits of a path, and the dispatch in a world.
 use Rattle.dom_base.proofs.Std.{◌≡◌, ℕ, ◌+◌, ◌<◌, Bool, true, false, cond, List, [], ◌∷◌, ◌++◌, length, get_or, take, drop, filter, fold, map, reverse, Option}
-use Rattle.dom_base.proofs.Std.{Some, option_map, zero, suc, refl, sym, ap, subst, ◌∙◌, arith, drop-cons, ◌&&◌, nat_eq, slice_get, if◌then◌else◌}
+use Rattle.dom_base.proofs.Std.{Some, option_map, not, zero, suc, refl, sym, ap, subst, ◌∙◌, arith, drop-cons, ◌&&◌, ◌||◌, nat_eq, slice_get, if◌then◌else◌}
 use Rattle.dom_base.proofs.Std.{AllByRecursion, cond-false, map-append, reverse-append, filter_more, fold-append, slice_get-map, slice_get-get_or}
 use Rattle.dom_base.proofs.Std.{slice_get_within, get_or_from_slice_get}
-use Rattle.dom_model.proofs.Model.{NodeName, EventWords, event_output, visit_of, Dispatching, Listener, hears, after_inner_invoke, after_invoke, EventLine}
-use Rattle.dom_model.proofs.Model.{View, part_of}
+use Rattle.dom_model.proofs.Model.{NodeName, name_eq, Word, EventWords, event_output, visit_of, visits_of, is_at_target, begun, Dispatching, Listener, hears}
+use Rattle.dom_model.proofs.Model.{after_inner_invoke, after_invoke, EventLine, View, views, part_of}
 use Rattle.dom_tree.specs.Definitions.{NamedTrees, name_at, TellApart}
 use Rattle.dom_slots.specs.Definitions.{ShadowHost}
 use Rattle.dom_path.specs.declared.item.Item.{Item}
@@ -13,8 +13,8 @@ use Rattle.dom_path.specs.Definitions.{ShowsNodes, view_in}
 use Rattle.dom_dispatch.specs.declared.event.LogLine.{LogLine}
 use Rattle.dom_dispatch.specs.declared.event.Outcome.{Outcome}
 use Rattle.dom_dispatch.specs.Definitions.{HasPathOf, IsDispatched, IsDispatchedIn, IsLineAlong, IsOwnLine, NoneHears, is_of_owner, listener_named, line_named}
-use Rattle.dom_dispatch.specs.Definitions.{IsListenerAt, IsViewOf}
-use Rattle.dom_dispatch.proofs.Among.{dispatched-along}
+use Rattle.dom_dispatch.specs.Definitions.{IsListenerAt, IsViewOf, line_in}
+use Rattle.dom_dispatch.proofs.Among.{dispatched-among, dispatched-along}
 
 -- one or none, mapped
 map-cond : {X Y : Type 0} (f : X → Y) (b : Bool) (x : X) → map f (cond b (x ∷ []) []) ≡ cond b (f x ∷ []) []
@@ -69,27 +69,44 @@ module _ (e : EventWords) (capturing : Bool) where
       ap (λ u. after_invoke nat_eq e d (visit_of nat_eq capturing u)) one
 
   -- where nobody listens visits change nothing
-  unheard : (ls : List (Listener ℕ)) → NoneHears e.event capturing ls → (v : View ℕ) → filter (hears nat_eq e (visit_of nat_eq capturing v)) ls ≡ []
-  unheard [] all v = refl
-  unheard (l ∷ ls) all v =
-      ap (λ b. if b then l ∷ filter (hears nat_eq e (visit_of nat_eq capturing v)) ls else filter (hears nat_eq e (visit_of nat_eq capturing v)) ls)
-      (deaf (nat_eq l.node v.node) _ all.0) ∙ unheard ls all.1 v
-    where
-      deaf : (a b : Bool) → b ≡ false → (a && b) ≡ false
-      deaf true b none = none
-      deaf false b none = refl
+  module _ {N : Type 0} (same : N → N → Bool) where
+    unheard : (ls : List (Listener N)) → NoneHears e.event capturing ls → (v : View N) → filter (hears same e (visit_of same capturing v)) ls ≡ []
+    unheard [] all v = refl
+    unheard (l ∷ ls) all v =
+        ap (λ b. if b then l ∷ filter (hears same e (visit_of same capturing v)) ls else filter (hears same e (visit_of same capturing v)) ls)
+        (deaf (same l.node v.node) _ all.0) ∙ unheard ls all.1 v
+      where
+        deaf : (a b : Bool) → b ≡ false → (a && b) ≡ false
+        deaf true b none = none
+        deaf false b none = refl
 
-  pub silent : (d : Dispatching ℕ) → NoneHears e.event capturing d.listeners → (vs : List (View ℕ)) →
-      fold (after_invoke nat_eq e) d (map (visit_of nat_eq capturing) vs) ≡ d
-  silent d all [] = refl
-  silent d all (v ∷ vs) =
-      ap (λ d. fold (after_invoke nat_eq e) d (map (visit_of nat_eq capturing) vs))
-      (ap (λ ls. if d.stopped then d else fold (after_inner_invoke nat_eq e (visit_of nat_eq capturing v)) d ls) (unheard d.listeners all v) ∙ either d.stopped)
-      ∙ silent d all vs
-    where
-      either : (b : Bool) → (if b then d else d) ≡ d
-      either true = refl
-      either false = refl
+    pub silent : (d : Dispatching N) → NoneHears e.event capturing d.listeners → (vs : List (View N)) →
+        fold (after_invoke same e) d (map (visit_of same capturing) vs) ≡ d
+    silent d all [] = refl
+    silent d all (v ∷ vs) =
+        ap (λ d. fold (after_invoke same e) d (map (visit_of same capturing) vs))
+        (ap (λ ls. if d.stopped then d else fold (after_inner_invoke same e (visit_of same capturing v)) d ls) (unheard d.listeners all v) ∙ either d.stopped)
+        ∙ silent d all vs
+      where
+        either : (b : Bool) → (if b then d else d) ≡ d
+        either true = refl
+        either false = refl
+
+-- so a dispatch has no lines, and is not cancelled
+quiet : {N : Type 0} (same : N → N → Bool) (e : EventWords) (ls : List (Listener N)) → ((capturing : Bool) → NoneHears e.event capturing ls) →
+    (vs : List (View N)) → fold (after_invoke same e) (begun ls) (visits_of same e.bubbles vs) ≡ begun ls
+quiet same e ls none vs =
+    let step = after_invoke same e in
+    let up = filter (λ v. e.bubbles || is_at_target same v) vs in
+    fold-append step (begun ls) (map (visit_of same true) (reverse vs)) (map (visit_of same false) up)
+    ∙ ap (λ d. fold step d (map (visit_of same false) up)) (silent e true same (begun ls) (none true) (reverse vs))
+    ∙ silent e false same (begun ls) (none false) up
+
+-- nobody listens by names either
+none-named : (names : List NodeName) (event : Word) (capturing : Bool) (ls : List (Listener ℕ)) → NoneHears event capturing ls →
+    NoneHears event capturing (map (listener_named names) ls)
+none-named names event capturing [] none = tt
+none-named names event capturing (l ∷ ls) none = (none.0, none-named names event capturing ls none.1)
 
 -- an item that is there
 there : {X : Type 0} (xs : List X) (i : ℕ) → i < length xs → (x : X) × (slice_get xs i ≡ Some x)
@@ -140,3 +157,19 @@ dispatched-in {f} apart {before} {target} {related} {e} d at w is has =
       far.1 ∙ ap (λ (ls : List (EventLine ℕ)). map event_output (map (line_named f.names) ls)) (sym d.lines),
       far.2 ∙ sym d.answer,
     )
+
+-- and so is, in each world, one that nobody hears
+module _ (f : NamedTrees) (hosts : List ShadowHost) (target : ℕ) (related : Option ℕ) where
+  pub unheard-in : (ls : List (Listener ℕ)) (e : EventWords) (outcome : Outcome) → ((capturing : Bool) → NoneHears e.event capturing ls) →
+      outcome.lines.items ≡ [] → outcome.answer ≡ true → IsDispatchedIn f hosts ls ls target related e outcome
+  unheard-in ls e outcome none empty answered w is has =
+      let named = map (listener_named f.names) ls in
+      let at = name_at f.names target in
+      let with_related = option_map (name_at f.names) related in
+      let far = dispatched-among w named has at with_related e in
+      let same = quiet name_eq e named (λ c. none-named f.names e.event c ls (none c)) (views w at with_related e.composed) in (
+        λ o. far.0 o ∙ ap (λ (d : Dispatching NodeName). record (part_of w o) { listeners = filter (is_of_owner o) d.listeners }) same,
+        far.1 ∙ ap (λ (d : Dispatching NodeName). map event_output d.lines) same
+            ∙ ap (λ (lines : List LogLine). map event_output (map (line_named f.names) (map line_in lines))) (sym empty),
+        far.2 ∙ ap (λ (d : Dispatching NodeName). not d.cancelled) same ∙ sym answered,
+      )

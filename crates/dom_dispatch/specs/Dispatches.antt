@@ -81,6 +81,14 @@ KeepsLines v before after =
     (names : List NodeName) (paths : ℕ → List ℕ) → v.owner ≡ (name_at names v.current).owner → v.path.value.items ≡ paths v.path_at →
     AllByRecursion (IsLineAlong names paths) before.lines.items → AllByRecursion (IsLineAlong names paths) after.lines.items
 
+-- An event was dispatched along what it shows at some nodes.
+pub record IsDispatchedAlong (names : List NodeName) (before after : List (Listener ℕ)) (e : EventWords) (outcome : Outcome) : Type 0 where
+  pub shown : List (View ℕ)
+  pub nodes : AllByRecursion (ShowsNodes names) shown
+  pub listeners : after ≡ (dispatch_along before e shown).listeners
+  pub lines : map line_in outcome.lines.items ≡ (dispatch_along before e shown).lines
+  pub answer : outcome.answer ≡ not (dispatch_along before e shown).cancelled
+
 module _ (f : NamedTrees) (hosts : List ShadowHost) (before after : List (Listener ℕ)) (target : ℕ) (related : Option ℕ) (e : EventWords)
     (outcome : Outcome) where
   -- An event was dispatched along its path: what it shows there are nodes; it is what the event shows in these trees and hosts, and in

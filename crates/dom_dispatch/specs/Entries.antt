@@ -25,5 +25,5 @@ abbrev pub hears_at : ℕ → Word → Bool → Listener ℕ → Bool
 hears_at x event capturing l = nat_eq l.node x && (text_eq l.words.event event && beq l.words.capture capturing)
 
 -- no listener hears events of this type, while they are capturing or while they are not
-abbrev pub NoneHears : Word → Bool → List (Listener ℕ) → Type 0
-NoneHears event capturing ls = AllByRecursion (λ (l : Listener ℕ). (text_eq l.words.event event && beq l.words.capture capturing) ≡ false) ls
+abbrev pub NoneHears : {N : Type 0} → Word → Bool → List (Listener N) → Type 0
+NoneHears {N} event capturing ls = AllByRecursion (λ (l : Listener N). (text_eq l.words.event event && beq l.words.capture capturing) ≡ false) ls

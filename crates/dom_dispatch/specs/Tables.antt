@@ -1,14 +1,14 @@
 -- How a table holds its entries: each in a place, and for each node the places of its entries.
-use Rattle.std.specs.Prelude.{◌≡◌, ℕ, ◌+◌, ◌<◌, nat_eq, Bool, true, false, List, [], ◌∷◌, filter_map, slice_get, Option, MatchOption, IsSome, if◌then◌else◌}
-use Rattle.std.specs.HashMap.{get as value_at}
+use Rattle.std.specs.Prelude.{◌≡◌, ℕ, ◌+◌, nat_eq, Bool, true, false, List, [], ◌∷◌, filter_map, slice_get, Option, if◌then◌else◌}
 use Rattle.std.specs.HashSet.{contains_text}
 use Rattle.std.specs.List.{AllByRecursion}
-use Rattle.std.specs.Vec.{vec_len, vec_capacity}
 use Rattle.std.specs.Option.{option_flatten, option_map_or}
 use Rattle.dom_model.specs.Listeners.{Listener}
 use Rattle.dom_model.specs.Names.{Word}
 use Rattle.dom_dispatch.specs.Entries.{listener_of, listeners_in}
 use Rattle.dom_dispatch.specs.declared.listeners.Entry.{Entry}
+use Rattle.dom_dispatch.specs.declared.place_list.PlaceList.{PlaceList}
+use Rattle.dom_dispatch.specs.declared.place_list.PlaceList.TheVariants.{Empty, One, More}
 use Rattle.dom_dispatch.specs.declared.places.Places.{Places}
 use Rattle.dom_dispatch.specs.declared.types.Types.{Types}
 
@@ -37,17 +37,15 @@ abbrev pub places_from : ℕ → ℕ → List (Option Entry) → List ℕ
 places_from k n [] = []
 places_from k n (o ∷ es) = if is_of_node k o then n ∷ places_from k (n + 1) es else places_from k (n + 1) es
 
+-- the places in a list
+abbrev pub places_in : PlaceList → List ℕ
+places_in Empty = []
+places_in (One place) = place ∷ []
+places_in (More places) = places.value.items
+
 -- the list of a node; a node without a list has none
 abbrev pub places_at : Places → ℕ → List ℕ
-places_at p k = option_map_or (λ v. v.items) (value_at nat_eq p.lists k) []
-
--- a node has a list
-abbrev pub HasList : Places → ℕ → Type 0
-HasList p k = IsSome (value_at nat_eq p.lists k)
-
--- there is room for one place more of a node
-abbrev pub HasRoom : Places → ℕ → Type 0
-HasRoom p k = MatchOption (value_at nat_eq p.lists k) ⊥ (λ v. vec_len v < vec_capacity v)
+places_at p k = option_map_or places_in (slice_get p.rows.items k) []
 
 -- each node's list has just the places with its entries, in order
 abbrev pub IsIndexed : Places → List (Option Entry) → Type 0

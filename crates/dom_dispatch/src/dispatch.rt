@@ -9,7 +9,7 @@ ghost use Rattle.dom_slots.specs.Kept.{AreSlotsOf};
 ghost use Rattle.dom_path.specs.Items.{HasNodes};
 ghost use Rattle.dom_dispatch.specs.Entries.{listener_of, listeners_in, hears_at};
 ghost use Rattle.dom_dispatch.specs.Dispatches.{event_words, visit_in, dispatching_in, IsOwnLine, AreNumbered, IsLineAlong, KeepsLines, paths_of};
-ghost use Rattle.dom_dispatch.specs.Dispatches.{IsDispatched, IsDispatchedIn, IsShownOf};
+ghost use Rattle.dom_dispatch.specs.Dispatches.{IsDispatched, IsDispatchedAlong, IsDispatchedIn, IsShownOf};
 ghost use Rattle.dom_dispatch.specs.ListenersByName.{IsListenerAt};
 ghost use Rattle.dom_tree.specs.Forest.{IsNode};
 
@@ -55,6 +55,34 @@ impl Listeners {
             answer: !so_far.cancelled,
             lines: so_far.lines,
         })
+    }
+
+    /// Dispatches an event as `dispatch` does, for callers that keep a world: of the path it says what the world's is. Where there was no
+    /// listener for events of this type, no path is built, however far the target is from the root (DOM Standard, concept: dispatch).
+    pub fn dispatch_in_world(
+        &mut self,
+        forest: &Forest,
+        slots: &Slots,
+        target: Key,
+        event: EventInit,
+    ) -> Result<Outcome, AllocError>
+        requires target_is_node { IsNode forest.now target }
+        requires related_is_node { ForSome event.related (IsNode forest.now) }
+        requires slots { AreSlotsOf forest.now slots.now }
+        ensures keys { IfOk result (λ outcome. IsDispatchedAlong forest.now.names self.old self.new (event_words event) outcome) }
+        ensures names { IfOk result (λ outcome. AllByRecursion (IsListenerAt forest.now.names) self.old →
+            IsDispatchedIn forest.now slots.now.hosts self.old self.new target event.related (event_words event) outcome) }
+        ensures owners { IfOk result (λ outcome. AllByRecursion (IsOwnLine forest.now.names) outcome.lines.items) }
+        ensures numbered { IfOk result (λ outcome. AreNumbered outcome.lines.items) }
+    {
+        if self.is_unheard(event.name.as_str()) {
+            let lines = Vec::new(self.alloc);
+            return Ok(Outcome {
+                lines,
+                answer: true,
+            });
+        }
+        self.dispatch(forest, slots, target, event)
     }
 
     /// The visits of a path from its last item to its first (DOM Standard, concept: dispatch). Where no listener hears any, none is made.

@@ -1,9 +1,10 @@
 //! The listeners of all nodes.
-ghost use Rattle.std.specs.Prelude.{◌≡◌, nat_eq, false, [], string_bytes, IfOk, OnOk, OnErr};
+ghost use Rattle.std.specs.Prelude.{◌≡◌, Bool, nat_eq, true, false, [], string_bytes, IfOk, OnOk, OnErr};
 ghost use Rattle.dom_model.specs.Listeners.{is_listener, with_listener_added, with_listener_removed};
 ghost use Rattle.std.specs.List.{list_any};
 ghost use Rattle.dom_dispatch.specs.Entries.{words_of, listener_of, hears_at, NoneHears};
 
+use crate::shared_words::SharedWords;
 use crate::table::Table;
 use crate::types::Types;
 use dom_attributes::is_same_text;
@@ -69,6 +70,7 @@ impl Entry {
 pub struct Listeners {
     pub(crate) table: Table,
     types: Types,
+    words: SharedWords,
     pub(crate) alloc: Global,
 }
 
@@ -78,6 +80,7 @@ impl Drop for Listeners {
         let Self {
             table,
             types,
+            words,
             alloc,
         } = self;
     }
@@ -105,6 +108,7 @@ impl Listeners {
         Listeners {
             table: Table::new(alloc),
             types: Types::new(alloc),
+            words: SharedWords::new(alloc),
             alloc,
         }
     }
@@ -120,7 +124,7 @@ impl Listeners {
         }
         self.types
             .note(self.alloc, words.event.as_str(), words.capture)?;
-        let words = Rc::new(self.alloc, words)?;
+        let words = self.words.shared(words)?;
         self.table.push(Entry { node, words })
     }
 
@@ -129,6 +133,13 @@ impl Listeners {
         ensures { result ≡ false → NoneHears event.now capturing self.now }
     {
         self.types.contains(event, capturing)
+    }
+
+    /// Whether no listener hears events of this type, since there never was one.
+    pub(crate) fn is_unheard(&self, event: &str) -> bool
+        ensures { result ≡ true → (capturing : Bool) → NoneHears event.now capturing self.now }
+    {
+        !self.may_hear(event, true) && !self.may_hear(event, false)
     }
 
     /// Whether a node has a listener with the type, the label and the capture of these words.

@@ -1,16 +1,16 @@
 //! Where each node's listeners stand in a table.
-ghost use Rattle.std.specs.Prelude.{◌≡◌, ℕ, ◌<◌, ◌++◌, ◌∷◌, [], nat_eq, if◌then◌else◌, length, remove, OnOk};
-ghost use Rattle.dom_dispatch.specs.Tables.{places_at, HasList, HasRoom};
+ghost use Rattle.std.specs.Prelude.{◌≡◌, ℕ, ◌<◌, ◌++◌, ◌∷◌, [], nat_eq, if◌then◌else◌, length, remove, OnOk, OnErr};
+ghost use Rattle.dom_dispatch.specs.Tables.{places_at};
 
+use crate::place_list::PlaceList;
 use node_arena::Key;
 use std::alloc::{AllocError, Global};
-use std::collections::HashMap;
 
-/// A list of places for each node. A node without a list has an empty one.
+/// A list of places for each node, empty where it was not given any. They stand by the numbers of the nodes, and are found without a
+/// hash.
 #[derive(Drop)]
 pub(crate) struct Places {
-    lists: HashMap<Key, Vec<usize>>,
-    alloc: Global,
+    rows: Vec<PlaceList>,
 }
 
 impl Places {
@@ -19,52 +19,56 @@ impl Places {
         ensures { (k : ℕ) → places_at result k ≡ [] }
     {
         Places {
-            lists: HashMap::new(alloc),
-            alloc,
+            rows: Vec::new(alloc),
         }
     }
 
-    /// The list of a node. It is found by one look.
+    /// The list of a node.
     pub(crate) fn of(&self, node: Key) -> &[usize]
         ensures { result.now ≡ places_at self.now node }
     {
-        match self.lists.get(&node) {
+        match self.rows.get(node.index()) {
             Some(list) => list.as_slice(),
             None => &[],
         }
     }
 
-    /// Makes room for one place more of a node.
-    pub(crate) fn reserve(&mut self, node: Key) -> Result<(), AllocError>
-        ensures places { (k : ℕ) → places_at self.new k ≡ places_at self.old k }
-        ensures room { OnOk result (HasRoom self.new node) }
-    {
-        self.open(node)?;
-        match self.lists.get_mut(&node) {
-            Some(list) => list.reserve(1),
-            None => Ok(()),
-        }
+    /// How many nodes have a list here, empty or not.
+    pub(crate) fn count(&self) -> usize {
+        self.rows.len()
     }
 
-    /// Gives a node a list, unless it has one.
-    fn open(&mut self, node: Key) -> Result<(), AllocError>
-        ensures places { (k : ℕ) → places_at self.new k ≡ places_at self.old k }
-        ensures list { OnOk result (HasList self.new node) }
+    /// Puts a place behind the others of a node. Where memory is refused, each list is as it was.
+    pub(crate) fn push(&mut self, node: Key, place: usize) -> Result<(), AllocError>
+        ensures ok { OnOk result ((k : ℕ) →
+            places_at self.new k ≡ (if nat_eq node k then places_at self.old k ++ place ∷ [] else places_at self.old k)) }
+        ensures err { OnErr result ((k : ℕ) → places_at self.new k ≡ places_at self.old k) }
     {
-        if !self.lists.contains_key(&node) {
-            let _ = self.lists.insert(node, Vec::new(self.alloc))?;
+        self.reach(node)?;
+        self.push_there(node, place)
+    }
+
+    /// Puts a place behind the others of a node that has a list here.
+    fn push_there(&mut self, node: Key, place: usize) -> Result<(), AllocError>
+        requires { node < length self.old.rows.items }
+        ensures ok { OnOk result ((k : ℕ) →
+            places_at self.new k ≡ (if nat_eq node k then places_at self.old k ++ place ∷ [] else places_at self.old k)) }
+        ensures err { OnErr result ((k : ℕ) → places_at self.new k ≡ places_at self.old k) }
+    {
+        let alloc = *self.rows.allocator();
+        self.rows[node.index()].push(alloc, place)
+    }
+
+    /// Makes a list for a node, where there is none. Where memory is refused, each list is as it was.
+    fn reach(&mut self, node: Key) -> Result<(), AllocError>
+        ensures places { (k : ℕ) → places_at self.new k ≡ places_at self.old k }
+        ensures there { OnOk result (node < length self.new.rows.items) }
+    {
+        let lists = node.index().checked_add(1).ok_or(AllocError)?;
+        for _ in self.rows.len()..lists {
+            self.rows.push(PlaceList::Empty)?;
         }
         Ok(())
-    }
-
-    /// Puts a place behind the others of a node, for which there is room.
-    pub(crate) fn push(&mut self, node: Key, place: usize)
-        requires { HasRoom self.old node }
-        ensures { (k : ℕ) → places_at self.new k ≡ (if nat_eq node k then places_at self.old k ++ place ∷ [] else places_at self.old k) }
-    {
-        if let Some(list) = self.lists.get_mut(&node) {
-            let _ = list.push(place);
-        }
     }
 
     /// Takes a place out of the list of a node.
@@ -72,8 +76,8 @@ impl Places {
         requires { at < length (places_at self.old node) }
         ensures { (k : ℕ) → places_at self.new k ≡ (if nat_eq node k then remove (places_at self.old k) at else places_at self.old k) }
     {
-        if let Some(list) = self.lists.get_mut(&node) {
-            let _ = list.remove(at);
+        if let Some(list) = self.rows.get_mut(node.index()) {
+            list.remove(at);
         }
     }
 }

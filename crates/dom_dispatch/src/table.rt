@@ -78,21 +78,24 @@ impl Table {
         ensures err { OnErr result (present self.new.entries.items ≡ present self.old.entries.items) }
     {
         self.make_room()?;
-        self.places.reserve(entry.node)?;
-        self.places.push(entry.node, self.entries.len());
+        self.places.push(entry.node, self.entries.len())?;
         self.entries.push_reserved(Some(entry));
         Ok(())
     }
 
-    /// Makes room for one listener more. Where all places are taken, and no more than half of them have a listener, the empty ones are
-    /// closed up.
+    /// Makes room for one listener more. Where all places are taken, which are no fewer than the nodes with a list of places, and no more
+    /// than half of them have a listener, the empty ones are closed up.
     fn make_room(&mut self) -> Result<(), AllocError>
         requires indexed { IsIndexed self.old.places self.old.entries.items }
         ensures indexed { IsIndexed self.new.places self.new.entries.items }
         ensures present { present self.new.entries.items ≡ present self.old.entries.items }
         ensures room { OnOk result (vec_len self.new.entries < vec_capacity self.new.entries) }
     {
-        if self.entries.len() == self.entries.capacity() && self.is_half_empty() {
+        let taken = self.entries.len();
+        if taken == self.entries.capacity()
+            && self.places.count() <= taken
+            && self.is_half_empty()
+        {
             self.close_up()?;
         }
         self.entries.reserve(1)
@@ -131,8 +134,7 @@ impl Table {
         let mut count = 0;
         for entry in &self.entries {
             if let Some(entry) = entry {
-                places.reserve(entry.node)?;
-                places.push(entry.node, count);
+                places.push(entry.node, count)?;
                 count += 1;
             }
         }

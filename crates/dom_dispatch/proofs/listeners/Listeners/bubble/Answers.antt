@@ -10,7 +10,7 @@ use Rattle.dom_dispatch.proofs.listeners.Listeners.bubble.Goals.{else-event+else
 
 pub returns-then-not-may_hear-clause-visits : goal.returns-then-not-may_hear-clause-visits
 returns-then-not-may_hear-clause-visits c =
-    sym (silent (event_words c.args.event.now) false (dispatching_in c.args.self.now c.args.so_far.now)
+    sym (silent (event_words c.args.event.now) false nat_eq (dispatching_in c.args.self.now c.args.so_far.now)
     (subst (λ text. NoneHears text false c.args.self.now) c.as_str.ensures.value (c.may_hear.ensures c.if-not-may_hear.true))
     (filter (λ v. c.args.event.now.bubbles || is_at_target nat_eq v) c.args.path.now.views))
 

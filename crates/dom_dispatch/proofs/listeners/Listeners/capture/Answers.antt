@@ -6,7 +6,7 @@ use Rattle.dom_dispatch.proofs.listeners.Listeners.capture.Goals as goal
 
 pub returns-then-not-may_hear-clause-visits : goal.returns-then-not-may_hear-clause-visits
 returns-then-not-may_hear-clause-visits c =
-    sym (silent (event_words c.args.event.now) true (dispatching_in c.args.self.now c.args.so_far.now)
+    sym (silent (event_words c.args.event.now) true nat_eq (dispatching_in c.args.self.now c.args.so_far.now)
     (subst (λ text. NoneHears text true c.args.self.now) c.as_str.ensures.value (c.may_hear.ensures c.if-not-may_hear.true)) (reverse c.args.path.now.views))
 
 pub loop-at-preserved : goal.loop-at-preserved

@@ -1,5 +1,5 @@
-use Rattle.dom_base.proofs.Std.{ap, sym, ◌∙◌, string_bytes}
-use Rattle.dom_dispatch.specs.declared.listeners.ListenerInit.{ListenerInit}
+use Rattle.dom_base.proofs.Std.{ap, sym, ◌∙◌}
+use Rattle.dom_model.proofs.Model.{ListenerWords}
 use Rattle.dom_dispatch.specs.Definitions.{listeners_in, present, is_noted}
 use Rattle.dom_dispatch.proofs.Typed.{more-typed, pushed-typed}
 use Rattle.dom_dispatch.proofs.listeners.Listeners.listen.Goals as goal
@@ -11,6 +11,6 @@ invariant_of-self-2 c = record {
       record { node = c.args.node; words = c.in_ok-words.words } c.push.result c.push.ensures.ok c.push.ensures.err
       (more-typed c.self.inside.types c.note.new.self c.in_ok-note.ensures.kept (listeners_in (present c.self.inside.table.entries.items))
       c.self.invariant.typed)
-      (ap (λ (w : ListenerInit). is_noted c.note.new.self w.capture (string_bytes w.event)) c.in_ok-words.ensures.ok
+      (ap (λ (w : ListenerWords). is_noted c.note.new.self w.capture w.event) c.in_ok-words.ensures
       ∙ ap (is_noted c.note.new.self c.args.words.capture) (sym c.as_str.ensures.value) ∙ c.in_ok-note.ensures.noted);
 }

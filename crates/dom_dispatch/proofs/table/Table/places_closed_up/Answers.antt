@@ -3,7 +3,7 @@ use Rattle.dom_base.proofs.Std.{if◌then◌else◌, length_push}
 use Rattle.dom_dispatch.specs.Definitions.{places_at, places_from}
 use Rattle.dom_dispatch.proofs.Placing.{closed-next, places-more}
 use Rattle.dom_dispatch.proofs.table.Table.places_closed_up.Goals as goal
-use Rattle.dom_dispatch.proofs.table.Table.places_closed_up.Goals.{in-Some+in_ok-reserve, in_default}
+use Rattle.dom_dispatch.proofs.table.Table.places_closed_up.Goals.{in-Some+in_ok-push, in_default}
 
 pub loop-entry-preserved : goal.loop-entry-preserved
 loop-entry-preserved c =
@@ -16,17 +16,17 @@ loop-entry-preserved c =
     let next = closed-next es i o (omega (arith, same, c.loop-entry-test.true))
     (subst (λ xs. o ≡ get_or xs i o) c.deref-entry-items.ensures.value c.entry-item.is) in
     elim c.match-entry.branch [
-      | in-Some+in_ok-reserve w ↦
+      | in-Some+in_ok-push w ↦
           let e = w.in-Some.entry in
-          let kept = w.reserve.new.self in
+          let kept = c.loop-entry.places in
           let more : filter is_some (take (i + 1) es) ≡ done ++ Some e ∷ [] = next ∙ ap (λ x. done ++ (if is_some x then x ∷ [] else [])) w.in-Some.is in
           record {
             counted = w.count-is ∙ ap (λ n. n + 1) inv.counted ∙ sym (ap length more ∙ length_push done (Some e));
             within = omega (arith, w.count-is, inv.within);
             indexed = λ k.
                 ap (λ p. places_at p k) w.places-is
-                ∙ places-more k done e (w.in_ok-reserve.ensures.places k ∙ inv.indexed k)
-                (w.push.ensures k ∙ ap (λ n. if nat_eq e.node k then places_at kept k ++ n ∷ [] else places_at kept k) inv.counted)
+                ∙ places-more k done e (inv.indexed k)
+                (w.in_ok-push.ensures.ok k ∙ ap (λ n. if nat_eq e.node k then places_at kept k ++ n ∷ [] else places_at kept k) inv.counted)
                 ∙ ap (places_from k 0) (sym more);
           }
       | in_default w ↦

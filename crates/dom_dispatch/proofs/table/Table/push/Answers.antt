@@ -9,9 +9,9 @@ returns-clause-indexed c = λ k.
     let room = c.make_room.new.self in
     let es = room.entries.items in
     let place : c.len.result ≡ length es = omega (arith, c.len.ensures, room.entries.ok) in
-    let kept = c.reserve.new.self in
-    places-more k es entry (c.reserve.ensures.places k ∙ c.make_room.ensures.indexed k)
-    (c.push.ensures k ∙ ap (λ j. if nat_eq entry.node k then places_at kept k ++ j ∷ [] else places_at kept k) place)
+    let kept = room.places in
+    places-more k es entry (c.make_room.ensures.indexed k)
+    (c.in_ok-push.ensures.ok k ∙ ap (λ j. if nat_eq entry.node k then places_at kept k ++ j ∷ [] else places_at kept k) place)
     ∙ ap (places_from k 0) (sym c.push_reserved.ensures.items)
 
 pub returns-clause-ok : goal.returns-clause-ok
