@@ -41,8 +41,8 @@ IsShownOf p s =
 -- the line of a call
 abbrev pub line_in : LogLine → EventLine ℕ
 line_in l = record {
-  label = string_bytes l.listener.value.label;
-  event = string_bytes l.listener.value.event;
+  label = l.listener.value.label.items;
+  event = string_bytes l.listener.value.kind.value.event;
   phase = l.phase;
   target = l.target;
   current = l.current;

@@ -5,6 +5,8 @@ use Rattle.std.specs.List.{AllByRecursion}
 use Rattle.dom_model.specs.Names.{Word, text_eq}
 use Rattle.dom_model.specs.Command.{ListenerWords}
 use Rattle.dom_model.specs.Listeners.{Listener}
+use Rattle.dom_dispatch.specs.declared.kinds.HeldWords.{HeldWords}
+use Rattle.dom_dispatch.specs.declared.kinds.ListenerKind.{ListenerKind}
 use Rattle.dom_dispatch.specs.declared.listeners.Entry.{Entry}
 use Rattle.dom_dispatch.specs.declared.listeners.ListenerInit.{ListenerInit}
 
@@ -12,9 +14,17 @@ use Rattle.dom_dispatch.specs.declared.listeners.ListenerInit.{ListenerInit}
 abbrev pub words_of : ListenerInit → ListenerWords
 words_of i = record { event = string_bytes i.event; label = string_bytes i.label; action = i.action; capture = i.capture; once = i.once; passive = i.passive }
 
+-- those of a listener of a kind, with a label
+abbrev pub with_label : Word → ListenerKind → ListenerWords
+with_label label k = record { event = string_bytes k.event; label = label; action = k.action; capture = k.capture; once = k.once; passive = k.passive }
+
+-- and those that are held
+abbrev pub words_in : HeldWords → ListenerWords
+words_in w = with_label w.label.items w.kind.value
+
 -- a listener
 abbrev pub listener_of : Entry → Listener ℕ
-listener_of e = record { node = e.node; words = words_of e.words.value }
+listener_of e = record { node = e.node; words = words_in e.words.value }
 
 -- the listeners, in the order of adding
 abbrev pub listeners_in : List Entry → List (Listener ℕ)

@@ -237,16 +237,13 @@ impl Listeners {
             return Ok(());
         }
         let Entry { node, words } = listener;
-        if words.once {
-            self.unlisten(
-                node,
-                words.event.as_str(),
-                words.label.as_str(),
-                words.capture,
-            );
+        let kind = &words.kind;
+        if kind.once {
+            let label = words.label.as_slice();
+            self.take(node, kind.event.as_str(), label, kind.capture);
         }
-        let action = words.action;
-        let cancels = event.cancelable && !words.passive;
+        let action = kind.action;
+        let cancels = event.cancelable && !kind.passive;
         so_far.lines.push(visit.line(words)?)?;
         so_far.act(action, cancels);
         Ok(())

@@ -1,6 +1,6 @@
 //! Events, and what a dispatch tells of them.
 
-use crate::listeners::ListenerInit;
+use crate::kinds::HeldWords;
 use dom_base::Owner;
 use node_arena::Key;
 use smallvec::SmallVec;
@@ -24,7 +24,7 @@ pub struct LogLine {
     /// The owner of the node whose listener it is.
     pub owner: Owner,
     /// The words of the listener, with its label and the event's type.
-    pub listener: Rc<ListenerInit>,
+    pub listener: Rc<HeldWords>,
     /// 1 while capturing, 2 at the target, 3 while bubbling.
     pub phase: u8,
     pub target: Key,

@@ -5,17 +5,18 @@
 mod dispatch;
 mod event;
 mod handed;
+mod kinds;
 mod laws;
 mod listeners;
 mod place_list;
 mod places;
 mod progress;
-mod shared_words;
 mod shown;
 mod table;
 mod types;
 mod visit;
 
 pub use event::{EventInit, LogLine, Outcome};
+pub use kinds::{HeldWords, ListenerKind};
 pub use laws::{law_keys_stand_for_names, law_listeners_stay, law_one_list_serves_all};
 pub use listeners::{ListenerInit, Listeners};

@@ -1,10 +1,11 @@
 //! The listeners of all nodes.
 ghost use Rattle.std.specs.Prelude.{◌≡◌, Bool, nat_eq, true, false, [], string_bytes, IfOk, OnOk, OnErr};
 ghost use Rattle.dom_model.specs.Listeners.{is_listener, with_listener_added, with_listener_removed};
+ghost use Rattle.dom_model.specs.Names.{text_eq};
 ghost use Rattle.std.specs.List.{list_any};
 ghost use Rattle.dom_dispatch.specs.Entries.{words_of, listener_of, hears_at, NoneHears};
 
-use crate::shared_words::SharedWords;
+use crate::kinds::{HeldWords, Kinds};
 use crate::table::Table;
 use crate::types::Types;
 use dom_attributes::is_same_text;
@@ -29,18 +30,19 @@ pub struct ListenerInit {
 #[derive(Drop)]
 pub(crate) struct Entry {
     pub(crate) node: Key,
-    pub(crate) words: Rc<ListenerInit>,
+    pub(crate) words: Rc<HeldWords>,
 }
 
 impl Entry {
     /// Whether this is the listener of a node with this type, label and capture (own rule).
-    pub(crate) fn is(&self, node: Key, event: &str, label: &str, capture: bool) -> bool
+    pub(crate) fn is(&self, node: Key, event: &str, label: &[u8], capture: bool) -> bool
         ensures { result ≡ is_listener nat_eq node event.now label.now capture (listener_of self.now) }
     {
+        let kind = &self.words.kind;
         self.node == node
-            && is_same_text(self.words.event.as_str(), event)
-            && is_same_text(self.words.label.as_str(), label)
-            && self.words.capture == capture
+            && is_same_text(kind.event.as_str(), event)
+            && is_same_label(self.words.label.as_slice(), label)
+            && kind.capture == capture
     }
 
     /// Whether this is a listener of a node that hears events of this type, while they are capturing or while they are not (DOM
@@ -48,9 +50,8 @@ impl Entry {
     pub(crate) fn hears(&self, node: Key, event: &str, capturing: bool) -> bool
         ensures { result ≡ hears_at node event.now capturing (listener_of self.now) }
     {
-        self.node == node
-            && is_same_text(self.words.event.as_str(), event)
-            && self.words.capture == capturing
+        let kind = &self.words.kind;
+        self.node == node && is_same_text(kind.event.as_str(), event) && kind.capture == capturing
     }
 
     /// The same listener again.
@@ -70,7 +71,7 @@ impl Entry {
 pub struct Listeners {
     pub(crate) table: Table,
     types: Types,
-    words: SharedWords,
+    kinds: Kinds,
     pub(crate) alloc: Global,
 }
 
@@ -80,7 +81,7 @@ impl Drop for Listeners {
         let Self {
             table,
             types,
-            words,
+            kinds,
             alloc,
         } = self;
     }
@@ -108,7 +109,7 @@ impl Listeners {
         Listeners {
             table: Table::new(alloc),
             types: Types::new(alloc),
-            words: SharedWords::new(alloc),
+            kinds: Kinds::new(alloc),
             alloc,
         }
     }
@@ -124,7 +125,7 @@ impl Listeners {
         }
         self.types
             .note(self.alloc, words.event.as_str(), words.capture)?;
-        let words = self.words.shared(words)?;
+        let words = self.kinds.hold(words)?;
         self.table.push(Entry { node, words })
     }
 
@@ -149,7 +150,7 @@ impl Listeners {
         let found = self.table.find(
             node,
             words.event.as_str(),
-            words.label.as_str(),
+            words.label.as_bytes(),
             words.capture,
         );
         found.is_some()
@@ -160,8 +161,22 @@ impl Listeners {
     pub fn unlisten(&mut self, node: Key, event: &str, label: &str, capture: bool)
         ensures { self.new ≡ with_listener_removed nat_eq node event.now label.now capture self.old }
     {
+        self.take(node, event, label.as_bytes(), capture);
+    }
+
+    /// Takes the listener of a node with this type, label and capture away, if there is one.
+    pub(crate) fn take(&mut self, node: Key, event: &str, label: &[u8], capture: bool)
+        ensures { self.new ≡ with_listener_removed nat_eq node event.now label.now capture self.old }
+    {
         while let Some(at) = self.table.find(node, event, label, capture) {
             self.table.take(node, at);
         }
     }
+}
+
+/// Whether two labels are the same.
+fn is_same_label(label: &[u8], other: &[u8]) -> bool
+    ensures { result ≡ text_eq label.now other.now }
+{
+    label == other
 }

@@ -44,7 +44,7 @@ impl Table {
 
     /// Which of a node's listeners, in their order, has this type, label and capture, if one has. This looks at the node's listeners
     /// only.
-    pub(crate) fn find(&self, node: Key, event: &str, label: &str, capture: bool) -> Option<usize>
+    pub(crate) fn find(&self, node: Key, event: &str, label: &[u8], capture: bool) -> Option<usize>
         requires indexed { IsIndexed self.now.places self.now.entries.items }
         ensures there { is_some result ≡ list_any (is_listener nat_eq node event.now label.now capture) (listeners_in (present self.now.entries.items)) }
         ensures within { IfSome result (λ at. at < length (places_at self.now.places node)) }
@@ -61,7 +61,7 @@ impl Table {
     }
 
     /// Whether the listener in a place is that of a node with this type, label and capture.
-    fn has_in(&self, place: usize, node: Key, event: &str, label: &str, capture: bool) -> bool
+    fn has_in(&self, place: usize, node: Key, event: &str, label: &[u8], capture: bool) -> bool
         ensures { result ≡ passes_in (is_listener nat_eq node event.now label.now capture) self.now.entries.items place }
     {
         match self.entry(place) {

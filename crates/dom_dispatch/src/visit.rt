@@ -6,11 +6,11 @@ ghost use Rattle.dom_model.specs.Listeners.{line_of};
 ghost use Rattle.dom_model.specs.Paths.{View};
 ghost use Rattle.dom_tree.specs.Forest.{name_of};
 ghost use Rattle.dom_path.specs.Items.{HasNodes};
-ghost use Rattle.dom_dispatch.specs.Entries.{words_of};
+ghost use Rattle.dom_dispatch.specs.Entries.{words_in};
 ghost use Rattle.dom_dispatch.specs.Dispatches.{visit_in, line_in};
 
 use crate::event::LogLine;
-use crate::listeners::ListenerInit;
+use crate::kinds::HeldWords;
 use crate::shown::ShownAt;
 use dom_base::Owner;
 use dom_path::Path;
@@ -71,8 +71,8 @@ impl Visit {
     }
 
     /// The line of the call of a listener with these words.
-    pub(crate) fn line(&self, words: Rc<ListenerInit>) -> Result<LogLine, AllocError>
-        ensures line { IfOk result (λ l. line_in l ≡ line_of (visit_in self.now) (words_of words.value)) }
+    pub(crate) fn line(&self, words: Rc<HeldWords>) -> Result<LogLine, AllocError>
+        ensures line { IfOk result (λ l. line_in l ≡ line_of (visit_in self.now) (words_in words.value)) }
         ensures owner { IfOk result (λ l. l.owner ≡ self.now.owner) }
         ensures path { IfOk result (λ l. l.path.value.items ≡ self.now.path.value.items) }
         ensures path_at { IfOk result (λ l. l.path_at ≡ self.now.path_at) }

@@ -3,7 +3,7 @@ use Rattle.dom_model.proofs.Model.{Listener, is_listener}
 use Rattle.dom_dispatch.specs.Definitions.{listeners_in, present, HasTypes}
 use Rattle.dom_dispatch.proofs.Placing.{none-pass}
 use Rattle.dom_dispatch.proofs.Typed.{filter-typed}
-use Rattle.dom_dispatch.proofs.listeners.Listeners.unlisten.Goals as goal
+use Rattle.dom_dispatch.proofs.listeners.Listeners.take.Goals as goal
 
 pub invariant_of-self : goal.invariant_of-self
 invariant_of-self c =
