@@ -1,18 +1,13 @@
 -- A dispatch with one list of all owners' listeners is the dispatch in the world.
-use Rattle.dom_base.proofs.Std.{◌≡◌, ◌≢◌, Bool, true, false, not, ◌&&◌, List, [], ◌∷◌, filter, fold, map, refl, sym, ap, subst, ◌∙◌, true≢false, nat_eq, beq}
+use Rattle.dom_base.proofs.Std.{◌≡◌, ◌≢◌, true, false, not, ◌&&◌, List, [], ◌∷◌, filter, fold, map, refl, sym, ap, subst, ◌∙◌, true≢false, nat_eq, beq}
+use Rattle.dom_base.proofs.Std.{and_left, and_parts}
 use Rattle.dom_model.proofs.Model.{Owner, NodeName, owner_eq, name_eq, text_eq, EventWords, Listener, Visit, Dispatching, after_invoke, begun, hears}
 use Rattle.dom_model.proofs.Model.{is_listener, world_visit, visits_of, event_output, Part, views, World, part_of, with_part, owner_eq-true, owner_eq-same}
 use Rattle.dom_model.proofs.Model.{ne-owner_eq, part_of-with_part, part_of-with_part-other, owner-part_of}
 use Rattle.dom_worlds.proofs.ListLemmas.{by_cases}
 use Rattle.dom_dispatch.specs.Definitions.{is_of_owner, DispatchedAmong, DispatchedAlong, dispatch_along, dispatch_among, listener_named, dispatching_named}
-use Rattle.dom_dispatch.proofs.Entered.{and-first}
 use Rattle.dom_dispatch.proofs.Naming.{dispatched-named}
 use Rattle.dom_dispatch.proofs.Narrowing.{narrowed, visited-narrow, visited-apart}
-
--- a first test that fails
-and-none : (a b : Bool) → a ≡ false → (a && b) ≡ false
-and-none true b h = absurd (true≢false h)
-and-none false b h = refl
 
 -- The world and the list are as far as one another.
 record IsAsFar (e : EventWords) (from w : World) (d s : Dispatching NodeName) : Type 0 where
@@ -26,8 +21,8 @@ module _ (e : EventWords) (from : World) where
   module _ (v : Visit NodeName) where
     -- who hears is of the visit's owner
     hears-own : (l : Listener NodeName) → hears name_eq e v l ≡ true → is_of_owner v.current.owner l ≡ true
-    hears-own l h = and-first (owner_eq l.node.owner v.current.owner) (nat_eq l.node.number v.current.number)
-        (and-first (name_eq l.node v.current) (text_eq l.words.event e.event && beq l.words.capture v.capturing) h)
+    hears-own l h = (and_parts (owner_eq l.node.owner v.current.owner) (nat_eq l.node.number v.current.number)
+        (and_parts (name_eq l.node v.current) (text_eq l.words.event e.event && beq l.words.capture v.capturing) h).0).0
 
     -- and is none of another owner's
     hears-apart : (o : Owner) → v.current.owner ≢ o → (l m : Listener NodeName) → hears name_eq e v l ≡ true → is_of_owner o m ≡ true →
@@ -35,8 +30,8 @@ module _ (e : EventWords) (from : World) where
     hears-apart o other l m h k =
         let own : l.node.owner ≡ v.current.owner = owner_eq-true l.node.owner v.current.owner (hears-own l h) in
         let its : m.node.owner ≡ o = owner_eq-true m.node.owner o k in
-        and-none (name_eq m.node l.node) (text_eq m.words.event l.words.event && (text_eq m.words.label l.words.label && beq m.words.capture l.words.capture))
-        (and-none (owner_eq m.node.owner l.node.owner) (nat_eq m.node.number l.node.number)
+        and_left (name_eq m.node l.node) (text_eq m.words.event l.words.event && (text_eq m.words.label l.words.label && beq m.words.capture l.words.capture))
+        (and_left (owner_eq m.node.owner l.node.owner) (nat_eq m.node.number l.node.number)
         (ne-owner_eq m.node.owner l.node.owner (λ same. other (sym own ∙ sym same ∙ its))))
 
   -- one visit

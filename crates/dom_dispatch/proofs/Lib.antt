@@ -1,7 +1,6 @@
 pub mod Naming
 pub mod Narrowing
 mod Among
-mod Entered
 mod Visiting
 mod Placing
 mod Staying

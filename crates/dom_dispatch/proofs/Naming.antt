@@ -1,26 +1,21 @@
 -- What is done to listeners by keys is what is done by names.
 use Rattle.dom_base.proofs.Std.{◌≡◌, ℕ, ◌<◌, Bool, true, false, not, ◌&&◌, ◌||◌, List, [], ◌∷◌, ◌++◌, length, map, filter, fold, reverse, option_map, refl, sym}
-use Rattle.dom_base.proofs.Std.{ap, ◌∙◌, nat_eq, if◌then◌else◌, AllByRecursion, list_any, beq, cond-true, cond-false, reverse-append}
+use Rattle.dom_base.proofs.Std.{ap, ◌∙◌, nat_eq, if◌then◌else◌, AllByRecursion, list_any, beq, cond-true, cond-false, map-append, reverse-append}
 use Rattle.dom_model.proofs.Model.{Action, Log, Stop, StopNow, Cancel, NodeName, Word, text_eq, name_eq, EventWords, ListenerWords, Listener, Visit}
 use Rattle.dom_model.proofs.Model.{Dispatching, after_action, may_cancel, line_of, is_listener, with_listener_removed, with_listener_added, kept_after}
 use Rattle.dom_model.proofs.Model.{after_inner_invoke, hears, after_invoke, begun, View, is_at_target, visit_of, visits_of}
-use Rattle.dom_worlds.proofs.ListLemmas.{by_cases, all-reverse}
+use Rattle.dom_worlds.proofs.ListLemmas.{by_cases, all-append, all-filter, all-reverse}
 use Rattle.dom_slots.proofs.Hosted.{key-test}
 use Rattle.dom_tree.specs.Definitions.{name_at, TellApart}
 use Rattle.dom_path.specs.Definitions.{view_named}
-use Rattle.dom_dispatch.proofs.Staying.{all-kept, heard_by, called-at, visited-at}
+use Rattle.dom_dispatch.proofs.Staying.{heard_by, called-at, visited-at}
 use Rattle.dom_dispatch.specs.Definitions.{listener_named, visit_named, line_named, dispatching_named, IsListenerAt, IsViewOf}
-
--- two lists mapped are both mapped
-map-join : {X Y : Type 0} (f : X → Y) (xs ys : List X) → map f (xs ++ ys) ≡ map f xs ++ map f ys
-map-join f [] ys = refl
-map-join f (x ∷ xs) ys = ap (λ zs. f x ∷ zs) (map-join f xs ys)
 
 -- a list mapped from its end
 reverse-mapped : {X Y : Type 0} (f : X → Y) (xs : List X) → map f (reverse xs) ≡ reverse (map f xs)
 reverse-mapped f [] = refl
 reverse-mapped f (x ∷ xs) =
-    ap (map f) (reverse-append (x ∷ []) xs) ∙ map-join f (reverse xs) (x ∷ []) ∙ ap (λ ys. ys ++ f x ∷ []) (reverse-mapped f xs) ∙
+    ap (map f) (reverse-append (x ∷ []) xs) ∙ map-append f (reverse xs) (x ∷ []) ∙ ap (λ ys. ys ++ f x ∷ []) (reverse-mapped f xs) ∙
     sym (reverse-append (f x ∷ []) (map f xs))
 
 -- what is kept of a list, and then mapped, by a test that agrees
@@ -74,7 +69,7 @@ module _ (names : List NodeName) (apart : TellApart names) where
             (if b then ls else ls ++ record { node = x; words = words } ∷ []) ≡
             (if b then map (listener_named names) ls else map (listener_named names) ls ++ record { node = name x; words = words } ∷ [])
         by true = refl
-        by false = map-join (listener_named names) ls (record { node = x; words = words } ∷ [])
+        by false = map-append (listener_named names) ls (record { node = x; words = words } ∷ [])
 
   -- ---- a visit
 
@@ -121,7 +116,7 @@ module _ (names : List NodeName) (apart : TellApart names) where
               stopped = s.stopped;
               stopped_now = s.stopped_now;
               cancelled = s.cancelled;
-              lines = map-join (line_named names) s.lines (line_of v l.words ∷ []) j;
+              lines = map-append (line_named names) s.lines (line_of v l.words ∷ []) j;
             }))
 
     -- the calls of some listeners
@@ -151,7 +146,7 @@ module _ (names : List NodeName) (apart : TellApart names) where
             (filter (hears name_eq e (visit_named names v)) (map (listener_named names) s.listeners)))
         by true = refl
         by false =
-            calls-named v (filter (hears nat_eq e v) s.listeners) s (all-kept (IsListenerAt names) (hears nat_eq e v) s.listeners h) h
+            calls-named v (filter (hears nat_eq e v) s.listeners) s (all-filter (IsListenerAt names) (hears nat_eq e v) s.listeners h) h
             ∙ ap (fold (after_inner_invoke name_eq e (visit_named names v)) (dispatching_named names s)) hear
 
     -- all visits
@@ -193,12 +188,6 @@ module _ (names : List NodeName) (apart : TellApart names) where
     along-at capturing [] h = tt
     along-at capturing (v ∷ vs) h = (h.0.node, along-at capturing vs h.1)
 
-    -- all of both
-    both-at : (xs ys : List (Visit ℕ)) → AllByRecursion (λ v. v.current < length names) xs → AllByRecursion (λ v. v.current < length names) ys →
-        AllByRecursion (λ v. v.current < length names) (xs ++ ys)
-    both-at [] ys g h = h
-    both-at (x ∷ xs) ys g h = (g.0, both-at xs ys g.1 h)
-
     -- the dispatch
     pub dispatched-named : (ls : List (Listener ℕ)) → AllByRecursion (IsListenerAt names) ls → (vs : List (View ℕ)) → AllByRecursion (IsViewOf names) vs
         → dispatching_named names (fold (after_invoke nat_eq e) (begun ls) (visits_of nat_eq e.bubbles vs))
@@ -207,13 +196,13 @@ module _ (names : List NodeName) (apart : TellApart names) where
         let down = reverse vs in
         let up = filter (λ v. e.bubbles || is_at_target nat_eq v) vs in
         let down_views = all-reverse (IsViewOf names) vs g in
-        let up_views = all-kept (IsViewOf names) (λ v. e.bubbles || is_at_target nat_eq v) vs g in
+        let up_views = all-filter (IsViewOf names) (λ v. e.bubbles || is_at_target nat_eq v) vs g in
         let up_named = filter-mapped (view_named names) (IsViewOf names)
         (λ v. e.bubbles || is_at_target name_eq v) (λ v k. ap (λ b. e.bubbles || b) (target-named v k)) vs g in
         visits-named (visits_of nat_eq e.bubbles vs)
-        (both-at (map (visit_of nat_eq true) down) (map (visit_of nat_eq false) up) (along-at true down down_views)
+        (all-append (λ v. v.current < length names) (map (visit_of nat_eq true) down) (map (visit_of nat_eq false) up) (along-at true down down_views)
         (along-at false up up_views)) (begun ls) h
         ∙ ap (fold (after_invoke name_eq e) (begun (map (listener_named names) ls)))
-        (map-join (visit_named names) (map (visit_of nat_eq true) down) (map (visit_of nat_eq false) up)
+        (map-append (visit_named names) (map (visit_of nat_eq true) down) (map (visit_of nat_eq false) up)
         ∙ (λ j. (along-named true down down_views ∙ ap (map (visit_of name_eq true)) (reverse-mapped (view_named names) vs)) j ++
         (along-named false up up_views ∙ ap (map (visit_of name_eq false)) up_named) j))

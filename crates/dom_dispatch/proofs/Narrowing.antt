@@ -3,7 +3,7 @@ use Rattle.dom_base.proofs.Std.{◌≡◌, Bool, true, false, not, List, [], ◌
 use Rattle.dom_base.proofs.Std.{cond-false}
 use Rattle.dom_model.proofs.Model.{Action, Log, Stop, StopNow, Cancel, EventWords, Listener, Visit, Dispatching, after_action, may_cancel, line_of, is_listener}
 use Rattle.dom_model.proofs.Model.{with_listener_removed, kept_after, after_inner_invoke, hears, after_invoke}
-use Rattle.dom_worlds.proofs.ListLemmas.{by_cases, filter-filter}
+use Rattle.dom_worlds.proofs.ListLemmas.{all-passed, by_cases, filter-filter}
 
 module _ {X : Type 0} where
   -- a test that all pass which pass another one
@@ -19,6 +19,13 @@ module _ {X : Type 0} where
       (λ g. ap (filter p) (cond-true (q x) (x ∷ filter q xs) (filter q xs) g) ∙ cond-false (p x) (x ∷ filter p (filter q xs))
       (filter p (filter q xs)) e ∙ rest ∙ sym (cond-false (p x) (x ∷ filter p xs) (filter p xs) e))
       (λ g. ap (filter p) (cond-false (q x) (x ∷ filter q xs) (filter q xs) g) ∙ rest ∙ sym (cond-false (p x) (x ∷ filter p xs) (filter p xs) e)))
+
+-- an action leaves listeners
+pub acted-listeners : {N : Type 0} (a : Action) (cancels : Bool) (s : Dispatching N) → (after_action a cancels s).listeners ≡ s.listeners
+acted-listeners Log cancels s = refl
+acted-listeners Stop cancels s = refl
+acted-listeners StopNow cancels s = refl
+acted-listeners Cancel cancels s = refl
 
 module _ {N : Type 0} (same : N → N → Bool) (e : EventWords) where
   -- a dispatch on its way, with some of its listeners
@@ -90,13 +97,6 @@ module _ {N : Type 0} (same : N → N → Bool) (e : EventWords) where
         by true = filter-wider c (λ m. not (is_listener same l.node l.words.event l.words.label l.words.capture m)) (λ m k. ap not (apart l m h k)) ls
         by false = refl
 
-    -- an action leaves listeners
-    acted-apart : (a : Action) (cancels : Bool) (s : Dispatching N) → (after_action a cancels s).listeners ≡ s.listeners
-    acted-apart Log cancels s = refl
-    acted-apart Stop cancels s = refl
-    acted-apart StopNow cancels s = refl
-    acted-apart Cancel cancels s = refl
-
     -- one call
     called-apart : (s : Dispatching N) (l : Listener N) → hears same e v l ≡ true → filter c (after_inner_invoke same e v s l).listeners ≡ filter c s.listeners
     called-apart s l h = by s.stopped_now
@@ -104,7 +104,7 @@ module _ {N : Type 0} (same : N → N → Bool) (e : EventWords) where
         by : (b : Bool) → filter c (if b then s else after_action l.words.action (may_cancel e l.words)
             (record s { listeners = kept_after same l s.listeners; lines = s.lines ++ line_of v l.words ∷ [] })).listeners ≡ filter c s.listeners
         by true = refl
-        by false = ap (filter c) (acted-apart l.words.action (may_cancel e l.words)
+        by false = ap (filter c) (acted-listeners l.words.action (may_cancel e l.words)
             (record s { listeners = kept_after same l s.listeners; lines = s.lines ++ line_of v l.words ∷ [] })) ∙ kept-apart l h s.listeners
 
     -- the calls of listeners that hear
@@ -113,16 +113,6 @@ module _ {N : Type 0} (same : N → N → Bool) (e : EventWords) where
     calls-apart [] h s = refl
     calls-apart (l ∷ heard) h s = calls-apart heard h.1 (after_inner_invoke same e v s l) ∙ called-apart s l h.0
 
-    -- those that are kept pass
-    passing : (ls : List (Listener N)) → AllByRecursion (λ l. hears same e v l ≡ true) (filter (hears same e v) ls)
-    passing [] = tt
-    passing (l ∷ ls) = by (hears same e v l) refl (passing ls)
-      where
-        by : (b : Bool) → hears same e v l ≡ b → AllByRecursion (λ l. hears same e v l ≡ true) (filter (hears same e v) ls)
-            → AllByRecursion (λ l. hears same e v l ≡ true) (if b then l ∷ filter (hears same e v) ls else filter (hears same e v) ls)
-        by true h rest = (h, rest)
-        by false h rest = rest
-
     -- the visit
     pub visited-apart : (s : Dispatching N) → filter c (after_invoke same e s v).listeners ≡ filter c s.listeners
     visited-apart s = by s.stopped
@@ -130,4 +120,4 @@ module _ {N : Type 0} (same : N → N → Bool) (e : EventWords) where
         by : (b : Bool) → filter c (if b then s else fold (after_inner_invoke same e v) s (filter (hears same e v) s.listeners)).listeners
             ≡ filter c s.listeners
         by true = refl
-        by false = calls-apart (filter (hears same e v) s.listeners) (passing s.listeners) s
+        by false = calls-apart (filter (hears same e v) s.listeners) (all-passed (λ l. hears same e v l ≡ true) (hears same e v) (λ l h. h) s.listeners) s

@@ -4,12 +4,11 @@ use Rattle.dom_base.proofs.Std.{suc, refl, sym, ap, subst, ◌∙◌, arith, app
 use Rattle.dom_base.proofs.Std.{slice_index_or, slice_set, remove, if◌then◌else◌, list_any, cons_option, option_flatten, option_map_or, or-false, or-true}
 use Rattle.dom_base.proofs.Std.{set-append_seam, cond-true, cond-false, eqb-true, map-append, length_push, take_more, list_any-append, slice_get_within}
 use Rattle.dom_base.proofs.Std.{slice_get-get_or, get_or_from_slice_get, filter_map-append, filter-append, filter_more, any-filter_same}
-use Rattle.dom_worlds.proofs.ListLemmas.{by_cases}
+use Rattle.dom_worlds.proofs.ListLemmas.{by_cases, filter-map}
 use Rattle.dom_model.proofs.Model.{Listener}
 use Rattle.dom_dispatch.specs.declared.listeners.Entry.{Entry}
 use Rattle.dom_dispatch.specs.Definitions.{listener_of, listeners_in, present, entry_at, is_of_node, places_at, places_from, passes_in, IsIndexed}
 use Rattle.dom_dispatch.specs.declared.places.Places.{Places}
-use Rattle.dom_dispatch.proofs.Entered.{kept-mapped}
 use Rattle.dom_dispatch.proofs.Narrowing.{filter-wider}
 
 -- what stands behind others
@@ -121,7 +120,7 @@ module _ (k : ℕ) where
 
   -- what is in them: the node's entries
   pub picked-own : (es : List (Option Entry)) → listeners_in (picked es (places_from k 0 es)) ≡ filter (λ l. nat_eq l.node k) (listeners_in (present es))
-  picked-own es = ap listeners_in (picked-behind [] es) ∙ kept-mapped (λ l. nat_eq l.node k) listener_of (present es)
+  picked-own es = ap listeners_in (picked-behind [] es) ∙ sym (filter-map (λ l. nat_eq l.node k) listener_of (present es))
 
   module _ (p : Listener ℕ → Bool) (narrow : (l : Listener ℕ) → p l ≡ true → nat_eq l.node k ≡ true) (es : List (Option Entry)) where
     -- a test that only the node's pass

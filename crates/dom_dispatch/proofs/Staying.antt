@@ -1,25 +1,11 @@
 -- Listeners stay at nodes.
-use Rattle.dom_base.proofs.Std.{◌≡◌, ℕ, Bool, true, false, not, List, [], ◌∷◌, ◌++◌, filter, fold, refl, sym, subst, arith, nat_eq, if◌then◌else◌}
-use Rattle.dom_base.proofs.Std.{AllByRecursion, list_any, length-append}
-use Rattle.dom_model.proofs.Model.{Action, Log, Stop, StopNow, Cancel, NodeName, EventWords, visits_of, Listener, Visit, Dispatching, after_action, may_cancel}
+use Rattle.dom_base.proofs.Std.{ℕ, Bool, true, false, not, List, [], ◌∷◌, ◌++◌, filter, fold, sym, subst, arith, nat_eq, if◌then◌else◌}
+use Rattle.dom_base.proofs.Std.{list_any, length-append}
+use Rattle.dom_model.proofs.Model.{NodeName, EventWords, visits_of, Listener, Visit, Dispatching, after_action, may_cancel}
 use Rattle.dom_model.proofs.Model.{line_of, is_listener, with_listener_removed, kept_after, after_inner_invoke, hears, after_invoke, begun}
+use Rattle.dom_worlds.proofs.ListLemmas.{all-filter}
+use Rattle.dom_dispatch.proofs.Narrowing.{acted-listeners}
 use Rattle.dom_dispatch.specs.Definitions.{IsListenerAt, AreAtNodes, NoneStay, MoreStay, ListenedStay, UnlistenedStay, DispatchedStay}
-
--- what holds of all holds of those that are kept
-pub all-kept : {X : Type 0} (P : X → Type 0) (p : X → Bool) (xs : List X) → AllByRecursion P xs → AllByRecursion P (filter p xs)
-all-kept P p [] h = tt
-all-kept P p (x ∷ xs) h = by (p x) (all-kept P p xs h.1)
-  where
-    by : (b : Bool) → AllByRecursion P (filter p xs) → AllByRecursion P (if b then x ∷ filter p xs else filter p xs)
-    by true rest = (h.0, rest)
-    by false rest = rest
-
--- an action leaves the listeners
-acted-listeners : (a : Action) (cancels : Bool) (s : Dispatching ℕ) → (after_action a cancels s).listeners ≡ s.listeners
-acted-listeners Log cancels s = refl
-acted-listeners Stop cancels s = refl
-acted-listeners StopNow cancels s = refl
-acted-listeners Cancel cancels s = refl
 
 -- the state in which a listener acts
 abbrev pub heard_by : Visit ℕ → Dispatching ℕ → Listener ℕ → Dispatching ℕ
@@ -31,7 +17,7 @@ module _ (names : List NodeName) where
   kept-at l ls h = by l.words.once
     where
       by : (b : Bool) → AreAtNodes names (if b then with_listener_removed nat_eq l.node l.words.event l.words.label l.words.capture ls else ls)
-      by true = all-kept (IsListenerAt names) (λ m. not (is_listener nat_eq l.node l.words.event l.words.label l.words.capture m)) ls h
+      by true = all-filter (IsListenerAt names) (λ m. not (is_listener nat_eq l.node l.words.event l.words.label l.words.capture m)) ls h
       by false = h
 
   module _ (e : EventWords) where
@@ -84,7 +70,7 @@ listened-stay names ls h x at words = by (list_any (is_listener nat_eq x words.e
     by false = behind ls h
 
 pub unlistened-stay : UnlistenedStay
-unlistened-stay names ls h x event label capture = all-kept (IsListenerAt names) (λ l. not (is_listener nat_eq x event label capture l)) ls h
+unlistened-stay names ls h x event label capture = all-filter (IsListenerAt names) (λ l. not (is_listener nat_eq x event label capture l)) ls h
 
 pub dispatched-stay : DispatchedStay
 dispatched-stay f hosts before after target related e outcome h is =

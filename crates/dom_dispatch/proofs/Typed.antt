@@ -1,8 +1,9 @@
 -- The types for which there are listeners.
-use Rattle.dom_base.proofs.Std.{◌≡◌, ℕ, Bool, true, false, ◌&&◌, cond, List, [], ◌∷◌, ◌++◌, filter, Result, Ok, Err, refl, sym, ap, subst, ◌∙◌, true≢false}
+use Rattle.dom_base.proofs.Std.{◌≡◌, ℕ, Bool, true, false, ◌&&◌, cond, List, [], ◌∷◌, ◌++◌, Result, Ok, Err, refl, sym, ap, subst, ◌∙◌, true≢false}
 use Rattle.dom_base.proofs.Std.{OnOk, OnErr, if◌then◌else◌, beq, bytes_eq-Decides}
 use Rattle.dom_attributes.proofs.Attributes.{text_test}
 use Rattle.dom_model.proofs.Model.{Listener, Word, text_eq}
+use Rattle.dom_worlds.proofs.ListLemmas.{all-then}
 use Rattle.dom_dispatch.specs.declared.listeners.Entry.{Entry}
 use Rattle.dom_dispatch.specs.declared.types.Types.{Types}
 use Rattle.dom_dispatch.specs.Definitions.{listener_of, listeners_in, NoneHears, is_noted, HasTypes}
@@ -27,15 +28,6 @@ module _ (types : Types) where
     none-typed ls event capturing typed.1 none,
   )
 
-  -- fewer listeners have them too
-  pub filter-typed : (p : Listener ℕ → Bool) (ls : List (Listener ℕ)) → HasTypes types ls → HasTypes types (filter p ls)
-  filter-typed p [] typed = typed
-  filter-typed p (l ∷ ls) typed = by (p l) (filter-typed p ls typed.1)
-    where
-      by : (b : Bool) → HasTypes types (filter p ls) → HasTypes types (if b then l ∷ filter p ls else filter p ls)
-      by true rest = (typed.0, rest)
-      by false rest = rest
-
   -- and one more, if it is for one of them
   behind-typed : (es : List Entry) (e : Entry) → HasTypes types (listeners_in es) →
       is_noted types (listener_of e).words.capture (listener_of e).words.event ≡ true → HasTypes types (listeners_in (es ++ e ∷ []))
@@ -52,8 +44,8 @@ module _ (types : Types) where
 -- more types
 pub more-typed : (old new : Types) → ((either : Bool) (text : Word) → is_noted old either text ≡ true → is_noted new either text ≡ true) →
     (ls : List (Listener ℕ)) → HasTypes old ls → HasTypes new ls
-more-typed old new kept [] typed = tt
-more-typed old new kept (l ∷ ls) typed = (kept l.words.capture l.words.event typed.0, more-typed old new kept ls typed.1)
+more-typed old new kept = all-then (λ (l : Listener ℕ). is_noted old l.words.capture l.words.event ≡ true)
+    (λ (l : Listener ℕ). is_noted new l.words.capture l.words.event ≡ true) (λ l. kept l.words.capture l.words.event)
 
 -- one more type leaves the others
 pub type-kept : (same was now : Bool) → now ≡ cond same true was → was ≡ true → now ≡ true

@@ -10,9 +10,10 @@ use Rattle.dom_slots.specs.Definitions.{ShadowHost}
 use Rattle.dom_path.specs.declared.item.Item.{Item}
 use Rattle.dom_path.specs.declared.trees.Tree.{Tree}
 use Rattle.dom_path.specs.Definitions.{ShowsNodes, view_in}
+use Rattle.dom_worlds.proofs.ListLemmas.{all-then}
 use Rattle.dom_dispatch.specs.declared.event.LogLine.{LogLine}
 use Rattle.dom_dispatch.specs.declared.event.Outcome.{Outcome}
-use Rattle.dom_dispatch.specs.Definitions.{HasPathOf, IsDispatched, IsDispatchedIn, IsLineAlong, IsOwnLine, NoneHears, is_of_owner, listener_named, line_named}
+use Rattle.dom_dispatch.specs.Definitions.{IsDispatched, IsDispatchedIn, NoneHears, is_of_owner, listener_named, line_named}
 use Rattle.dom_dispatch.specs.Definitions.{IsListenerAt, IsViewOf, line_in}
 use Rattle.dom_dispatch.proofs.Among.{dispatched-among, dispatched-along}
 
@@ -128,29 +129,14 @@ module _ (trees : List Tree) (items : List Item) (vs : List (View ℕ)) (shown :
       let x = there items i h in
       (view_in trees items x.0, ap (λ xs. slice_get xs i) shown ∙ slice_get-map (view_in trees items) items i ∙ ap (option_map (view_in trees items)) x.1)
 
-module _ (names : List NodeName) (paths : ℕ → List ℕ) where
-  -- lines along a path are their nodes' owners'
-  pub own-lines : (ls : List LogLine) → AllByRecursion (IsLineAlong names paths) ls → AllByRecursion (IsOwnLine names) ls
-  own-lines [] h = tt
-  own-lines (l ∷ ls) h = (h.0.0, own-lines ls h.1)
-
-  -- and have the paths of their numbers
-  pub numbered-lines : (ls : List LogLine) → AllByRecursion (IsLineAlong names paths) ls → AllByRecursion (HasPathOf paths) ls
-  numbered-lines [] h = tt
-  numbered-lines (l ∷ ls) h = (h.0.1, numbered-lines ls h.1)
-
--- what is shown are nodes
-views-of : (names : List NodeName) (vs : List (View ℕ)) → AllByRecursion (ShowsNodes names) vs → AllByRecursion (IsViewOf names) vs
-views-of names [] h = tt
-views-of names (v ∷ vs) h = (record { node = h.0.node; target = h.0.target }, views-of names vs h.1)
-
 -- a dispatch by keys is the dispatch in each world
 pub dispatched-in : {f : NamedTrees} {hosts : List ShadowHost} → TellApart f.names →
     {before after : List (Listener ℕ)} {target : ℕ} {related : Option ℕ} {e : EventWords} {outcome : Outcome}
     → IsDispatched f hosts before after target related e outcome → AllByRecursion (IsListenerAt f.names) before →
     IsDispatchedIn f hosts before after target related e outcome
 dispatched-in {f} apart {before} {target} {related} {e} d at w is has =
-    let far = dispatched-along f.names apart before at d.shown (views-of f.names d.shown d.nodes) w has (name_at f.names target)
+    let far = dispatched-along f.names apart before at d.shown (all-then (ShowsNodes f.names) (IsViewOf f.names)
+    (λ v h. record { node = h.node; target = h.target }) d.shown d.nodes) w has (name_at f.names target)
     (option_map (name_at f.names) related) e (d.path w is) in (
       λ o. far.0 o ∙ ap (λ (ls : List (Listener ℕ)). record (part_of w o)
           { listeners = filter (is_of_owner o) (map (listener_named f.names) ls) }) (sym d.listeners),

@@ -1,5 +1,5 @@
 -- How a table holds its entries: each in a place, and for each node the places of its entries.
-use Rattle.std.specs.Prelude.{◌≡◌, ℕ, ◌+◌, nat_eq, Bool, true, false, List, [], ◌∷◌, filter_map, slice_get, Option, if◌then◌else◌}
+use Rattle.std.specs.Prelude.{◌≡◌, ℕ, ◌+◌, nat_eq, Bool, true, false, ◌&&◌, List, [], ◌∷◌, filter_map, slice_get, Option, if◌then◌else◌}
 use Rattle.std.specs.HashSet.{contains_text}
 use Rattle.std.specs.List.{AllByRecursion}
 use Rattle.std.specs.Option.{option_flatten, option_map_or}
@@ -53,7 +53,7 @@ IsIndexed p es = (k : ℕ) → places_at p k ≡ places_from k 0 es
 
 -- whether a type is among those of capturing listeners, or among those of the others
 abbrev pub is_noted : Types → Bool → Word → Bool
-is_noted types capturing event = if capturing then contains_text types.capturing event else contains_text types.others event
+is_noted types capturing event = if capturing then types.any_capturing && contains_text types.capturing event else contains_text types.others event
 
 -- the type of each listener is among these, for capturing ones or for the others
 abbrev pub HasTypes : Types → List (Listener ℕ) → Type 0

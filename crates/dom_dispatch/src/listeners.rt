@@ -140,7 +140,7 @@ impl Listeners {
     pub(crate) fn is_unheard(&self, event: &str) -> bool
         ensures { result ≡ true → (capturing : Bool) → NoneHears event.now capturing self.now }
     {
-        !self.may_hear(event, true) && !self.may_hear(event, false)
+        !self.may_hear(event, false) && !self.may_hear(event, true)
     }
 
     /// Whether a node has a listener with the type, the label and the capture of these words.

@@ -7,9 +7,10 @@ use std::alloc::{AllocError, Global};
 use std::collections::HashSet;
 
 /// The types of events for which there was a listener: those of capturing listeners, and those of the others. A type stays when its
-/// listeners go.
+/// listeners go. Where there was no capturing listener at all, no text is hashed to know it.
 #[derive(Drop)]
 pub(crate) struct Types {
+    any_capturing: bool,
     capturing: HashSet<String>,
     others: HashSet<String>,
 }
@@ -18,6 +19,7 @@ impl Types {
     /// No types. Takes no memory yet.
     pub(crate) fn new(alloc: Global) -> Self {
         Types {
+            any_capturing: false,
             capturing: HashSet::new(alloc),
             others: HashSet::new(alloc),
         }
@@ -28,7 +30,7 @@ impl Types {
         ensures { result ≡ is_noted self.now capturing event.now }
     {
         if capturing {
-            self.capturing.contains(event)
+            self.any_capturing && self.capturing.contains(event)
         } else {
             self.others.contains(event)
         }
@@ -45,7 +47,9 @@ impl Types {
         ensures noted { OnOk result (is_noted self.new capturing event.now ≡ true) }
     {
         if capturing {
-            note(alloc, &mut self.capturing, event)
+            note(alloc, &mut self.capturing, event)?;
+            self.any_capturing = true;
+            Ok(())
         } else {
             note(alloc, &mut self.others, event)
         }

@@ -1,7 +1,8 @@
 use Rattle.dom_base.proofs.Std.{◌≡◌, ℕ, ◌||◌, true, false, not, nat_eq, map, filter, fold, reverse, ap, subst, sym, ◌∙◌, AllByRecursion, fold-append}
 use Rattle.dom_model.proofs.Model.{visit_of, is_at_target, Dispatching, after_invoke, begun}
-use Rattle.dom_dispatch.specs.Definitions.{event_words, dispatching_in, IsLineAlong, paths_of, dispatch_along}
-use Rattle.dom_dispatch.proofs.Visiting.{dispatched-in, own-lines, numbered-lines}
+use Rattle.dom_dispatch.specs.Definitions.{event_words, dispatching_in, HasPathOf, IsLineAlong, IsOwnLine, paths_of, dispatch_along}
+use Rattle.dom_worlds.proofs.ListLemmas.{all-then}
+use Rattle.dom_dispatch.proofs.Visiting.{dispatched-in}
 use Rattle.dom_dispatch.proofs.listeners.Listeners.dispatch.Goals as goal
 
 pub capture-requires-clause-lines : goal.capture-requires-clause-lines
@@ -38,10 +39,13 @@ returns-clause-names c =
     dispatched-in c.law_nodes_stand_once.ensures.distinct (returns-clause-keys c)
 
 pub returns-clause-owners : goal.returns-clause-owners
-returns-clause-owners c = own-lines c.args.forest.now.names (paths_of c.in_ok-path.path) _ c.in_ok-bubble.ensures.lines
+returns-clause-owners c =
+    let names = c.args.forest.now.names in
+    all-then (IsLineAlong names (paths_of c.in_ok-path.path)) (IsOwnLine names) (λ l h. h.0) _ c.in_ok-bubble.ensures.lines
 
 pub returns-clause-numbered : goal.returns-clause-numbered
 returns-clause-numbered c = record {
   paths = paths_of c.in_ok-path.path;
-  each = numbered-lines c.args.forest.now.names (paths_of c.in_ok-path.path) _ c.in_ok-bubble.ensures.lines;
+  each = all-then (IsLineAlong c.args.forest.now.names (paths_of c.in_ok-path.path)) (HasPathOf (paths_of c.in_ok-path.path)) (λ l h. h.1) _
+      c.in_ok-bubble.ensures.lines;
 }

@@ -1,9 +1,8 @@
 use Rattle.dom_base.proofs.Std.{◌≡◌, ℕ, ◌&&◌, Bool, true, nat_eq, [], ◌∷◌, ◌++◌, take, filter, Option, Some, false, ap, sym, ◌∙◌, arith, slice_get}
-use Rattle.dom_base.proofs.Std.{slice_index_or, beq, option_map_or, map-append, take_all, slice_get-get_or}
+use Rattle.dom_base.proofs.Std.{slice_index_or, and_parts, beq, option_map_or, map-append, take_all, slice_get-get_or}
 use Rattle.dom_model.proofs.Model.{Listener, text_eq}
 use Rattle.dom_dispatch.specs.declared.listeners.Entry.{Entry}
 use Rattle.dom_dispatch.specs.Definitions.{listener_of, listeners_in, hears_at, places_from}
-use Rattle.dom_dispatch.proofs.Entered.{and-first}
 use Rattle.dom_dispatch.proofs.Placing.{picked, picked-kept, kept-next, kept-same}
 use Rattle.dom_dispatch.proofs.listeners.Listeners.heard.Goals as goal
 use Rattle.dom_dispatch.proofs.listeners.Listeners.heard.Goals.{in-Some+then-hears+in_ok-copied+in_ok-push_back, in-Some+else-hears, in_default}
@@ -42,7 +41,7 @@ returns c =
     let p : Listener ℕ → Bool = hears_at c.args.node c.args.event.now c.args.capturing in
     let places = c.of-places.result.now in
     let narrow : (l : Listener ℕ) → p l ≡ true → nat_eq l.node c.args.node ≡ true =
-    λ l h. and-first (nat_eq l.node c.args.node) (text_eq l.words.event c.args.event.now && beq l.words.capture c.args.capturing) h in
+    λ l h. (and_parts (nat_eq l.node c.args.node) (text_eq l.words.event c.args.event.now && beq l.words.capture c.args.capturing) h).0 in
     let all : take c.loop-place.place-index places ≡ places_from c.args.node 0 es =
     take_all c.loop-place.place-index places (omega (arith, c.loop-place-test.false)) ∙ c.of-places.ensures ∙ c.self.invariant.indexed c.args.node in
     c.loop-place.invariant

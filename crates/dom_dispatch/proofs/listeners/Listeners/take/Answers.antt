@@ -1,20 +1,21 @@
-use Rattle.dom_base.proofs.Std.{◌≡◌, ℕ, Bool, nat_eq, not, filter, subst, sym, ◌∙◌}
+use Rattle.dom_base.proofs.Std.{◌≡◌, ℕ, Bool, true, nat_eq, not, filter, subst, sym, ◌∙◌}
 use Rattle.dom_model.proofs.Model.{Listener, is_listener}
-use Rattle.dom_dispatch.specs.Definitions.{listeners_in, present, HasTypes}
+use Rattle.dom_dispatch.specs.Definitions.{listeners_in, present, is_noted, HasTypes}
 use Rattle.dom_dispatch.proofs.Placing.{none-pass}
-use Rattle.dom_dispatch.proofs.Typed.{filter-typed}
+use Rattle.dom_worlds.proofs.ListLemmas.{all-filter}
 use Rattle.dom_dispatch.proofs.listeners.Listeners.take.Goals as goal
 
 pub invariant_of-self : goal.invariant_of-self
 invariant_of-self c =
     let p : Listener ℕ → Bool = is_listener nat_eq c.args.node c.args.event.now c.args.label.now c.args.capture in
+    let types = c.loop-at.self-inside.types in
     let now = listeners_in (present c.loop-at.self-inside.table.entries.items) in
     let is : now ≡ filter (λ l. not (p l)) c.args.self.now =
     sym (none-pass p now (sym c.in_default.ensures.there)) ∙ c.loop-at.invariant.others in
     record {
       indexed = c.loop-at.invariant.indexed;
-      typed = subst (HasTypes c.loop-at.self-inside.types) (sym is)
-          (filter-typed c.loop-at.self-inside.types (λ l. not (p l)) c.args.self.now c.loop-at.invariant.typed);
+      typed = subst (HasTypes types) (sym is) (all-filter (λ (l : Listener ℕ). is_noted types l.words.capture l.words.event ≡ true) (λ l. not (p l))
+          c.args.self.now c.loop-at.invariant.typed);
     }
 
 pub returns : goal.returns

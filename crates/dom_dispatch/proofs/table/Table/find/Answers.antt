@@ -1,8 +1,7 @@
 use Rattle.dom_base.proofs.Std.{◌≡◌, ℕ, ◌&&◌, Bool, true, false, nat_eq, take, sym, ap, ◌∙◌, arith, slice_index_or, beq, list_any, option_map_or, take_all}
-use Rattle.dom_base.proofs.Std.{slice_get-get_or}
+use Rattle.dom_base.proofs.Std.{slice_get-get_or, and_parts}
 use Rattle.dom_model.proofs.Model.{Listener, is_listener, text_eq}
 use Rattle.dom_dispatch.specs.Definitions.{listeners_in, places_from, passes_in, holds_at}
-use Rattle.dom_dispatch.proofs.Entered.{and-first}
 use Rattle.dom_dispatch.proofs.Placing.{picked, picked-any, none-next, passes-any}
 use Rattle.dom_dispatch.proofs.table.Table.find.Goals as goal
 
@@ -31,8 +30,8 @@ returns-clause-there c =
     let p : Listener ℕ → Bool = is_listener nat_eq c.args.node c.args.event.now c.args.label.now c.args.capture in
     let es = c.args.self.now.entries.items in
     let narrow : (l : Listener ℕ) → p l ≡ true → nat_eq l.node c.args.node ≡ true =
-    λ l h. and-first (nat_eq l.node c.args.node)
-    (text_eq l.words.event c.args.event.now && (text_eq l.words.label c.args.label.now && beq l.words.capture c.args.capture)) h in
+    λ l h. (and_parts (nat_eq l.node c.args.node)
+    (text_eq l.words.event c.args.event.now && (text_eq l.words.label c.args.label.now && beq l.words.capture c.args.capture)) h).0 in
     let all : take c.loop-at.at c.of-places.result.now ≡ places_from c.args.node 0 es =
     take_all c.loop-at.at c.of-places.result.now (omega (arith, c.loop-at-test.false)) ∙ c.of-places.ensures ∙
     c.requires.indexed c.args.node in
