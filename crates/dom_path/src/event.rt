@@ -21,8 +21,10 @@ use crate::trees::Trees;
 use dom_slots::Slots;
 use dom_tree::Forest;
 use node_arena::Key;
-use smallvec::SmallVec;
 use std::alloc::{AllocError, Global};
+
+/// For how many items a path has room as it begins.
+const SHORT: usize = 16;
 
 /// The places of an event's target and of its related node, and whether it is composed.
 #[derive(Drop)]
@@ -41,7 +43,7 @@ pub(crate) fn items_of(
     target: Key,
     related: Option<Key>,
     composed: bool,
-) -> Result<SmallVec<Item, 16>, AllocError>
+) -> Result<Vec<Item>, AllocError>
     requires target_is_node { IsNode forest.now target }
     requires related_is_node { ForSome related (IsNode forest.now) }
     requires trees { AreTrees forest.now slots.now.hosts trees.old }
@@ -65,21 +67,21 @@ pub(crate) fn items_of(
         composed,
     };
     if event.is_silent(trees) {
-        return Ok(SmallVec::new(alloc));
+        return Ok(Vec::new(alloc));
     }
     event.items(alloc, trees, forest, slots)
 }
 
 impl Event {
     /// The items of the path: of the target, and then each event parent's, up to where the path ends (DOM Standard, concept:
-    /// dispatch). One look for a slot a node, and no walk up to a root. Up to 16 items take no memory.
+    /// dispatch). One look for a slot a node, and no walk up to a root. Up to 16 items take memory once.
     fn items(
         &self,
         alloc: Global,
         trees: &mut Trees,
         forest: &Forest,
         slots: &Slots,
-    ) -> Result<SmallVec<Item, 16>, AllocError>
+    ) -> Result<Vec<Item>, AllocError>
         requires trees { AreTrees forest.now slots.now.hosts trees.old }
         requires event { IsEvent forest.now slots.now.hosts trees.old self.now.target self.now.related }
         requires slots { AreSlotsOf forest.now slots.now }
@@ -94,7 +96,7 @@ impl Event {
             self.now.composed (map (item_named forest.now.names) items.items)) }
     {
         forest.law_nodes_stand_once();
-        let mut items = SmallVec::new(alloc);
+        let mut items = Vec::with_capacity(alloc, SHORT)?;
         let mut next = Some(self.target);
         while let Some(at) = next {
             // The loop ends since the number of items is a `usize`.

@@ -1,8 +1,8 @@
 //! The items of an event path.
 use node_arena::Key;
 
-/// An item of an event path (DOM Standard, 2.2: path: its struct). The default only fills the unused places of a path.
-#[derive(Clone, Copy, Default)]
+/// An item of an event path (DOM Standard, 2.2: path: its struct).
+#[derive(Clone, Copy)]
 pub struct Item {
     /// The invocation target.
     pub node: Key,

@@ -22,10 +22,10 @@ use smallvec::SmallVec;
 use std::alloc::{AllocError, Global};
 use std::marker::Model;
 
-/// The path of an event: its nodes in the order of bubbling, with what the event shows at each. Up to 16 of them take no memory.
+/// The path of an event: its nodes in the order of bubbling, with what the event shows at each.
 #[derive(Drop)]
 pub struct Path {
-    items: SmallVec<Item, 16>,
+    items: Vec<Item>,
     trees: Trees,
     alloc: Global,
 }

@@ -1,5 +1,4 @@
-use Rattle.dom_base.proofs.Std.{ℕ, List, Option, sym, ap, subst, option_map, map, IfOk}
-use Rattle.smallvec.specs.SmallVec.{SmallVec}
+use Rattle.dom_base.proofs.Std.{ℕ, List, Option, sym, ap, subst, option_map, map, Global, IfOk, Vec}
 use Rattle.dom_model.proofs.Model.{NodeName}
 use Rattle.dom_tree.specs.Definitions.{name_at}
 use Rattle.dom_slots.specs.Definitions.{shadows}
@@ -38,11 +37,11 @@ returns-clause-path c =
     let trees = c.of_any.new.trees in
     let t = ap (name_at f.names) c.in_ok-target.ensures.node in
     let r = related-key f.names related c.args.related c.in_ok-related.ensures.node in
-    ok-other (λ (items : SmallVec Item). (depth : ℕ) → IsHosted f hosts depth →
+    ok-other (λ (items : Vec Item Global). (depth : ℕ) → IsHosted f hosts depth →
     IsWay f hosts (name_at f.names target.node) (related_name f.names related) depth c.args.composed items.items)
-    (λ (items : SmallVec Item). (depth : ℕ) → IsHosted f hosts depth →
+    (λ (items : Vec Item Global). (depth : ℕ) → IsHosted f hosts depth →
     IsBuilt f hosts (name_at f.names c.args.target) (option_map (name_at f.names) c.args.related) depth c.args.composed items.items)
-    (λ (items : SmallVec Item) way depth hosted.
+    (λ (items : Vec Item Global) way depth hosted.
     let shown = silent-keys f hosts c.law_nodes_stand_once.ensures.distinct trees c.in_ok-related.ensures.trees depth hosted
     (stand-kept f hosts c.of.new.trees trees target c.in_ok-related.ensures.grown c.in_ok-target.ensures.stands)
     c.in_ok-related.ensures.stands c.in_ok-target.ensures.node c.in_ok-related.ensures.node c.if-is_silent.ensures in

@@ -23,7 +23,7 @@ loop-next-preserved c =
     (so_far.place x refl)) in
     record {
       track = track-more f hosts t r e.composed trees new items x c.item.result c.push.new.self.items c.in_ok-next.next so_far
-          c.in_ok-next.ensures.grown c.in_ok-push.ensures.ok
+          c.in_ok-next.ensures.grown c.in_ok-push.ensures.items
           (record { item = item; node = ap (λ (i : Item). i.node) c.item.ensures; entered = ap (λ (i : Item). i.slot_in_closed) c.item.ensures })
           c.in_ok-next.ensures.stands c.in_ok-next.ensures.value (λ y is. (c.in_ok-next.ensures.up y is, c.in_ok-next.ensures.entered y is));
       are = c.in_ok-next.ensures.trees;
