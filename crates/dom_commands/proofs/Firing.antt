@@ -8,7 +8,7 @@ use Rattle.dom_slots.specs.Definitions.{ShadowHost, ShadowTrees, shadows, IsShow
 use Rattle.dom_mutation.specs.Definitions.{DocState}
 use Rattle.dom_path.specs.Definitions.{IsWorldOf}
 use Rattle.dom_dispatch.specs.declared.event.Outcome.{Outcome}
-use Rattle.dom_dispatch.specs.Definitions.{IsDispatched, IsDispatchedIn, IsListenerAt}
+use Rattle.dom_dispatch.specs.Definitions.{IsDispatchedAlong, IsDispatchedIn, IsListenerAt}
 use Rattle.dom_commands.specs.WithListeners.{heard, own_listeners}
 use Rattle.dom_commands.specs.Machine.{MachineNow, machine_now, IsAtRest, line_shown}
 use Rattle.dom_commands.proofs.Dispatching.{dispatched-heard}
@@ -32,7 +32,7 @@ module _ (f : NamedTrees) (hosts : List ShadowHost) (ls now : List (Listener ℕ
     (at : AllByRecursion (IsListenerAt f.names) ls)
     (shown : IsShownBy (shadows f hosts) w) (reached : IsReached false (heard (own_listeners f.names ls) w))
     (whole : IsWhole (heard (own_listeners f.names ls) w))
-    (target : ℕ) (related : Option ℕ) (e : EventWords) (outcome : Outcome) (keys : IsDispatched f hosts ls now target related e outcome) where
+    (target : ℕ) (related : Option ℕ) (e : EventWords) (outcome : Outcome) (keys : IsDispatchedAlong f.names ls now e outcome) where
   -- listeners stay at nodes
   pub fired_at : AllByRecursion (IsListenerAt f.names) now
   fired_at = subst (AllByRecursion (IsListenerAt f.names)) (sym keys.listeners)
@@ -65,31 +65,32 @@ pub record IsShownAtRest (s : DocState) (ls : List (Listener ℕ)) (m : MachineN
   pub shown : IsShownBy (shadows f hosts) s.world
 
 -- in a machine that is seen so
-pub fired : {f : NamedTrees} {hosts : List ShadowHost} {ls now : List (Listener ℕ)} {target : ℕ} {related : Option ℕ} {e : EventWords} {outcome : Outcome}
-    (s : DocState) (m : MachineNow) → IsDispatched f hosts ls now target related e outcome →
-    (AllByRecursion (IsListenerAt f.names) ls → IsDispatchedIn f hosts ls now target related e outcome) → IsShownAtRest s ls m f hosts →
-    Fires f.names s m now target related e outcome
-fired {f = f} {hosts = hosts} {ls = ls} {now = now} {target = target} {related = related} {e = e} {outcome = outcome} s m keys names is =
-    subst (λ (n : MachineNow). Fires f.names s n now target related e outcome) is.seen
-    (subst (λ (t : DocState). IsAtRest (machine_now t ls) → OwnersAreThere t.names t.world → IsShownBy (shadows f hosts) t.world →
-    Fires f.names t (machine_now t ls) now target related e outcome)
-    (ap (λ (xs : List NodeName). state xs) is.names) from (subst IsAtRest (sym is.seen) is.sound) is.there is.shown)
-  where
-    state : List NodeName → DocState
-    state xs = record { names = xs; world = s.world }
+module _ (target : ℕ) (related : Option ℕ) where
+  pub fired : {f : NamedTrees} {hosts : List ShadowHost} {ls now : List (Listener ℕ)} {e : EventWords} {outcome : Outcome}
+      (s : DocState) (m : MachineNow) → IsDispatchedAlong f.names ls now e outcome →
+      (AllByRecursion (IsListenerAt f.names) ls → IsDispatchedIn f hosts ls now target related e outcome) → IsShownAtRest s ls m f hosts →
+      Fires f.names s m now target related e outcome
+  fired {f = f} {hosts = hosts} {ls = ls} {now = now} {e = e} {outcome = outcome} s m keys names is =
+      subst (λ (n : MachineNow). Fires f.names s n now target related e outcome) is.seen
+      (subst (λ (t : DocState). IsAtRest (machine_now t ls) → OwnersAreThere t.names t.world → IsShownBy (shadows f hosts) t.world →
+      Fires f.names t (machine_now t ls) now target related e outcome)
+      (ap (λ (xs : List NodeName). state xs) is.names) from (subst IsAtRest (sym is.seen) is.sound) is.there is.shown)
+    where
+      state : List NodeName → DocState
+      state xs = record { names = xs; world = s.world }
 
-    from : IsAtRest (machine_now (state f.names) ls) → OwnersAreThere f.names s.world → IsShownBy (shadows f hosts) s.world →
-        Fires f.names (state f.names) (machine_now (state f.names) ls) now target related e outcome
-    from sound there shown =
-        let at = sound.listeners in
-        let done = names at in
-        let of = own_listeners f.names ls in
-        let fits : FitsIn of s.world = fits-own f.names s.world there ls at in
-        let is : IsWorldOf f hosts (heard of s.world) =
-        record { shown = shown-heard of (shadows f hosts) s.world fits shown; reached = sound.reached; whole = sound.whole } in
-        let end = done (heard of s.world) is (has-own f.names s.world ls fits) in (
-          fired_at f hosts ls now s.world there at shown sound.reached sound.whole target related e outcome keys,
-          fired_world f hosts ls now s.world there at shown sound.reached sound.whole target related e outcome keys done,
-          lines_shown f.names outcome.lines.items ∙ sym end.1,
-          sym end.2,
-        )
+      from : IsAtRest (machine_now (state f.names) ls) → OwnersAreThere f.names s.world → IsShownBy (shadows f hosts) s.world →
+          Fires f.names (state f.names) (machine_now (state f.names) ls) now target related e outcome
+      from sound there shown =
+          let at = sound.listeners in
+          let done = names at in
+          let of = own_listeners f.names ls in
+          let fits : FitsIn of s.world = fits-own f.names s.world there ls at in
+          let is : IsWorldOf f hosts (heard of s.world) =
+          record { shown = shown-heard of (shadows f hosts) s.world fits shown; reached = sound.reached; whole = sound.whole } in
+          let end = done (heard of s.world) is (has-own f.names s.world ls fits) in (
+            fired_at f hosts ls now s.world there at shown sound.reached sound.whole target related e outcome keys,
+            fired_world f hosts ls now s.world there at shown sound.reached sound.whole target related e outcome keys done,
+            lines_shown f.names outcome.lines.items ∙ sym end.1,
+            sym end.2,
+          )

@@ -42,7 +42,9 @@ impl Machine {
     {
         self.state.law_names_tell_nodes();
         let (forest, slots) = self.state.forest_and_slots();
-        let outcome = self.listeners.dispatch(forest, slots, target, event)?;
+        let outcome = self
+            .listeners
+            .dispatch_in_world(forest, slots, target, event)?;
         put_lines(self.alloc, forest, outcome.lines.as_slice(), out)?;
         Ok(outcome.answer)
     }
@@ -112,8 +114,8 @@ fn put_line(
         None => None,
     };
     let event = Event {
-        label: line.listener.label.as_bytes(),
-        event: line.listener.event.as_bytes(),
+        label: line.listener.label.as_slice(),
+        event: line.listener.kind.event.as_bytes(),
         phase: line.phase,
         target: forest.name(line.target),
         current: forest.name(line.current),

@@ -7,8 +7,8 @@ use Rattle.dom_commands.proofs.EventLines.{dispatch-lines, line_nodes, every}
 use Rattle.dom_commands.proofs.Firing.{fired}
 use Rattle.dom_commands.proofs.machine.Machine.fire.Goals as goal
 
-pub dispatch-requires-clause-slots : goal.dispatch-requires-clause-slots
-dispatch-requires-clause-slots c = c.forest_and_slots.ensures.slots
+pub dispatch_in_world-requires-clause-slots : goal.dispatch_in_world-requires-clause-slots
+dispatch_in_world-requires-clause-slots c = c.forest_and_slots.ensures.slots
 
 pub put_lines-requires-clause-nodes : goal.put_lines-requires-clause-nodes
 put_lines-requires-clause-nodes c =
@@ -25,7 +25,7 @@ put_lines-requires-clause-numbered c = subst AreNumbered (sym c.as_slice.ensures
 
 pub returns : goal.returns
 returns c =
-    let all = fired c.self.inside.state c.args.self.now c.in_ok-outcome.ensures.keys c.in_ok-outcome.ensures.names (record {
+    let all = fired c.args.target c.args.event.related c.self.inside.state c.args.self.now c.in_ok-outcome.ensures.keys c.in_ok-outcome.ensures.names (record {
       seen = c.self.view_is;
       sound = c.requires.sound;
       names = c.forest_and_slots.ensures.names;
