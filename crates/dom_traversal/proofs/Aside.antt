@@ -1,12 +1,10 @@
 -- Steps down and up by keys in a search among siblings.
 use Rattle.dom_base.proofs.Std.{◌≡◌, inl, inr, ℕ, ◌<◌, true, false, ◌++◌, length, Option, Some, None, refl, sym, ap, subst, ◌∙◌, arith, is_some, option_map}
 use Rattle.dom_base.proofs.Std.{ForSome, none-some, same_Some}
-use Rattle.dom_model.proofs.Model.{NodeName, Filter, first_of, accepts, inclusive_ancestors, ancestors, parent_of, children_of}
-use Rattle.dom_tree.specs.Definitions.{NamedTrees, name_at, StandsBelow}
+use Rattle.dom_traversal.proofs.Trees.{above-proper, accepts, ancestors, behind, behind_is, beyond, children_of, Filter, first_child, first_of, first_split}
+use Rattle.dom_traversal.proofs.Trees.{Has-forest, here, In, In-from, inclusive_ancestors, is_in-from, name_at, NamedTrees, no_child, no_key, NodeName}
+use Rattle.dom_traversal.proofs.Trees.{Once-forest, parent_of, StandAlone, StandOnce, StandsBelow, was_some}
 use Rattle.dom_traversal.specs.Definitions.{is_stop, stop_above}
-use Rattle.dom_laws.specs.Within.{behind, beyond}
-use Rattle.dom_laws.proofs.Laws.{In, In-from, is_in-from, first_split, here, behind_is, first_child, no_child, no_key, was_some, above-proper}
-use Rattle.dom_tree.proofs.Standing.{StandOnce, StandAlone, Once-forest, Has-forest}
 use Rattle.dom_traversal.proofs.Climbing.{IsInner}
 use Rattle.dom_traversal.proofs.Stops.{IsBelow, within-below, root-below, below-stop, below-child, below-up, path_up, stop-above}
 

@@ -2,18 +2,14 @@
 use Rattle.dom_base.proofs.Std.{◌≡◌, ◌⊎◌, inl, inr, ℕ, ◌<◌, ◌≤◌, true, false, not, ◌&&◌, List, [], ◌∷◌, ◌++◌, length, Option, Some, None, refl, sym, ap, subst}
 use Rattle.dom_base.proofs.Std.{◌∙◌, arith, length-append, filter, option_map, ForSome, list_all, cases_Bool, not-false, and_left, and_from, both_ways}
 use Rattle.dom_base.proofs.Std.{append-nil, filter-append, none-some, same_Some}
-use Rattle.dom_model.proofs.Model.{NodeName, Verdict, Skip, Reject, Filter, name_eq, is_in, last_of, Walker, answer_at, accepts, rejects, is_reject}
-use Rattle.dom_model.proofs.Model.{walker_nodes, Trees, subtree, inclusive_ancestors, ancestors, parent_of, children_of, previous_sibling}
-use Rattle.dom_model.proofs.Model.{is_inclusive_ancestor, inclusive_descendants}
-use Rattle.dom_tree.specs.Definitions.{NamedTrees, name_at, StandsIn}
-use Rattle.dom_traversal.specs.Definitions.{KeyedWalker, walker_view, is_passable, entered_by, is_entered, ComesBack}
-use Rattle.dom_laws.specs.Within.{ahead_of, up_to_node, up_to_tree}
-use Rattle.dom_laws.proofs.Laws.{In, In-left, In-right, In-parts, In-from, In-not, is_in-from, is_in-not, last_split, not_before, no_first, filter-none}
-use Rattle.dom_laws.proofs.Laws.{last-hit, last-miss, Has, below-from_above, above-proper, proper-parent, parent-of_child, In-names, IsWithin, stands_in, here}
-use Rattle.dom_laws.proofs.Laws.{below, joined, above-within, last_child, no_last_child, child_places, previous_places, no_previous, within-parent, within-root}
-use Rattle.dom_laws.proofs.Laws.{top_places, within-top}
-use Rattle.dom_tree.proofs.Standing.{StandOnce, StandAlone, Has-forest}
-use Rattle.dom_tree.proofs.Searching.{IsWithin-key}
+use Rattle.dom_traversal.proofs.Trees.{above-proper, above-within, accepts, ahead_of, ancestors, answer_at, below, below-from_above, child_places, children_of}
+use Rattle.dom_traversal.proofs.Trees.{Filter, filter-none, Has, Has-forest, here, In, In-from, In-left, In-names, In-not, In-parts, In-right}
+use Rattle.dom_traversal.proofs.Trees.{inclusive_ancestors, inclusive_descendants, is_in, is_in-from, is_in-not, is_inclusive_ancestor, is_reject, IsWithin}
+use Rattle.dom_traversal.proofs.Trees.{IsWithin-key, joined, last-hit, last-miss, last_child, last_of, last_split, name_at, name_eq, NamedTrees, no_first}
+use Rattle.dom_traversal.proofs.Trees.{no_last_child, no_previous, NodeName, not_before, parent-of_child, parent_of, previous_places, previous_sibling}
+use Rattle.dom_traversal.proofs.Trees.{proper-parent, Reject, rejects, Skip, StandAlone, StandOnce, stands_in, StandsIn, subtree, top_places, Trees, up_to_node}
+use Rattle.dom_traversal.proofs.Trees.{up_to_tree, Verdict, Walker, walker_nodes, within-parent, within-root, within-top}
+use Rattle.dom_traversal.specs.Definitions.{ComesBack, entered_by, is_entered, is_passable, KeyedWalker, walker_view}
 use Rattle.dom_traversal.proofs.Climbing.{IsInner, inner-within}
 use Rattle.dom_traversal.proofs.Opening.{hidden, all-from, all-at}
 use Rattle.dom_traversal.proofs.Passing.{passing, walker_nodes-passing, passable-above}

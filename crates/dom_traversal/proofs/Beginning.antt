@@ -1,16 +1,13 @@
 -- Where a walker's searches among children and siblings begin, and what they look for.
 use Rattle.dom_base.proofs.Std.{◌≡◌, inl, inr, ℕ, ◌<◌, true, false, ◌∷◌, ◌++◌, length, Option, Some, None, refl, sym, ap, subst, ◌∙◌, arith, filter, option_map}
 use Rattle.dom_base.proofs.Std.{ForSome, or_right, append-nil, same_Some}
-use Rattle.dom_model.proofs.Model.{NodeName, Move, name_eq, first_of, Walker, accepts, walker_siblings, walker_step, walker_move, sibling_top, Trees}
-use Rattle.dom_model.proofs.Model.{inclusive_ancestors, ancestors, children_of, is_inclusive_ancestor, inclusive_descendants, name_eq-other}
+use Rattle.dom_traversal.proofs.Trees.{above-proper, above-within, accepts, ahead_of, all_single, ancestors, behind, behind_is, below, beyond, children_of}
+use Rattle.dom_traversal.proofs.Trees.{first_child, first_of, first_split, from_node, here, In, inclusive_ancestors, inclusive_descendants, is_in-from}
+use Rattle.dom_traversal.proofs.Trees.{is_in-not, is_inclusive_ancestor, IsWithin, Move, name_at, name_eq, name_eq-from, name_eq-other, NamedTrees, no_child}
+use Rattle.dom_traversal.proofs.Trees.{no_first, NodeName, parent-of_child, proper-parent, sibling_top, Single, Single-apart, Single-right, splits, stands_in}
+use Rattle.dom_traversal.proofs.Trees.{top_places, Trees, Walker, walker_move, walker_siblings, walker_step, within-itself}
 use Rattle.dom_base.specs.declared.Move.TheVariants as moves
-use Rattle.dom_tree.specs.Definitions.{NamedTrees, name_at}
-use Rattle.dom_traversal.specs.declared.iter.Direction.TheVariants.{Next}
-use Rattle.dom_traversal.specs.Definitions.{KeyedWalker, walker_view, is_opened, is_reached, stop_above, stop_of, BeginsForward}
-use Rattle.dom_laws.specs.Within.{ahead_of, behind, beyond, from_node}
-use Rattle.dom_laws.proofs.Laws.{In, Single, Single-right, Single-apart, is_in-from, is_in-not, name_eq-from, no_first, first_split, parent-of_child, IsWithin}
-use Rattle.dom_laws.proofs.Laws.{stands_in, all_single, here, below, splits, behind_is, above-within, within-itself, top_places, first_child, no_child}
-use Rattle.dom_laws.proofs.Laws.{above-proper, proper-parent}
+use Rattle.dom_traversal.specs.Definitions.{BeginsForward, is_opened, is_reached, KeyedWalker, Next, stop_above, stop_of, walker_view}
 use Rattle.dom_traversal.proofs.Opening.{beyond-above, all-from}
 use Rattle.dom_traversal.proofs.Forward.{zone_is, beyond-zone, not_behind}
 use Rattle.dom_traversal.proofs.Stops.{IsBelow, within-below, other-below, below-stop, stop-here}

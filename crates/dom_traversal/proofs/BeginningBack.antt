@@ -1,17 +1,13 @@
 -- Where a walker's searches for the last child and the previous sibling begin, and what they look for.
 use Rattle.dom_base.proofs.Std.{◌≡◌, inl, inr, ℕ, ◌<◌, Bool, true, false, not, ◌&&◌, [], ◌∷◌, ◌++◌, length, Option, Some, None, refl, sym, ap, subst, ◌∙◌}
 use Rattle.dom_base.proofs.Std.{filter, option_map, ForSome, and_right}
-use Rattle.dom_model.proofs.Model.{NodeName, name_eq, last_of, Walker, walker_children, walker_siblings, walker_step, walker_move, sibling_top, Trees}
-use Rattle.dom_model.proofs.Model.{inclusive_ancestors, ancestors, children_of, inclusive_descendants, name_eq-other}
+use Rattle.dom_traversal.proofs.Trees.{above-proper, above-within, ahead_of, ancestors, below, children_of, filter-no, filter-same, here, In, In-from, In-left}
+use Rattle.dom_traversal.proofs.Trees.{In-right, inclusive_ancestors, inclusive_descendants, is_in-from, IsWithin, last_child, last_of, last_split, name_at}
+use Rattle.dom_traversal.proofs.Trees.{name_eq, name_eq-from, name_eq-other, NamedTrees, no_last_child, NodeName, not_before, sibling_top, top_places, Trees}
+use Rattle.dom_traversal.proofs.Trees.{up_to_tree, Walker, walker_children, walker_move, walker_siblings, walker_step, within-itself}
 use Rattle.dom_base.specs.declared.Move.TheVariants as moves
-use Rattle.dom_tree.specs.Definitions.{NamedTrees, name_at}
-use Rattle.dom_traversal.specs.Definitions.{KeyedWalker, walker_view, is_opened, is_reached, is_candidate, stop_above, stop_of, StepsBehind, BeginsBackward}
-use Rattle.dom_traversal.specs.Definitions.{Begins, StepsBeside, reached_from, outer_child, child_move, sibling_move}
-use Rattle.dom_traversal.specs.declared.iter.Direction.{Direction}
-use Rattle.dom_traversal.specs.declared.iter.Direction.TheVariants.{Next, Previous}
-use Rattle.dom_laws.specs.Within.{ahead_of, up_to_tree}
-use Rattle.dom_laws.proofs.Laws.{In, In-left, In-right, is_in-from, In-from, name_eq-from, not_before, last_split, filter-no, filter-same, IsWithin, here}
-use Rattle.dom_laws.proofs.Laws.{below, above-within, within-itself, top_places, last_child, no_last_child, above-proper}
+use Rattle.dom_traversal.specs.Definitions.{Begins, BeginsBackward, child_move, Direction, is_candidate, is_opened, is_reached, KeyedWalker, Next, outer_child}
+use Rattle.dom_traversal.specs.Definitions.{Previous, reached_from, sibling_move, StepsBehind, StepsBeside, stop_above, stop_of, walker_view}
 use Rattle.dom_traversal.proofs.Opening.{all-from}
 use Rattle.dom_traversal.proofs.Stops.{IsBelow, within-below, other-below}
 use Rattle.dom_traversal.proofs.Beside.{FollowsBeside}

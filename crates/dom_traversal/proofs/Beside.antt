@@ -1,14 +1,9 @@
 -- Steps beside by keys in a search among siblings, in a direction.
 use Rattle.dom_base.proofs.Std.{◌≡◌, ℕ, ◌<◌, true, false, not, List, [], ◌∷◌, ◌++◌, length, Option, Some, None, refl, sym, ap, subst, ◌∙◌, append_assoc, filter}
 use Rattle.dom_base.proofs.Std.{is_some, find, unwrap_or, option_map, ForSome, and_left, and_right, or_parts, append-nil}
-use Rattle.dom_model.proofs.Model.{NodeName, Filter, first_of, accepts, Trees, ancestors, parent_of}
-use Rattle.dom_tree.specs.Definitions.{NamedTrees, name_at, StandsBelow}
-use Rattle.dom_traversal.specs.declared.iter.Direction.{Direction}
-use Rattle.dom_traversal.specs.declared.iter.Direction.TheVariants.{Next, Previous}
-use Rattle.dom_traversal.specs.Definitions.{sibling_in, is_stop, is_accepted_but, stop_above, StepsBeside}
-use Rattle.dom_laws.specs.Within.{ahead_of, beyond, up_to_tree}
-use Rattle.dom_laws.proofs.Laws.{name_eq-from, filter-no, top_places, within-top, no_key, was_some}
-use Rattle.dom_tree.proofs.Standing.{StandOnce, StandAlone}
+use Rattle.dom_traversal.proofs.Trees.{accepts, ahead_of, ancestors, beyond, Filter, filter-no, first_of, name_at, name_eq-from, NamedTrees, no_key, NodeName}
+use Rattle.dom_traversal.proofs.Trees.{parent_of, StandAlone, StandOnce, StandsBelow, top_places, Trees, up_to_tree, was_some, within-top}
+use Rattle.dom_traversal.specs.Definitions.{Direction, is_accepted_but, is_stop, Next, Previous, sibling_in, StepsBeside, stop_above}
 use Rattle.dom_traversal.proofs.Stops.{IsBelow, within-below, stop-here, stop-above, path_up, below-stop, ahead_of-previous, ahead_of-parent}
 use Rattle.dom_traversal.proofs.Stops.{aside_next, aside_ends, aside_up}
 use Rattle.dom_traversal.proofs.Aside.{IsBelow-key, StandsBelow-key, SameStop, rises}

@@ -1,12 +1,9 @@
 -- Steps aside and up by keys, within the tree of a node.
 use Rattle.dom_base.proofs.Std.{◌≡◌, ℕ, ◌<◌, true, false, not, eqb, ◌++◌, length, Option, Some, None, sym, ap, ◌∙◌, arith, is_some, option_map, ForSome}
-use Rattle.dom_model.proofs.Model.{NodeName, first_of, Trees, parent_of, next_sibling, inclusive_ancestors, is_inclusive_ancestor}
-use Rattle.dom_tree.specs.Definitions.{NamedTrees, name_at, StandsIn, TellApart}
-use Rattle.dom_laws.specs.Within.{beyond}
-use Rattle.dom_traversal.specs.Definitions.{KeyedWalker, IsWalkerOf}
-use Rattle.dom_laws.proofs.Laws.{above-parent, was_some, IsWithin, stands_in, here, above-within, within-parent, within-root, next_places, no_next}
-use Rattle.dom_tree.proofs.Standing.{StandOnce, StandAlone, other_name}
-use Rattle.dom_tree.proofs.Searching.{IsWithin-key, StandsIn-found}
+use Rattle.dom_traversal.proofs.Trees.{above-parent, above-within, beyond, first_of, here, inclusive_ancestors, is_inclusive_ancestor, IsWithin, IsWithin-key}
+use Rattle.dom_traversal.proofs.Trees.{name_at, NamedTrees, next_places, next_sibling, no_next, NodeName, other_name, parent_of, StandAlone, StandOnce}
+use Rattle.dom_traversal.proofs.Trees.{stands_in, StandsIn, StandsIn-found, TellApart, Trees, was_some, within-parent, within-root}
+use Rattle.dom_traversal.specs.Definitions.{IsWalkerOf, KeyedWalker}
 
 -- the next sibling is the first node beyond
 first-tree : {ts : Trees} {top x s : NodeName} → IsWithin ts top x → (x ≡ top → ⊥) → next_sibling ts x ≡ Some s → first_of (beyond ts top x) ≡ Some s

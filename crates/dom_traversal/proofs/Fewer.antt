@@ -1,14 +1,10 @@
 -- A node that a search forward finds has fewer nodes behind it.
 use Rattle.dom_base.proofs.Std.{◌≡◌, ◌⊎◌, inl, inr, ℕ, ◌<◌, Bool, true, false, cond, List, [], ◌∷◌, length, Some, sym, ap, subst, ◌∙◌, arith, ◌≤◌}
 use Rattle.dom_base.proofs.Std.{length-append, filter, cases_Bool, none-some, same_Some}
-use Rattle.dom_model.proofs.Model.{NodeName, Next, name_eq, first_of, items_before, items_after, inclusive_descendants, is_inclusive_ancestor, accepts}
-use Rattle.dom_model.proofs.Model.{nodes_ahead, iterator_next_node, walker_move, name_eq-other}
-use Rattle.dom_tree.specs.Definitions.{NamedTrees, name_at, StandsIn}
-use Rattle.dom_laws.specs.Within.{behind}
-use Rattle.dom_traversal.specs.Definitions.{KeyedIterator, IsIteratorOf, iterator_left, iterator_view, KeyedWalker, IsWalkerOf, walker_left, walker_view}
-use Rattle.dom_laws.proofs.Laws.{In, Single, split_at, after-in, same_or_not, name_eq-from, filter-yes, filter-no, all_single}
-use Rattle.dom_tree.proofs.Standing.{StandOnce, StandAlone}
-use Rattle.dom_tree.proofs.Searching.{IsWithin-key}
+use Rattle.dom_traversal.proofs.Trees.{accepts, after-in, all_single, behind, filter-no, filter-yes, first_of, In, inclusive_descendants, is_inclusive_ancestor}
+use Rattle.dom_traversal.proofs.Trees.{IsWithin-key, items_after, items_before, iterator_next_node, name_at, name_eq, name_eq-from, name_eq-other, NamedTrees}
+use Rattle.dom_traversal.proofs.Trees.{Next, NodeName, nodes_ahead, same_or_not, Single, split_at, StandAlone, StandOnce, StandsIn, walker_move}
+use Rattle.dom_traversal.specs.Definitions.{IsIteratorOf, IsWalkerOf, iterator_left, iterator_view, KeyedIterator, KeyedWalker, walker_left, walker_view}
 
 -- ---- in a list in which no name stands twice
 

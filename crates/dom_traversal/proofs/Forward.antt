@@ -1,12 +1,10 @@
 -- A search forward among the nodes that are accepted and reached through open nodes alone.
 use Rattle.dom_base.proofs.Std.{◌≡◌, inl, inr, Bool, true, false, ◌∷◌, ◌++◌, length, Option, Some, None, refl, sym, ap, subst, ◌∙◌, arith, ◌<◌, length-append}
 use Rattle.dom_base.proofs.Std.{filter, list_all, and_left, same_Some}
-use Rattle.dom_model.proofs.Model.{NodeName, first_of, Trees, subtree, inclusive_ancestors, ancestors, children_of, is_inclusive_ancestor}
-use Rattle.dom_model.proofs.Model.{inclusive_descendants}
-use Rattle.dom_laws.specs.Within.{ahead_of, behind, beyond, from_node}
-use Rattle.dom_laws.proofs.Laws.{In, In-left, In-right, In-from, Single, Single-right, no_first, first_split, first-miss, below-from_above, proper-parent}
-use Rattle.dom_laws.proofs.Laws.{parent-of_child, In-names, IsWithin, stands_in, all_single, here, below, behind_is, first_child, no_child, following_place}
-use Rattle.dom_laws.proofs.Laws.{ordered, behind-next}
+use Rattle.dom_traversal.proofs.Trees.{ahead_of, all_single, ancestors, behind, behind-next, behind_is, below, below-from_above, beyond, children_of}
+use Rattle.dom_traversal.proofs.Trees.{first-miss, first_child, first_of, first_split, following_place, from_node, here, In, In-from, In-left, In-names}
+use Rattle.dom_traversal.proofs.Trees.{In-right, inclusive_ancestors, inclusive_descendants, is_inclusive_ancestor, IsWithin, no_child, no_first, NodeName}
+use Rattle.dom_traversal.proofs.Trees.{ordered, parent-of_child, proper-parent, Single, Single-right, stands_in, subtree, Trees}
 use Rattle.dom_traversal.proofs.Opening.{reached, reached-shut, all-from, all-at, beyond-above, beyond_place}
 
 -- what is next behind a node has no other nodes above it than that node and those above it

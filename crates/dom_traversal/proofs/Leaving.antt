@@ -1,9 +1,8 @@
 -- Iterators that leave the tree of a node, in any order and as often as they are asked.
 use Rattle.dom_base.proofs.Std.{◌≡◌, ℕ, ◌+◌, ◌<◌, ◌≤◌, Bool, true, false, not, cond, inl, inr, List, length, Option, Some, None, refl, sym, subst, ◌∙◌, arith}
 use Rattle.dom_base.proofs.Std.{slice_get, slice_set, ◌||◌, cases_eq, cases_lt, none-some}
-use Rattle.dom_model.proofs.Model.{adjusted_iterator, is_inclusive_ancestor}
-use Rattle.dom_tree.specs.Definitions.{NamedTrees, name_at}
-use Rattle.dom_traversal.specs.Definitions.{KeyedIterator, IsIteratorOf, iterator_view, EachItem, IsLeft, IsLeftIf, AreLeft, MayHaveLeft}
+use Rattle.dom_traversal.proofs.Trees.{adjusted_iterator, is_inclusive_ancestor, name_at, NamedTrees}
+use Rattle.dom_traversal.specs.Definitions.{AreLeft, EachItem, IsIteratorOf, IsLeft, IsLeftIf, iterator_view, KeyedIterator, MayHaveLeft}
 use Rattle.dom_traversal.proofs.Items.{get_set, get_set_other}
 
 -- of the iterators of a kind those before a place have left, and each has left or is as it was

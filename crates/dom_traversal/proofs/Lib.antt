@@ -1,3 +1,4 @@
+mod Trees
 mod Climbing
 mod Opening
 mod Forward

@@ -1,8 +1,7 @@
 -- The list of the references of iterators that are added and moved.
 use Rattle.dom_base.proofs.Std.{◌≡◌, ◌⊎◌, inl, inr, ℕ, zero, suc, ◌<◌, List, [], ◌∷◌, ◌++◌, length, true, get_or, Some, refl, sym, ap, subst, ◌∙◌, arith}
 use Rattle.dom_base.proofs.Std.{is_some, slice_get, slice_set, Contains, cases_eq, length-append, length-set, none-some, same_Some, slice_get_cases}
-use Rattle.dom_traversal.specs.Definitions.{KeyedIterator, AreListed, reference_at}
-use Rattle.dom_traversal.specs.declared.references.Reference.{Reference}
+use Rattle.dom_traversal.specs.Definitions.{AreListed, KeyedIterator, Reference, reference_at}
 use Rattle.dom_traversal.proofs.Items.{get_set, get_set_other, got}
 
 -- an item that is there has a place in the list

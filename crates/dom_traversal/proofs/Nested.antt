@@ -2,14 +2,13 @@
 use Rattle.dom_base.proofs.Std.{◌≡◌, ◌⊎◌, inl, inr, Bool, true, false, not, ◌&&◌, ◌||◌, List, [], ◌∷◌, ◌++◌, Some, refl, sym, ap, subst, ◌∙◌, append_assoc}
 use Rattle.dom_base.proofs.Std.{drop, filter, find, unwrap_or, list_all, cases_Bool, and_left, and_right, or_right, or_parts, both_ways, append-nil}
 use Rattle.dom_base.proofs.Std.{filter-append}
-use Rattle.dom_model.proofs.Model.{NodeName, name_eq, is_in, items_before, items_after, Walker, accepts, between, walker_siblings, sibling_top, Trees, subtree}
-use Rattle.dom_model.proofs.Model.{inclusive_ancestors, ancestors, is_inclusive_ancestor, inclusive_descendants, name_eq-other}
-use Rattle.dom_traversal.specs.Definitions.{is_opened, is_reached, is_stop, is_candidate}
-use Rattle.dom_laws.specs.Within.{ahead_of, behind, beyond}
-use Rattle.dom_laws.proofs.Laws.{In, In-left, In-right, In-parts, In-from, before-in, after-in, not_before, Single, Single-right, Single-apart, same_or_not}
-use Rattle.dom_laws.proofs.Laws.{is_in-from, is_in-not, name_eq-from, filter-none, filter-same, Has, has_or_not, Has-above, above-absent, below-from_above}
-use Rattle.dom_laws.proofs.Laws.{above-proper, In-names, IsWithin, stands_in, all_single, here, below, splits, split_is, behind_is, inside-test, outside-test}
-use Rattle.dom_laws.proofs.Laws.{within-member, within-top, ordered, above-along, ahead-apart}
+use Rattle.dom_traversal.proofs.Trees.{above-absent, above-along, above-proper, accepts, after-in, ahead-apart, ahead_of, all_single, ancestors, before-in}
+use Rattle.dom_traversal.proofs.Trees.{behind, behind_is, below, below-from_above, between, beyond, filter-none, filter-same, Has, Has-above, has_or_not, here}
+use Rattle.dom_traversal.proofs.Trees.{In, In-from, In-left, In-names, In-parts, In-right, inclusive_ancestors, inclusive_descendants, inside-test, is_in}
+use Rattle.dom_traversal.proofs.Trees.{is_in-from, is_in-not, is_inclusive_ancestor, IsWithin, items_after, items_before, name_eq, name_eq-from, name_eq-other}
+use Rattle.dom_traversal.proofs.Trees.{NodeName, not_before, ordered, outside-test, same_or_not, sibling_top, Single, Single-apart, Single-right, split_is}
+use Rattle.dom_traversal.proofs.Trees.{splits, stands_in, subtree, Trees, Walker, walker_siblings, within-member, within-top}
+use Rattle.dom_traversal.specs.Definitions.{is_candidate, is_opened, is_reached, is_stop}
 use Rattle.dom_traversal.proofs.Opening.{not_around, not_above_itself}
 use Rattle.dom_traversal.proofs.Stops.{IsBelow, within-below, below-stop}
 use Rattle.dom_traversal.proofs.Candidates.{proper-split, opened-between, below-member}

@@ -2,13 +2,12 @@
 use Rattle.dom_base.proofs.Std.{◌≡◌, inl, inr, ℕ, ◌≤◌, zero, suc, Bool, true, false, not, ◌&&◌, List, [], ◌∷◌, ◌++◌, length, Option, Some, None, refl, sym, ap}
 use Rattle.dom_base.proofs.Std.{subst, ◌∙◌, arith, length-append, append_assoc, drop, filter, list_any, list_all, cases_Bool, and_left, and_right, and_from}
 use Rattle.dom_base.proofs.Std.{and_parts, both_ways, false_from_ne_true, none-some, same_Some, filter-append}
-use Rattle.dom_model.proofs.Model.{NodeName, name_eq, first_of, items_before, items_after, Trees, subtree, inclusive_ancestors, ancestors, parent_of}
-use Rattle.dom_model.proofs.Model.{children_of, next_sibling, inclusive_descendants}
-use Rattle.dom_laws.specs.Within.{ahead_of, behind, beyond}
-use Rattle.dom_laws.proofs.Laws.{In, In-right, Single, Single-apart, no_first, first_split, same_or_not, after-split, filter-none, filter-no, above-proper}
-use Rattle.dom_laws.proofs.Laws.{proper-parent, Has, Has-subtree, above-parent, above-from_below, below-from_above, Once, parent-of_child, Has-names, IsWithin}
-use Rattle.dom_laws.proofs.Laws.{stands_in, here, below, all_single, splits, behind_is, within-root, within-top, within-parent, within-member, top_places}
-use Rattle.dom_laws.proofs.Laws.{next_places, no_next, above-split, above-along}
+use Rattle.dom_traversal.proofs.Trees.{above-along, above-from_below, above-parent, above-proper, above-split, after-split, ahead_of, all_single, ancestors}
+use Rattle.dom_traversal.proofs.Trees.{behind, behind_is, below, below-from_above, beyond, children_of, filter-no, filter-none, first_of, first_split, Has}
+use Rattle.dom_traversal.proofs.Trees.{Has-names, Has-subtree, here, In, In-right, inclusive_ancestors, inclusive_descendants, IsWithin, items_after}
+use Rattle.dom_traversal.proofs.Trees.{items_before, name_eq, next_places, next_sibling, no_first, no_next, NodeName, Once, parent-of_child, parent_of}
+use Rattle.dom_traversal.proofs.Trees.{proper-parent, same_or_not, Single, Single-apart, splits, stands_in, subtree, top_places, Trees, within-member}
+use Rattle.dom_traversal.proofs.Trees.{within-parent, within-root, within-top}
 
 -- tests of all members
 pub all-from : (p : NodeName → Bool) (xs : List NodeName) → ((a : NodeName) → In a xs → p a ≡ true) → list_all p xs ≡ true

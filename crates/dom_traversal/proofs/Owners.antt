@@ -1,10 +1,9 @@
 -- An owner's cursors in the map of all owners'.
 use Rattle.dom_base.proofs.Std.{◌≡◌, ◌≢◌, ℕ, Bool, true, false, cond, Option, Some, None, refl, sym, ap, ◌∙◌, unwrap_or, is_some, Result, Ok, Err, IsErrAnd}
 use Rattle.dom_base.proofs.Std.{lookup, get}
-use Rattle.dom_model.proofs.Model.{Fault, Refused, Memory, Limit, Owner, owner_eq, owner_eq-true, owner_eq-same, ne-owner_eq, same_owner}
+use Rattle.dom_traversal.proofs.Trees.{Fault, Limit, Memory, ne-owner_eq, Owner, owner_eq, owner_eq-same, owner_eq-true, Refused, same_owner}
 use Rattle.dom_base.specs.contracts.OwnerPartialEq.TheImpl as OwnerImpl
-use Rattle.dom_traversal.specs.declared.cursors.Cursors.TheInside.{Inside}
-use Rattle.dom_traversal.specs.Definitions.{KeyedTables, no_keyed_tables, AllCursors, cursors_of, with_cursors}
+use Rattle.dom_traversal.specs.Definitions.{AllCursors, cursors_of, Inside, KeyedTables, no_keyed_tables, with_cursors}
 
 -- what a look-up finds, by the test that maps make
 looked : (all : AllCursors) (o : Owner) → lookup (owner_eq o) all ≡ lookup (OwnerImpl.ghosts.eq o) all

@@ -1,10 +1,9 @@
 -- The nodes among which nextNode and previousNode choose are those reached through nodes that are not passed over.
 use Rattle.dom_base.proofs.Std.{◌≡◌, Bool, true, false, not, ◌&&◌, List, Option, Some, refl, sym, ap, subst, ◌∙◌, filter, is_none, false_from_ne_true}
-use Rattle.dom_model.proofs.Model.{NodeName, Verdict, Skip, Reject, first_of, Walker, answer_at, accepts, rejects, is_reject, walker_nodes, Trees}
-use Rattle.dom_model.proofs.Model.{inclusive_ancestors, ancestors, is_inclusive_ancestor}
+use Rattle.dom_traversal.proofs.Trees.{above-proper, accepts, ancestors, answer_at, behind, behind-next, beyond, filter-same, first_of, following_place, In}
+use Rattle.dom_traversal.proofs.Trees.{inclusive_ancestors, is_in-from, is_inclusive_ancestor, is_reject, IsWithin, NodeName, Reject, rejects, Skip, stands_in}
+use Rattle.dom_traversal.proofs.Trees.{Trees, Verdict, Walker, walker_nodes}
 use Rattle.dom_traversal.specs.Definitions.{is_passable}
-use Rattle.dom_laws.specs.Within.{behind, beyond}
-use Rattle.dom_laws.proofs.Laws.{In, is_in-from, filter-same, IsWithin, stands_in, following_place, behind-next, above-proper}
 use Rattle.dom_traversal.proofs.Opening.{reached, all-from, none-all}
 use Rattle.dom_traversal.proofs.Forward.{Comes, Comes-skip, Comes-reject, Comes-apart, following-above, not_behind}
 

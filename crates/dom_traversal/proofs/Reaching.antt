@@ -1,13 +1,10 @@
 -- A search forward among the nodes in the place of siblings or of children.
 use Rattle.dom_base.proofs.Std.{◌≡◌, ℕ, ◌<◌, true, false, ◌||◌, length, Option, Some, None, refl, sym, ap, subst, ◌∙◌, filter, option_map, ForSome, list_all}
 use Rattle.dom_base.proofs.Std.{or_left, or_right, false_from_ne_true, same_Some}
-use Rattle.dom_model.proofs.Model.{NodeName, Skip, Reject, first_of, Walker, answer_at, accepts, skips, is_skip, Trees, inclusive_ancestors, ancestors}
-use Rattle.dom_model.proofs.Model.{is_inclusive_ancestor}
-use Rattle.dom_tree.specs.Definitions.{NamedTrees, name_at, StandsBelow}
-use Rattle.dom_traversal.specs.Definitions.{KeyedWalker, walker_view, is_opened, is_reached, stop_above, stop_of, BeginsForward}
-use Rattle.dom_laws.specs.Within.{behind, beyond, from_node}
-use Rattle.dom_laws.proofs.Laws.{In, is_in-from, In-not, IsWithin}
-use Rattle.dom_tree.proofs.Standing.{StandOnce, StandAlone, Has-forest, IsWithin-forest}
+use Rattle.dom_traversal.proofs.Trees.{accepts, ancestors, answer_at, behind, beyond, first_of, from_node, Has-forest, In, In-not, inclusive_ancestors}
+use Rattle.dom_traversal.proofs.Trees.{is_in-from, is_inclusive_ancestor, is_skip, IsWithin, IsWithin-forest, name_at, NamedTrees, NodeName, Reject, Skip}
+use Rattle.dom_traversal.proofs.Trees.{skips, StandAlone, StandOnce, StandsBelow, Trees, Walker}
+use Rattle.dom_traversal.specs.Definitions.{BeginsForward, is_opened, is_reached, KeyedWalker, stop_above, stop_of, walker_view}
 use Rattle.dom_traversal.proofs.Forward.{Comes, shorter-skip, shorter-reject, Comes-skip, Comes-reject, Comes-apart}
 use Rattle.dom_traversal.proofs.Passing.{accepts-some}
 use Rattle.dom_traversal.proofs.Stops.{within-below, below-stop}

@@ -2,17 +2,15 @@
 use Rattle.dom_base.proofs.Std.{◌≡◌, ◌⊎◌, inl, inr, ℕ, ◌<◌, Bool, true, false, not, List, [], ◌∷◌, ◌++◌, length, Option, Some, None, refl, sym, ap, subst, ◌∙◌}
 use Rattle.dom_base.proofs.Std.{arith, length-append, filter, find, unwrap_or, is_none, option_map, ForSome, list_all, cases_Bool, and_left, and_from}
 use Rattle.dom_base.proofs.Std.{and_parts, or_from, or_left, false_from_ne_true, both_ways, append-nil, filter-append, none-some, same_Some}
-use Rattle.dom_model.proofs.Model.{NodeName, Verdict, Skip, Reject, Filter, name_eq, last_of, Walker, answer_at, accepts, skips, is_skip, Trees, subtree}
-use Rattle.dom_model.proofs.Model.{inclusive_ancestors, ancestors, is_inclusive_ancestor, inclusive_descendants, name_eq-other}
-use Rattle.dom_tree.specs.Definitions.{NamedTrees, name_at, StandsBelow}
-use Rattle.dom_traversal.specs.Definitions.{KeyedWalker, walker_view, is_opened, is_reached, is_candidate, is_accepted_but, is_entered, entered_by, is_stop}
-use Rattle.dom_traversal.specs.Definitions.{stop_above, StepsBehind, BeginsBackward}
-use Rattle.dom_laws.specs.Within.{ahead_of, up_to_tree}
-use Rattle.dom_laws.proofs.Laws.{In, In-left, In-right, In-parts, Single, Single-apart, is_in-from, is_in-not, last_of-end, filter-none, filter-no, Has}
-use Rattle.dom_laws.proofs.Laws.{below-from_above, In-names, IsWithin, here, below, above-within}
+use Rattle.dom_traversal.proofs.Trees.{above-within, accepts, ahead_of, ancestors, answer_at, below, below-from_above, Filter, filter-no, filter-none, Has}
+use Rattle.dom_traversal.proofs.Trees.{Has-forest, here, In, In-left, In-names, In-parts, In-right, inclusive_ancestors, inclusive_descendants, is_in-from}
+use Rattle.dom_traversal.proofs.Trees.{is_in-not, is_inclusive_ancestor, is_skip, IsWithin, last_of, last_of-end, name_at, name_eq, name_eq-other, NamedTrees}
+use Rattle.dom_traversal.proofs.Trees.{NodeName, Reject, Single, Single-apart, Skip, skips, StandAlone, StandOnce, StandsBelow, subtree, Trees, up_to_tree}
+use Rattle.dom_traversal.proofs.Trees.{Verdict, Walker}
+use Rattle.dom_traversal.specs.Definitions.{BeginsBackward, entered_by, is_accepted_but, is_candidate, is_entered, is_opened, is_reached, is_stop, KeyedWalker}
+use Rattle.dom_traversal.specs.Definitions.{StepsBehind, stop_above, walker_view}
 use Rattle.dom_traversal.proofs.Opening.{hidden, all-from, all-at, not_around}
 use Rattle.dom_traversal.proofs.Stops.{IsBelow, within-below, other-below, below-stop}
-use Rattle.dom_tree.proofs.Standing.{StandOnce, StandAlone, Has-forest}
 use Rattle.dom_traversal.proofs.Aside.{IsBelow-key, StandsBelow-key, SameStop}
 use Rattle.dom_traversal.proofs.Reaching.{stop_from}
 use Rattle.dom_traversal.proofs.Candidates.{Single-proper}

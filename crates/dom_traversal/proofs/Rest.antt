@@ -1,15 +1,11 @@
 -- What a search forward leaves: the accepted nodes behind the one that it found.
 use Rattle.dom_base.proofs.Std.{◌≡◌, ◌⊎◌, inl, inr, ℕ, Bool, true, false, not, cond, ◌&&◌, List, [], ◌∷◌, Option, Some, None, refl, sym, ap, subst, ◌∙◌, filter}
 use Rattle.dom_base.proofs.Std.{list_any, cases_Bool, none-some, same_Some}
-use Rattle.dom_model.proofs.Model.{NodeName, Next, Skip, name_eq, first_of, items_after, ancestors, inclusive_descendants, is_inclusive_ancestor, node_in}
-use Rattle.dom_model.proofs.Model.{Filter, Walker, accepts, rejects, verdict_at, is_reject, is_shown, iterator_next_node, walker_nodes, walker_move}
-use Rattle.dom_model.proofs.Model.{name_eq-other}
-use Rattle.dom_tree.specs.Definitions.{NamedTrees, name_at, StandsIn}
-use Rattle.dom_laws.specs.Within.{behind}
-use Rattle.dom_traversal.specs.Definitions.{KeyedIterator, IsIteratorOf, iterator_rest, iterator_view, KeyedWalker, IsWalkerOf, walker_rest, walker_view}
-use Rattle.dom_laws.proofs.Laws.{In, Single, after-in, name_eq-from, filter-yes, filter-no, filter-same, no_first, all_single, above-within, within-member}
-use Rattle.dom_tree.proofs.Standing.{StandOnce, StandAlone}
-use Rattle.dom_tree.proofs.Searching.{IsWithin-key}
+use Rattle.dom_traversal.proofs.Trees.{above-within, accepts, after-in, all_single, ancestors, behind, Filter, filter-no, filter-same, filter-yes, first_of, In}
+use Rattle.dom_traversal.proofs.Trees.{inclusive_descendants, is_inclusive_ancestor, is_reject, is_shown, IsWithin-key, items_after, iterator_next_node}
+use Rattle.dom_traversal.proofs.Trees.{name_at, name_eq, name_eq-from, name_eq-other, NamedTrees, Next, no_first, node_in, NodeName, rejects, Single, Skip}
+use Rattle.dom_traversal.proofs.Trees.{StandAlone, StandOnce, StandsIn, verdict_at, Walker, walker_move, walker_nodes, within-member}
+use Rattle.dom_traversal.specs.Definitions.{IsIteratorOf, IsWalkerOf, iterator_rest, iterator_view, KeyedIterator, KeyedWalker, walker_rest, walker_view}
 use Rattle.dom_traversal.proofs.Fewer.{first-in}
 
 -- ---- in a list in which no name stands twice

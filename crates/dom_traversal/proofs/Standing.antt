@@ -3,32 +3,31 @@ use Rattle.dom_base.proofs.Std.{◌≡◌, inl, inr, ℕ, zero, suc, ◌+◌, �
 use Rattle.dom_base.proofs.Std.{arith, ◌&&◌, ◌||◌, Contains, remove, IsPartitionedBy, cases_Bool, cases_lt, eqb-true, eqb-false, ltb-true, ltb-false}
 use Rattle.dom_base.proofs.Std.{get_or_default, length-remove, get_or-remove_below, get_or-remove_above, Contains-append_cases, Contains-append_right}
 use Rattle.dom_base.proofs.Std.{Contains-permutation, IsPermutation-remove, IsPermutation-sym}
-use Rattle.dom_traversal.specs.declared.references.Reference.{Reference}
-use Rattle.dom_traversal.specs.Definitions.{AreSorted, IsBefore, IsUpTo, reference_at}
+use Rattle.dom_traversal.specs.Definitions.{AreSorted, IsBefore, IsUpTo, Reference, reference_at}
 
 -- whether a reference comes before another one
 abbrev pub is_before : Reference → Reference → Bool
-is_before y x = ltb x.node y.node || (eqb x.node y.node && ltb x.number y.number)
+is_before y x = ltb y.node x.node || (eqb x.node y.node && ltb x.number y.number)
 
 -- ---- what the test says
 
 pub before-true : (y x : Reference) → is_before y x ≡ true → IsBefore x y
-before-true y x = by (ltb x.node y.node) (eqb x.node y.node) refl refl refl
+before-true y x = by (ltb y.node x.node) (eqb x.node y.node) refl refl refl
   where
-    by : (a b : Bool) {c : Bool} → ltb x.node y.node ≡ a → eqb x.node y.node ≡ b → ltb x.number y.number ≡ c → a || (b && c) ≡ true → IsBefore x y
-    by true b f g h i = (omega (arith, ltb-true x.node y.node f), λ s. absurd (omega (arith, ltb-true x.node y.node f, s)))
+    by : (a b : Bool) {c : Bool} → ltb y.node x.node ≡ a → eqb x.node y.node ≡ b → ltb x.number y.number ≡ c → a || (b && c) ≡ true → IsBefore x y
+    by true b f g h i = (omega (arith, ltb-true y.node x.node f), λ s. absurd (omega (arith, ltb-true y.node x.node f, s)))
     by false true {c = true} f g h i = (omega (arith, eqb-true x.node y.node g), λ _. ltb-true x.number y.number h)
     by false true {c = false} f g h i = cc
     by false false f g h i = cc
 
 pub before-false : (y x : Reference) → is_before y x ≡ false → IsUpTo y x
-before-false y x = by (ltb x.node y.node) (eqb x.node y.node) refl refl refl
+before-false y x = by (ltb y.node x.node) (eqb x.node y.node) refl refl refl
   where
-    by : (a b : Bool) {c : Bool} → ltb x.node y.node ≡ a → eqb x.node y.node ≡ b → ltb x.number y.number ≡ c → a || (b && c) ≡ false → IsUpTo y x
+    by : (a b : Bool) {c : Bool} → ltb y.node x.node ≡ a → eqb x.node y.node ≡ b → ltb x.number y.number ≡ c → a || (b && c) ≡ false → IsUpTo y x
     by true b f g h i = cc
     by false true {c = true} f g h i = cc
-    by false true {c = false} f g h i = (ltb-false x.node y.node f, λ _. ltb-false x.number y.number h)
-    by false false f g h i = (ltb-false x.node y.node f, λ s. absurd (eqb-false x.node y.node g (sym s)))
+    by false true {c = false} f g h i = (ltb-false y.node x.node f, λ _. ltb-false x.number y.number h)
+    by false false f g h i = (ltb-false y.node x.node f, λ s. absurd (eqb-false x.node y.node g (sym s)))
 
 -- it parts a sorted list
 pub IsPartitionedBy-before : (y : Reference) (xs : List Reference) → AreSorted xs → IsPartitionedBy (is_before y) xs

@@ -1,12 +1,11 @@
 -- The nearest node above a node that the filter accepts or that is the top, and the nodes of its tree around that node.
 use Rattle.dom_base.proofs.Std.{◌≡◌, inl, inr, Bool, true, false, List, [], ◌∷◌, ◌++◌, Option, Some, None, refl, sym, ap, subst, ◌∙◌, true≢false, find}
 use Rattle.dom_base.proofs.Std.{unwrap_or, cases_Bool, or_right, or_from, or_parts}
-use Rattle.dom_model.proofs.Model.{NodeName, Filter, name_eq, first_of, accepts, Trees, inclusive_ancestors, ancestors, parent_of, children_of, next_sibling}
-use Rattle.dom_model.proofs.Model.{previous_sibling, inclusive_descendants, name_eq-other}
-use Rattle.dom_laws.specs.Within.{ahead_of, beyond}
+use Rattle.dom_traversal.proofs.Trees.{above-proper, accepts, ahead_of, ancestors, below-from_above, beyond, children_of, Filter, first_of, Has, Has-above}
+use Rattle.dom_traversal.proofs.Trees.{here, In, inclusive_ancestors, inclusive_descendants, IsWithin, name_eq, name_eq-from, name_eq-other, next_places}
+use Rattle.dom_traversal.proofs.Trees.{next_sibling, no_first, no_next, no_previous, NodeName, Once, parent-of_child, parent_of, previous_places}
+use Rattle.dom_traversal.proofs.Trees.{previous_sibling, proper-parent, stands_in, top_places, Trees, within-top}
 use Rattle.dom_traversal.specs.Definitions.{is_stop, stop_above}
-use Rattle.dom_laws.proofs.Laws.{In, name_eq-from, no_first, Has, Has-above, below-from_above, above-proper, proper-parent, Once, parent-of_child, IsWithin}
-use Rattle.dom_laws.proofs.Laws.{stands_in, here, within-top, next_places, no_next, previous_places, no_previous, top_places}
 use Rattle.dom_traversal.proofs.Opening.{not_above_itself}
 
 -- x stands below top

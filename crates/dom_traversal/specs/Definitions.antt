@@ -9,3 +9,7 @@ pub use Rattle.dom_traversal.specs.References.{AreListed, AreSorted, IsBefore, I
 pub use Rattle.dom_traversal.specs.Walkers.{Begins, BeginsBackward, BeginsForward, ComesBack, entered_by, is_accepted_but, is_candidate, is_entered, is_opened}
 pub use Rattle.dom_traversal.specs.Walkers.{is_passable, is_reached, is_stop, IsWalkerOf, KeyedWalker, reached_from, StepsBehind, StepsBeside, stop_above}
 pub use Rattle.dom_traversal.specs.Walkers.{stop_of, walker_at, walker_left, walker_rest, walker_view}
+pub use Rattle.dom_traversal.specs.declared.cursors.Cursors.TheInside.{Inside}
+pub use Rattle.dom_traversal.specs.declared.iter.Direction.{Direction}
+pub use Rattle.dom_traversal.specs.declared.iter.Direction.TheVariants.{Next, Previous}
+pub use Rattle.dom_traversal.specs.declared.references.Reference.{Reference}

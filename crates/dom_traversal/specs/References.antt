@@ -10,13 +10,13 @@ use Rattle.dom_traversal.specs.declared.references.Reference.{Reference}
 abbrev pub reference_at : ℕ → ℕ → Reference
 reference_at node number = record { node = node; number = number }
 
--- the first of two references comes before the second, by nodes and then by numbers
+-- the first of two references comes before the second, by nodes from the last one on, and then by numbers
 abbrev pub IsBefore : Reference → Reference → Type 0
-IsBefore x y = (x.node ≤ y.node) × (x.node ≡ y.node → x.number < y.number)
+IsBefore x y = (y.node ≤ x.node) × (x.node ≡ y.node → x.number < y.number)
 
 -- it does not come after the second
 abbrev pub IsUpTo : Reference → Reference → Type 0
-IsUpTo x y = (x.node ≤ y.node) × (x.node ≡ y.node → x.number ≤ y.number)
+IsUpTo x y = (y.node ≤ x.node) × (x.node ≡ y.node → x.number ≤ y.number)
 
 -- none comes after a later one
 abbrev pub AreSorted : List Reference → Type 0

@@ -1,5 +1,6 @@
 //! At which nodes an owner's iterators stand: their references in a sorted list, where those at one node are found by
-//! binary search.
+//! binary search. It goes from the node that was made last to the first one: an iterator begins at its root, which is
+//! made before most nodes in its tree, so that few references are moved for a new one.
 ghost use Rattle.std.specs.Prelude.{◌≡◌, ◌⊎◌, true, ℕ, ◌<◌, ◌≤◌, length, slice_index_or, IsSome};
 ghost use Rattle.std.specs.List.{Contains};
 ghost use Rattle.std.specs.Option.{ForSome};
@@ -22,7 +23,7 @@ fn place_of(references: &[Reference], node: Key, number: usize) -> usize
     ensures before { (k : ℕ) (d : Reference) → k < result → IsBefore (slice_index_or references.now k d) (reference_at node number) }
     ensures from { (k : ℕ) (d : Reference) → result ≤ k → k < length references.now → IsUpTo (reference_at node number) (slice_index_or references.now k d) }
 {
-    references.partition_point(|reference| reference.node < node
+    references.partition_point(|reference| node < reference.node
         || reference.node == node && reference.number < number)
 }
 
@@ -50,28 +51,28 @@ pub(crate) fn number_at(
     None
 }
 
-/// Whether all references before a place are lesser nodes than one.
+/// Whether all references before a place are greater nodes than one.
 fn are_before(references: &[Reference], place: usize, node: Key) -> bool
     requires sorted { AreSorted references.now }
     requires within { place ≤ length references.now }
-    ensures { result ≡ true → (k : ℕ) (d : Reference) → k < place → (slice_index_or references.now k d).node < node }
+    ensures { result ≡ true → (k : ℕ) (d : Reference) → k < place → node < (slice_index_or references.now k d).node }
 {
     if place == 0 {
         return true;
     }
-    references[place - 1].node < node
+    node < references[place - 1].node
 }
 
-/// Whether all references from a place on are greater nodes than one.
+/// Whether all references from a place on are lesser nodes than one.
 fn are_behind(references: &[Reference], place: usize, node: Key) -> bool
     requires sorted { AreSorted references.now }
     requires within { place ≤ length references.now }
-    ensures { result ≡ true → (k : ℕ) (d : Reference) → place ≤ k → k < length references.now → node < (slice_index_or references.now k d).node }
+    ensures { result ≡ true → (k : ℕ) (d : Reference) → place ≤ k → k < length references.now → (slice_index_or references.now k d).node < node }
 {
     if place == references.len() {
         return true;
     }
-    node < references[place].node
+    references[place].node < node
 }
 
 /// Lists the reference of one iterator more, for which there is room.

@@ -1,8 +1,5 @@
 use Rattle.dom_base.proofs.Std.{◌≡◌, ◌<◌, true, true≢false, List, length, sym, ap, subst, ◌∙◌, option_map}
-use Rattle.dom_model.proofs.Model.{NodeName, name_eq, is_in, is_inclusive_ancestor}
-use Rattle.dom_laws.proofs.Laws.{keeps_placed}
-use Rattle.dom_tree.specs.Definitions.{name_at}
-use Rattle.dom_tree.proofs.Standing.{Has-forest, Once-forest}
+use Rattle.dom_traversal.proofs.Trees.{Has-forest, is_in, is_inclusive_ancestor, keeps_placed, name_at, name_eq, NodeName, Once-forest}
 use Rattle.dom_traversal.proofs.iter.law_iterators_go_along.Goals as goal
 
 pub returns-clause-taken_out : goal.returns-clause-taken_out

@@ -1,7 +1,4 @@
-use Rattle.dom_tree.specs.Definitions.{name_at}
-use Rattle.dom_tree.proofs.Standing.{Has-forest}
-use Rattle.dom_tree.proofs.Searching.{IsWithin-key}
-use Rattle.dom_laws.proofs.Laws.{stays}
+use Rattle.dom_traversal.proofs.Trees.{Has-forest, IsWithin-key, name_at, stays}
 use Rattle.dom_traversal.proofs.iter.law_iterators_stay.Goals as goal
 
 pub returns : goal.returns

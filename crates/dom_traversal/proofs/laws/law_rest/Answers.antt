@@ -1,7 +1,6 @@
 use Rattle.dom_base.proofs.Std.{sym}
 use Rattle.dom_traversal.specs.Definitions.{iterator_rest}
-use Rattle.dom_laws.proofs.Laws.{above-itself, no_first}
-use Rattle.dom_tree.specs.Definitions.{name_at}
+use Rattle.dom_traversal.proofs.Trees.{above-itself, name_at, no_first}
 use Rattle.dom_traversal.proofs.Rest.{iterator-rest, walker-rest, walker-stays, walker-end}
 use Rattle.dom_traversal.proofs.laws.law_rest.Goals as goal
 

@@ -1,5 +1,5 @@
 use Rattle.dom_base.proofs.Std.{◌-◌, get_or, ap, arith, rules, ◌<◌, get_or_default}
-use Rattle.dom_traversal.specs.declared.references.Reference.{Reference}
+use Rattle.dom_traversal.specs.Definitions.{Reference}
 use Rattle.dom_traversal.proofs.references.are_before.Goals as goal
 
 pub returns : goal.returns
@@ -7,5 +7,5 @@ returns c = λ e k d l.
     let xs = c.args.references.now in
     let last = c.args.place - 1 in
     let end = c.index-references-place.result in
-    let less : (get_or xs last end).node < c.args.node = search rules in
+    let less : c.args.node < (get_or xs last end).node = search rules in
     omega (arith, less, ap (λ (x : Reference). x.node) (get_or_default xs last d end (omega arith)), (c.requires.sorted k last d (omega arith) (omega arith)).0)

@@ -1,6 +1,5 @@
 use Rattle.dom_base.proofs.Std.{◌≡◌, inl, inr, ℕ, ◌<◌, ◌≤◌, List, length, get_or, sym, subst, Contains}
-use Rattle.dom_traversal.specs.declared.references.Reference.{Reference}
-use Rattle.dom_traversal.specs.Definitions.{AreSorted, IsBefore, IsUpTo, reference_at}
+use Rattle.dom_traversal.specs.Definitions.{AreSorted, IsBefore, IsUpTo, Reference, reference_at}
 use Rattle.dom_traversal.proofs.Standing.{place-is, AreSorted-removed, Contains-removed, Contains-was}
 use Rattle.dom_traversal.proofs.references.bring.Goals as goal
 

@@ -1,6 +1,5 @@
 use Rattle.dom_base.proofs.Std.{◌≤◌, inl, inr, ap, refl, sym, subst, ◌∙◌, arith, same_Some, cases_lt, eqb-false}
-use Rattle.dom_traversal.specs.declared.references.Reference.{Reference}
-use Rattle.dom_traversal.specs.Definitions.{reference_at}
+use Rattle.dom_traversal.specs.Definitions.{Reference, reference_at}
 use Rattle.dom_traversal.proofs.Standing.{place-between}
 use Rattle.dom_traversal.proofs.references.number_at.Goals as goal
 use Rattle.dom_traversal.proofs.references.number_at.Goals.{else-place-references-via-then-place-references+else-eq}

@@ -1,9 +1,5 @@
 use Rattle.dom_base.proofs.Std.{◌≡◌, refl, sym, ap, subst, ◌∙◌, not-false, eqb-true}
-use Rattle.dom_model.proofs.Model.{first_of}
-use Rattle.dom_tree.specs.Definitions.{name_at}
-use Rattle.dom_laws.specs.Within.{beyond}
-use Rattle.dom_laws.proofs.Laws.{IsWithin, top_places, no_key}
-use Rattle.dom_tree.proofs.Searching.{IsWithin-key}
+use Rattle.dom_traversal.proofs.Trees.{beyond, first_of, IsWithin, IsWithin-key, name_at, no_key, top_places}
 use Rattle.dom_traversal.proofs.Climbing.{Climbs, inner-name, next_step, climb_step, climb_ends}
 use Rattle.dom_traversal.proofs.search.beyond.Goals.{In_ok-at}
 use Rattle.dom_traversal.proofs.search.beyond.Goals as goal

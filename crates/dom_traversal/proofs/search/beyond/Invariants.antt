@@ -1,7 +1,5 @@
 use Rattle.dom_base.proofs.Std.{◌≡◌, length}
-use Rattle.dom_model.proofs.Model.{inclusive_ancestors}
-use Rattle.dom_tree.specs.Definitions.{name_at, StandsIn}
-use Rattle.dom_laws.specs.Within.{beyond}
+use Rattle.dom_traversal.proofs.Trees.{beyond, inclusive_ancestors, name_at, StandsIn}
 use Rattle.dom_traversal.proofs.search.beyond.Given as goal
 
 abbrev pub invariant-loop-top : goal.invariant-loop-top

@@ -1,8 +1,7 @@
 use Rattle.dom_base.proofs.Std.{◌≡◌, true, option_map, refl, sym, ap, subst, ◌∙◌, is_some, slice_get, slice_set, ForSome, IsSome}
-use Rattle.dom_tree.specs.Definitions.{name_at}
-use Rattle.dom_traversal.specs.Definitions.{iterator_view, iterator_at, IsIteratorOf, iterator_found, stands_before, KeyedTables, EachItem, cursors_of}
+use Rattle.dom_traversal.proofs.Trees.{name_at}
+use Rattle.dom_traversal.specs.Definitions.{cursors_of, EachItem, Inside, IsIteratorOf, iterator_at, iterator_found, iterator_view, KeyedTables, stands_before}
 use Rattle.dom_traversal.specs.Definitions.{with_cursors}
-use Rattle.dom_traversal.specs.declared.cursors.Cursors.TheInside.{Inside}
 use Rattle.dom_traversal.proofs.Owners.{had, written}
 use Rattle.dom_traversal.proofs.cursors.Cursors.traverse.Goals as goal
 

@@ -1,8 +1,6 @@
 use Rattle.dom_base.proofs.Std.{◌≡◌, true, option_map, refl, sym, ap, subst, ◌∙◌, is_some, slice_get, slice_set, ForSome, IsSome}
-use Rattle.dom_model.proofs.Model.{walker_move}
-use Rattle.dom_tree.specs.Definitions.{name_at}
-use Rattle.dom_traversal.specs.Definitions.{walker_view, walker_at, IsWalkerOf, KeyedTables, EachItem, cursors_of, with_cursors}
-use Rattle.dom_traversal.specs.declared.cursors.Cursors.TheInside.{Inside}
+use Rattle.dom_traversal.proofs.Trees.{name_at, walker_move}
+use Rattle.dom_traversal.specs.Definitions.{cursors_of, EachItem, Inside, IsWalkerOf, KeyedTables, walker_at, walker_view, with_cursors}
 use Rattle.dom_traversal.proofs.Owners.{had, written}
 use Rattle.dom_traversal.proofs.cursors.Cursors.walk.Goals as goal
 

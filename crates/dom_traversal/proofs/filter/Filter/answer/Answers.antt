@@ -1,7 +1,6 @@
 use Rattle.dom_base.proofs.Std.{◌≡◌, ℕ, Bool, true, false, List, Option, Some, None, refl, ap, ◌∙◌, if◌then◌else◌, option_map}
-use Rattle.dom_model.proofs.Model.{Skip, Show, NameFilter, text_eq, is_shown, verdict_at, Node, is_element, node_in}
-use Rattle.dom_tree.specs.Definitions.{name_at}
-use Rattle.dom_traversal.specs.Definitions.{show_of, name_filter_of}
+use Rattle.dom_traversal.proofs.Trees.{is_element, is_shown, name_at, NameFilter, Node, node_in, Show, Skip, text_eq, verdict_at}
+use Rattle.dom_traversal.specs.Definitions.{name_filter_of, show_of}
 use Rattle.dom_traversal.proofs.filter.Filter.answer.Goals as goal
 
 -- what a named filter answers at an element that is shown

@@ -1,10 +1,6 @@
 use Rattle.dom_base.proofs.Std.{ap, sym, ◌∙◌, filter, option_map}
-use Rattle.dom_model.proofs.Model.{last_of, accepts}
-use Rattle.dom_tree.specs.Definitions.{name_at}
-use Rattle.dom_laws.specs.Within.{ahead_of, up_to_node}
+use Rattle.dom_traversal.proofs.Trees.{accepts, ahead_of, last-hit, last_of, left-ahead, length-ahead, name_at, preceding_step, up_to_node}
 use Rattle.dom_traversal.specs.Definitions.{filter_of}
-use Rattle.dom_tree.proofs.Searching.{preceding_step, length-ahead, left-ahead}
-use Rattle.dom_laws.proofs.Laws.{last-hit}
 use Rattle.dom_traversal.proofs.filter.Filter.last_up_to.Goals as goal
 
 pub loop-at-smaller : goal.loop-at-smaller

@@ -1,11 +1,7 @@
 use Rattle.dom_base.proofs.Std.{◌≡◌, true, ◌∷◌, refl, sym, ap, ◌∙◌, and_from, option_map}
-use Rattle.dom_model.proofs.Model.{NodeName, is_inclusive_ancestor}
-use Rattle.dom_tree.specs.Definitions.{name_at}
+use Rattle.dom_traversal.proofs.Trees.{above-within, Has-forest, is_inclusive_ancestor, IsWithin-forest, IsWithin-itself, name_at, NodeName, none_left}
 use Rattle.dom_traversal.specs.Definitions.{filter_of, is_entered}
-use Rattle.dom_laws.proofs.Laws.{above-within, none_left}
-use Rattle.dom_tree.proofs.Standing.{IsWithin-forest, Has-forest}
 use Rattle.dom_traversal.proofs.Backward.{alone, descends}
-use Rattle.dom_tree.proofs.Searching.{IsWithin-itself}
 use Rattle.dom_traversal.proofs.filter.Filter.lowest.Goals as goal
 
 pub returns-in_default-clause-ends : goal.returns-in_default-clause-ends

@@ -1,8 +1,6 @@
 use Rattle.dom_base.proofs.Std.{◌≡◌, ◌<◌, ◌++◌, List, length, true, Some, list_all}
-use Rattle.dom_model.proofs.Model.{NodeName, ancestors, inclusive_descendants, is_inclusive_ancestor}
-use Rattle.dom_tree.specs.Definitions.{name_at}
+use Rattle.dom_traversal.proofs.Trees.{ancestors, inclusive_descendants, is_inclusive_ancestor, name_at, NodeName, up_to_tree}
 use Rattle.dom_traversal.specs.Definitions.{filter_of, is_entered}
-use Rattle.dom_laws.specs.Within.{up_to_tree}
 use Rattle.dom_traversal.proofs.filter.Filter.lowest.Given as goal
 
 abbrev pub invariant-loop-at : goal.invariant-loop-at

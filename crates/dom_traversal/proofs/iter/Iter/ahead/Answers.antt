@@ -1,9 +1,6 @@
 use Rattle.dom_base.proofs.Std.{◌≡◌, false, refl, sym, ap, subst, ◌∙◌, option_map}
-use Rattle.dom_model.proofs.Model.{first_of, Iterator, nodes_ahead, Trees}
-use Rattle.dom_tree.specs.Definitions.{name_at}
-use Rattle.dom_laws.specs.Within.{behind}
-use Rattle.dom_traversal.specs.Definitions.{KeyedIterator, iterator_view}
-use Rattle.dom_tree.proofs.Searching.{following_step}
+use Rattle.dom_traversal.proofs.Trees.{behind, first_of, following_step, Iterator, name_at, nodes_ahead, Trees}
+use Rattle.dom_traversal.specs.Definitions.{iterator_view, KeyedIterator}
 use Rattle.dom_traversal.proofs.iter.Iter.ahead.Goals as goal
 
 nodes_ahead-behind : (ts : Trees) (i : Iterator) → i.before ≡ false → behind ts i.root i.reference ≡ nodes_ahead ts i

@@ -1,8 +1,6 @@
 use Rattle.dom_base.proofs.Std.{◌≡◌, ◌<◌, false, Some, subst, sym, ap, ◌∙◌, filter, option_map}
-use Rattle.dom_model.proofs.Model.{first_of, accepts}
-use Rattle.dom_tree.specs.Definitions.{name_at}
-use Rattle.dom_traversal.specs.Definitions.{KeyedIterator, iterator_left}
-use Rattle.dom_laws.specs.Within.{from_node}
+use Rattle.dom_traversal.proofs.Trees.{accepts, first_of, from_node, name_at}
+use Rattle.dom_traversal.specs.Definitions.{iterator_left, KeyedIterator}
 use Rattle.dom_traversal.proofs.Fewer.{iterator_fewer}
 use Rattle.dom_traversal.proofs.iter.Iter.next.Goals as goal
 

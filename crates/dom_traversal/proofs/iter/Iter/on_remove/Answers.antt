@@ -1,11 +1,8 @@
 use Rattle.dom_base.proofs.Std.{◌≡◌, ℕ, ◌<◌, length, true, false, Option, Some, refl, sym, ap, subst, ◌∙◌, inl, inr, option_map, both_ways}
-use Rattle.dom_model.proofs.Model.{last_of, is_inclusive_ancestor, NodeName}
-use Rattle.dom_tree.specs.Definitions.{NamedTrees, name_at, StandsIn}
-use Rattle.dom_laws.specs.Within.{ahead_of}
+use Rattle.dom_traversal.proofs.Trees.{above-chain, above-within, ahead-outside, ahead_of, beyond-outside, Has-forest, In-from, In-not, is_in-from}
+use Rattle.dom_traversal.proofs.Trees.{is_inclusive_ancestor, IsWithin-key, last_of, name_at, NamedTrees, NodeName, none_left, Once-forest, preceding_step}
+use Rattle.dom_traversal.proofs.Trees.{some_ahead, StandAlone, StandOnce, StandsIn, within-top}
 use Rattle.dom_traversal.specs.Definitions.{IsIteratorOf}
-use Rattle.dom_laws.proofs.Laws.{In-from, In-not, is_in-from, above-within, within-top, none_left, above-chain, beyond-outside, ahead-outside, some_ahead}
-use Rattle.dom_tree.proofs.Standing.{StandOnce, StandAlone, Once-forest, Has-forest}
-use Rattle.dom_tree.proofs.Searching.{IsWithin-key, preceding_step}
 use Rattle.dom_traversal.proofs.iter.Iter.on_remove.Goals.{Else-not-is_inclusive_ancestor}
 use Rattle.dom_traversal.proofs.iter.Iter.on_remove.Goals as goal
 

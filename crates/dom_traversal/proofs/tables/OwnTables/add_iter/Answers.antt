@@ -1,6 +1,5 @@
 use Rattle.dom_base.proofs.Std.{◌≡◌, ◌⊎◌, List, length, sym, subst, ap, arith, Contains}
-use Rattle.dom_traversal.specs.Definitions.{KeyedIterator, AreListed, reference_at}
-use Rattle.dom_traversal.specs.declared.references.Reference.{Reference}
+use Rattle.dom_traversal.specs.Definitions.{AreListed, KeyedIterator, Reference, reference_at}
 use Rattle.dom_traversal.proofs.Listing.{AreListed-added}
 use Rattle.dom_traversal.proofs.tables.OwnTables.add_iter.Goals as goal
 

@@ -1,9 +1,5 @@
 use Rattle.dom_base.proofs.Std.{inl, inr, Some, refl, sym, subst, ◌∙◌, slice_get, cases_Bool}
-use Rattle.dom_model.proofs.Model.{name_eq, is_in, inclusive_descendants}
-use Rattle.dom_tree.specs.Definitions.{name_at}
-use Rattle.dom_laws.proofs.Laws.{In-from, In-not, outside-test}
-use Rattle.dom_tree.proofs.Standing.{Once-forest}
-use Rattle.dom_tree.proofs.Searching.{following_step}
+use Rattle.dom_traversal.proofs.Trees.{following_step, In-from, In-not, inclusive_descendants, is_in, name_at, name_eq, Once-forest, outside-test}
 use Rattle.dom_traversal.specs.Definitions.{IsLeftIf}
 use Rattle.dom_traversal.proofs.Leaving.{may-none, may-may, may-items, may-left, left-may, all-left, left-outside}
 use Rattle.dom_traversal.proofs.Inside.{from_key, all-from_top, top-stands, next-from}

@@ -1,8 +1,6 @@
 use Rattle.dom_base.proofs.Std.{◌≡◌, ◌⊎◌, ℕ, Some, slice_get, ForSome}
-use Rattle.dom_model.proofs.Model.{inclusive_descendants}
-use Rattle.dom_tree.specs.Definitions.{name_at, StandsIn}
-use Rattle.dom_traversal.specs.Definitions.{KeyedIterator, IsLeftIf, MayHaveLeft}
-use Rattle.dom_laws.proofs.Laws.{In}
+use Rattle.dom_traversal.proofs.Trees.{In, inclusive_descendants, name_at, StandsIn}
+use Rattle.dom_traversal.specs.Definitions.{IsLeftIf, KeyedIterator, MayHaveLeft}
 use Rattle.dom_traversal.proofs.Inside.{from_key}
 use Rattle.dom_traversal.proofs.tables.OwnTables.leave.Given as goal
 

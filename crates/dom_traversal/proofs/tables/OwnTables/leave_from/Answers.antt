@@ -1,6 +1,5 @@
 use Rattle.dom_base.proofs.Std.{◌≡◌, ℕ, ◌<◌, List, Some, length, refl, ap, sym, subst, ◌∙◌, arith, true≢false, slice_get, Contains}
-use Rattle.dom_traversal.specs.Definitions.{KeyedIterator, KeyedTables, IsLeftIf, AreListed, reference_at}
-use Rattle.dom_traversal.specs.declared.references.Reference.{Reference}
+use Rattle.dom_traversal.specs.Definitions.{AreListed, IsLeftIf, KeyedIterator, KeyedTables, Reference, reference_at}
 use Rattle.dom_traversal.proofs.Leaving.{may-items, have_left-more, have_left-all}
 use Rattle.dom_traversal.proofs.tables.OwnTables.leave_from.Goals as goal
 

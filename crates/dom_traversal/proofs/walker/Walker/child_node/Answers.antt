@@ -1,8 +1,6 @@
 use Rattle.dom_base.proofs.Std.{◌≡◌, sym, ap, subst, ◌∙◌, option_map, ForSome}
-use Rattle.dom_model.proofs.Model.{walker_move}
-use Rattle.dom_tree.specs.Definitions.{name_at}
-use Rattle.dom_traversal.specs.Definitions.{child_move, filter_of, KeyedWalker, walker_view, stop_of, IsWalkerOf, Begins, reached_from}
-use Rattle.dom_laws.proofs.Laws.{within-itself}
+use Rattle.dom_traversal.proofs.Trees.{name_at, walker_move, within-itself}
+use Rattle.dom_traversal.specs.Definitions.{Begins, child_move, filter_of, IsWalkerOf, KeyedWalker, reached_from, stop_of, walker_view}
 use Rattle.dom_traversal.proofs.Climbing.{walker-within}
 use Rattle.dom_traversal.proofs.BeginningBack.{Begins-outer, Child-found}
 use Rattle.dom_traversal.proofs.walker.Walker.child_node.Goals as goal

@@ -1,7 +1,6 @@
 use Rattle.dom_base.proofs.Std.{length, option_map}
-use Rattle.dom_tree.specs.Definitions.{name_at}
+use Rattle.dom_traversal.proofs.Trees.{name_at, up_to_tree}
 use Rattle.dom_traversal.specs.Definitions.{filter_of, KeyedWalker}
-use Rattle.dom_laws.specs.Within.{up_to_tree}
 use Rattle.dom_traversal.proofs.Reaching.{stop_from}
 use Rattle.dom_traversal.proofs.ReachingBack.{ReachesBack}
 use Rattle.dom_traversal.proofs.walker.Walker.last_reached.Given as goal

@@ -1,9 +1,6 @@
 use Rattle.dom_base.proofs.Std.{◌<◌, length, Option, Some, sym, ap, subst, ◌∙◌, option_map}
-use Rattle.dom_model.proofs.Model.{NodeName, Walker}
-use Rattle.dom_tree.specs.Definitions.{name_at}
-use Rattle.dom_traversal.specs.Definitions.{filter_of, walker_view, IsWalkerOf}
-use Rattle.dom_laws.specs.Within.{from_node}
-use Rattle.dom_laws.proofs.Laws.{above-within}
+use Rattle.dom_traversal.proofs.Trees.{above-within, from_node, name_at, NodeName, Walker}
+use Rattle.dom_traversal.specs.Definitions.{filter_of, IsWalkerOf, walker_view}
 use Rattle.dom_traversal.proofs.Climbing.{walker-within}
 use Rattle.dom_traversal.proofs.Forward.{shorter-skip, shorter-reject}
 use Rattle.dom_traversal.proofs.Passing.{Comes-begin, ComesNext, ComesNext-skip, ComesNext-reject}

@@ -1,8 +1,6 @@
 use Rattle.dom_base.proofs.Std.{◌<◌, length, option_map, ForSome}
-use Rattle.dom_model.proofs.Model.{first_of, Walker, accepts, walker_nodes}
-use Rattle.dom_tree.specs.Definitions.{name_at}
-use Rattle.dom_traversal.specs.Definitions.{filter_of, walker_view, is_passable}
-use Rattle.dom_laws.specs.Within.{behind, from_node}
+use Rattle.dom_traversal.proofs.Trees.{accepts, behind, first_of, from_node, name_at, Walker, walker_nodes}
+use Rattle.dom_traversal.specs.Definitions.{filter_of, is_passable, walker_view}
 use Rattle.dom_traversal.proofs.Forward.{Comes}
 use Rattle.dom_traversal.proofs.walker.Walker.next_node.Given as goal
 

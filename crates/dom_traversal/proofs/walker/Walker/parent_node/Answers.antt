@@ -1,8 +1,7 @@
 use Rattle.dom_base.proofs.Std.{sym, ap, subst, ◌∙◌, refl}
 use Rattle.dom_base.specs.declared.Move.TheVariants as moves
-use Rattle.dom_model.proofs.Model.{walker_move}
-use Rattle.dom_tree.specs.Definitions.{name_at}
-use Rattle.dom_traversal.specs.Definitions.{filter_of, KeyedWalker, walker_view, IsWalkerOf}
+use Rattle.dom_traversal.proofs.Trees.{name_at, walker_move}
+use Rattle.dom_traversal.specs.Definitions.{filter_of, IsWalkerOf, KeyedWalker, walker_view}
 use Rattle.dom_traversal.proofs.Climbing.{inner-name, inner-within, climb_ends, parent_step}
 use Rattle.dom_traversal.proofs.Beginning.{move-step}
 use Rattle.dom_traversal.proofs.Parents.{above-hit, above-miss}

@@ -1,9 +1,7 @@
 use Rattle.dom_base.proofs.Std.{◌≡◌, ℕ, true, sym, ap, subst, ◌∙◌, Option, option_map}
 use Rattle.dom_base.specs.declared.Move.TheVariants as moves
-use Rattle.dom_model.proofs.Model.{last_of, accepts, walker_nodes, is_inclusive_ancestor}
-use Rattle.dom_tree.specs.Definitions.{name_at}
-use Rattle.dom_traversal.specs.Definitions.{filter_of, KeyedWalker, walker_view, IsWalkerOf, ComesBack}
-use Rattle.dom_laws.specs.Within.{up_to_node}
+use Rattle.dom_traversal.proofs.Trees.{accepts, is_inclusive_ancestor, last_of, name_at, up_to_node, walker_nodes}
+use Rattle.dom_traversal.specs.Definitions.{ComesBack, filter_of, IsWalkerOf, KeyedWalker, walker_view}
 use Rattle.dom_traversal.proofs.Climbing.{walker-within}
 use Rattle.dom_traversal.proofs.Backward.{Returns-begin, ComesBack-key, back-hit, back-miss}
 use Rattle.dom_traversal.proofs.Beginning.{move-step}

@@ -1,8 +1,6 @@
 use Rattle.dom_base.proofs.Std.{◌≡◌, length, option_map, ForSome}
-use Rattle.dom_model.proofs.Model.{last_of, walker_nodes}
-use Rattle.dom_tree.specs.Definitions.{name_at}
-use Rattle.dom_traversal.specs.Definitions.{walker_view, ComesBack}
-use Rattle.dom_laws.specs.Within.{ahead_of, up_to_node}
+use Rattle.dom_traversal.proofs.Trees.{ahead_of, last_of, name_at, up_to_node, walker_nodes}
+use Rattle.dom_traversal.specs.Definitions.{ComesBack, walker_view}
 use Rattle.dom_traversal.proofs.walker.Walker.previous_node.Given as goal
 
 abbrev pub invariant-loop-at : goal.invariant-loop-at

@@ -1,7 +1,6 @@
 use Rattle.dom_base.proofs.Std.{◌≡◌, sym, ap, subst, ◌∙◌, option_map, ForSome}
-use Rattle.dom_model.proofs.Model.{walker_move}
-use Rattle.dom_tree.specs.Definitions.{name_at}
-use Rattle.dom_traversal.specs.Definitions.{sibling_move, filter_of, KeyedWalker, walker_view, stop_of, IsWalkerOf, Begins, reached_from}
+use Rattle.dom_traversal.proofs.Trees.{name_at, walker_move}
+use Rattle.dom_traversal.specs.Definitions.{Begins, filter_of, IsWalkerOf, KeyedWalker, reached_from, sibling_move, stop_of, walker_view}
 use Rattle.dom_traversal.proofs.Climbing.{walker-inner}
 use Rattle.dom_traversal.proofs.Aside.{IsBelow-inner, inner-below, stop-some}
 use Rattle.dom_traversal.proofs.BeginningBack.{Begins-beside, Sibling-found}
