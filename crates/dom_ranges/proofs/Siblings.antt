@@ -44,6 +44,17 @@ module _ (ts : Trees) (once : Once ts) where
           ap (λ ys. length (items_before name_eq x ys)) (siblings_are x p up) ∙ ap (length {A = NodeName}) front.1 in
           omega (arith, its, own, length-append front.0 (s ∷ []))
 
+  -- there is one child more than the last one's index
+  pub length-last : (p x : NodeName) → Has ts p → parent_of ts x ≡ Some p → last_of (children_of ts p) ≡ Some x →
+      length (children_of ts p) ≡ index_of ts x + 1
+  length-last p x at up e =
+      let front = last_split (children_of ts p) x e in
+      let single : Single (front.0 ++ x ∷ []) = subst Single front.1 (children-single ts p once at) in
+      let its : index_of ts x ≡ length front.0 =
+      ap (λ ys. length (items_before name_eq x ys)) (siblings_are x p up ∙ front.1)
+      ∙ ap (length {A = NodeName}) (before-split x front.0 [] (λ i. Single-apart x front.0 (x ∷ []) single i (inl refl))) in
+      omega (arith, its, ap (length {A = NodeName}) front.1, length-append front.0 (x ∷ []))
+
 -- a walk from sibling to sibling, by keys
 module _ (f : NamedTrees) (once : StandOnce f) (only : StandAlone f) (k : ℕ) (node : k < length f.names) (before : Option ℕ)
     (is : option_map (name_at f.names) before ≡ previous_sibling f.trees (name_at f.names k)) where

@@ -20,7 +20,7 @@ use crate::indexes::{index_among_ends, index_before_ends, reach};
 use crate::moving::{drop_range, move_concerned, put_end};
 use crate::numbers::Numbers;
 use crate::removing::move_out;
-use crate::setting::{with_end, with_start};
+use crate::setting::{is_past_end, with_end, with_start};
 use dom_base::{Fault, MAX_NODES, Owner, Refusal};
 use dom_tree::Forest;
 use node_arena::Key;
@@ -222,7 +222,7 @@ impl RangeTable {
         ensures points { IfOk result (λ points. range_in (ranges_of self.now owner) number ≡ Some (range_from points)) }
     {
         let points = self.points(owner, number).ok_or(Refusal::Unknown)?;
-        if forest.length(node) < offset {
+        if is_past_end(forest, node, offset) {
             return Err(Refusal::IndexSize);
         }
         Ok(points)
