@@ -2,7 +2,7 @@
 use Rattle.dom_base.proofs.Std.{◌≡◌, inl, inr, ℕ, ◌+◌, ◌-◌, ◌<◌, ◌^◌, Bool, true, false, cond, [], ◌∷◌, ◌++◌, eqb, nat_lt, Option, Some, None, refl, sym, ap}
 use Rattle.dom_base.proofs.Std.{subst, ◌∙◌, arith, slice_get, slice_set, ◌&&◌, option_map, option_flatten, cases_eq, same_Some, none-some}
 use Rattle.dom_model.proofs.Model.{Boundary, Range, at, boundary_eq, after_split}
-use Rattle.dom_ranges.specs.Definitions.{Fits, RangeList, EachRange, BothEnds, range_in}
+use Rattle.dom_ranges.specs.Definitions.{BothEnds, EachRange, Fits, range_in, RangeList}
 use Rattle.dom_ranges.proofs.Lists.{set-at, set-other, append-cases}
 
 module _ (P : Boundary ℕ → Type 0) where

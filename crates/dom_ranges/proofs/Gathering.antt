@@ -4,10 +4,8 @@ use Rattle.dom_base.proofs.Std.{arith, SwappedAt, RotatedLeft, remove, IsPermuta
 use Rattle.dom_base.proofs.Std.{cases_eq, cases_lt, cases_order, le-leb, lt-ltb, append-nil, drop_at, take_all, get_or-take, get_or-drop, length-drop}
 use Rattle.dom_base.proofs.Std.{length-set, get_or-set_same, take-set-le, drop-set-lt, get_or_append_left, get_or-append_right, length-take-le}
 use borrow.Rule.Slice.PartMut.{put_mid, mid_of}
-use Rattle.dom_ranges.specs.declared.ends.RangeEnd.{RangeEnd}
-use Rattle.dom_ranges.specs.declared.ends.Span.{Span}
+use Rattle.dom_ranges.specs.Definitions.{AreAt, AtMostBut, HasChanged, is_in, IsFirm, IsOrdered, IsSortedBeside, IsTurned, point_of, RangeEnd, Span}
 use Rattle.dom_model.proofs.Model.{Boundary}
-use Rattle.dom_ranges.specs.Definitions.{AreAt, AtMostBut, IsFirm, IsOrdered, IsSortedBeside, IsTurned, HasChanged, is_in, point_of}
 use Rattle.dom_ranges.proofs.Orders.{points_same}
 
 -- an end that is not at the node was put before those that are

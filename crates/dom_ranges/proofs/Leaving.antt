@@ -4,11 +4,9 @@ use Rattle.dom_base.proofs.Std.{nat_lt, refl, sym, ap, ◌∙◌, subst, arith, 
 use Rattle.dom_base.proofs.Std.{slice_get-map}
 use Rattle.slab.specs.Slab.{Slab, get}
 use Rattle.dom_model.proofs.Model.{Owner, Boundary, at, map_ends, after_insert, after_removal, after_join}
-use Rattle.dom_ranges.specs.declared.numbers.Numbers.{Numbers}
-use Rattle.dom_ranges.specs.declared.table.Points.{Points}
-use Rattle.dom_ranges.specs.declared.ends.RangeEnd.{RangeEnd}
-use Rattle.dom_ranges.specs.Definitions.{RangeLists, RangeList, EachRange, BothEnds, ranges_of, range_from, ends_by, HaveNumbers, range_kept, slots_of}
-use Rattle.dom_ranges.specs.Definitions.{IsListed, IsSortedByPoint, point_of, end_of, end_in, IsUpTo, IsNear, after_leaving, after_closing}
+use Rattle.dom_ranges.specs.Definitions.{after_closing, after_leaving, BothEnds, EachRange, end_in, end_of, ends_by, HaveNumbers, IsListed, IsNear}
+use Rattle.dom_ranges.specs.Definitions.{IsSortedByPoint, IsUpTo, Numbers, point_of, Points, range_from, range_kept, RangeEnd, RangeList, RangeLists, ranges_of}
+use Rattle.dom_ranges.specs.Definitions.{slots_of}
 use Rattle.dom_ranges.proofs.Lists.{cons_same}
 use Rattle.dom_ranges.proofs.Listing.{listed-once}
 use Rattle.dom_ranges.proofs.Moved.{both_same}

@@ -6,9 +6,8 @@ use Rattle.dom_base.proofs.Std.{sum_by-append, get_or-le-sum_by, IsPermutation-r
 use Rattle.dom_base.proofs.Std.{All-permutation, sum_by-IsPermutation, same_Some}
 use Rattle.slab.specs.Slab.{Slab, get, Updates}
 use Rattle.dom_model.proofs.Model.{Boundary}
-use Rattle.dom_ranges.specs.declared.table.Points.{Points}
-use Rattle.dom_ranges.specs.declared.ends.RangeEnd.{RangeEnd}
-use Rattle.dom_ranges.specs.Definitions.{is_end_of, times, point_at, point_of, end_of, Stands, IsListed, IsListedOnce, HasChanged, end_in, with_end_at}
+use Rattle.dom_ranges.specs.Definitions.{end_in, end_of, HasChanged, is_end_of, IsListed, IsListedOnce, point_at, point_of, Points, RangeEnd, Stands, times}
+use Rattle.dom_ranges.specs.Definitions.{with_end_at}
 
 -- one for true
 abbrev bit : Bool → ℕ

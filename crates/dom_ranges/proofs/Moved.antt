@@ -3,11 +3,8 @@ use Rattle.dom_base.proofs.Std.{◌≡◌, ◌⊎◌, inl, inr, ℕ, ◌<◌, �
 use Rattle.dom_base.proofs.Std.{is_some, refl, sym, ap, ◌∙◌, subst, arith, option_map, ForSome, cases_Bool, cases_lt, same_Some}
 use Rattle.slab.specs.Slab.{Slab, get}
 use Rattle.dom_model.proofs.Model.{Boundary, at, from_to, map_ends}
-use Rattle.dom_ranges.specs.Definitions.{KeepsOrder, KeepsOrderBut, range_from, BothEnds, point_at, point_of, end_of, end_in, IsListed, IsMovedPart}
-use Rattle.dom_ranges.specs.Definitions.{IsSortedBeside, IsSortedByPoint, IsSortedBut, IsFirm, AreAllIn, is_in, is_chosen}
-use Rattle.dom_ranges.specs.declared.table.Points.{Points}
-use Rattle.dom_ranges.specs.declared.ends.RangeEnd.{RangeEnd}
-use Rattle.dom_ranges.specs.declared.ends.Span.{Span}
+use Rattle.dom_ranges.specs.Definitions.{AreAllIn, BothEnds, end_in, end_of, is_chosen, is_in, IsFirm, IsListed, IsMovedPart, IsSortedBeside, IsSortedBut}
+use Rattle.dom_ranges.specs.Definitions.{IsSortedByPoint, KeepsOrder, KeepsOrderBut, point_at, point_of, Points, range_from, RangeEnd, Span}
 use Rattle.dom_ranges.proofs.Listing.{is_end_of-true, counts-listed, times-same}
 use Rattle.dom_ranges.proofs.Parts.{outside-part}
 

@@ -6,10 +6,10 @@ use Rattle.dom_model.proofs.Model.{Owner, NodeName, name_eq, owner_eq, name_eq-s
 use Rattle.dom_model.proofs.Model.{from_to, map_ends, boundary_eq, after_insert, after_removal, after_replace_data, after_split, after_join}
 use Rattle.dom_model.proofs.Model.{is_inclusive_ancestor}
 use Rattle.dom_tree.specs.Definitions.{NamedTrees, name_at, TellApart}
-use Rattle.dom_ranges.specs.Definitions.{StandAtNodes, IsNamedRule, InsertNamed, RemovalNamed, ReplaceDataNamed, SplitNamed, JoinNamed, StartNamed, EndNamed}
-use Rattle.dom_ranges.specs.Definitions.{GrownNamed, MadeNamed, RemovedNamed, RewrittenNamed, CollapsedNamed, named_ends_by, IsAtNode, is_inside, start_set}
-use Rattle.dom_ranges.specs.Definitions.{end_set, named_boundary, named_range, named_ranges, with_named, have_one_root, is_key_before, RangeList, RangeLists}
-use Rattle.dom_ranges.specs.Definitions.{EachRange, BothEnds, ends_by, ranges_of, range_in, with_ranges}
+use Rattle.dom_ranges.specs.Definitions.{BothEnds, CollapsedNamed, EachRange, end_set, EndNamed, ends_by, GrownNamed, have_one_root, InsertNamed, is_inside}
+use Rattle.dom_ranges.specs.Definitions.{is_key_before, IsAtNode, IsNamedRule, JoinNamed, MadeNamed, named_boundary, named_ends_by, named_range, named_ranges}
+use Rattle.dom_ranges.specs.Definitions.{range_in, RangeList, RangeLists, ranges_of, RemovalNamed, RemovedNamed, ReplaceDataNamed, RewrittenNamed, SplitNamed}
+use Rattle.dom_ranges.specs.Definitions.{StandAtNodes, start_set, StartNamed, with_named, with_ranges}
 use Rattle.dom_ranges.proofs.Lists.{cons_same}
 
 -- ---- lists of ranges, each rewritten

@@ -4,10 +4,7 @@ use Rattle.dom_base.proofs.Std.{leb, refl, sym, ap, ◌∙◌, subst, arith, tru
 use Rattle.dom_base.proofs.Std.{option_map, get_or-set_same, get_or-set_other, length-set, IsPermutation-refl, same_Some}
 use Rattle.slab.specs.Slab.{Slab, get}
 use Rattle.dom_model.proofs.Model.{Boundary}
-use Rattle.dom_ranges.specs.declared.table.Points.{Points}
-use Rattle.dom_ranges.specs.declared.ends.RangeEnd.{RangeEnd}
-use Rattle.dom_ranges.specs.declared.ends.Span.{Span}
-use Rattle.dom_ranges.specs.Definitions.{IsListed, IsMovedPart, HasChanged, Stands, is_in, is_chosen, end_in, end_of, point_of}
+use Rattle.dom_ranges.specs.Definitions.{end_in, end_of, HasChanged, is_chosen, is_in, IsListed, IsMovedPart, point_of, Points, RangeEnd, Span, Stands}
 use Rattle.dom_ranges.proofs.Gathering.{HasChanged-set}
 use Rattle.dom_ranges.proofs.Listing.{IsPut, IsListed-put, end-same}
 

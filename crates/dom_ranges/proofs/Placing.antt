@@ -5,10 +5,8 @@ use Rattle.dom_base.proofs.Std.{length-append, length-set, get_or-set_same, get_
 use Rattle.dom_base.proofs.Std.{All-permutation, length_permutation, IsPermutation-put_mid}
 use borrow.Rule.Slice.PartMut.{put_mid, mid_of}
 use Rattle.dom_model.proofs.Model.{Boundary}
-use Rattle.dom_ranges.specs.declared.ends.RangeEnd.{RangeEnd}
-use Rattle.dom_ranges.specs.declared.ends.Span.{Span}
-use Rattle.dom_ranges.specs.Definitions.{AreAt, AtMost, AtMostBut, LessThan, IsOrdered, IsSortedBeside, IsSortedByPoint, IsSortedBut, IsTurned, is_in, point_of}
-use Rattle.dom_ranges.specs.Definitions.{offset_of}
+use Rattle.dom_ranges.specs.Definitions.{AreAt, AtMost, AtMostBut, is_in, IsOrdered, IsSortedBeside, IsSortedBut, IsSortedByPoint, IsTurned, LessThan}
+use Rattle.dom_ranges.specs.Definitions.{offset_of, point_of, RangeEnd, Span}
 use Rattle.dom_ranges.proofs.Gathering.{IsOrdered-turned, length-mid, mid-outside, mid-part, mid-was}
 use Rattle.dom_ranges.proofs.Orders.{AtMostBut-nodes, points_same}
 use Rattle.dom_ranges.proofs.Parts.{outside-part}
@@ -72,9 +70,9 @@ module _ (R : Boundary ℕ → Boundary ℕ → Type 0) (es now : List RangeEnd)
 
 -- ---- ends at one node, whatever their offsets
 
--- the end at a place is at this node or a greater one
+-- the end at a place is at this node or a lesser one
 abbrev pub IsFrom : ℕ → List RangeEnd → ℕ → Type 0
-IsFrom node es k = (d : RangeEnd) → node ≤ (get_or es k d).node
+IsFrom node es k = (d : RangeEnd) → (get_or es k d).node ≤ node
 
 module _ (es : List RangeEnd) (first high node : ℕ) (order : first ≤ high) (within : high ≤ length es) (gathered : AreAt es first high node)
     (sorted : IsSortedBeside es first high node) where
@@ -92,14 +90,14 @@ module _ (es : List RangeEnd) (first high node : ℕ) (order : first ≤ high) (
       firm : (e : RangeEnd) (k : ℕ) → (k < first) ⊎ (high ≤ k) → (k < first) ⊎ ((high ≤ k) ⊎ (e.node ≢ node))
       firm e k p = elim p [ inl l ↦ inl l | inr l ↦ inr (inl l) ]
 
-  -- an end at no greater node, or at no lesser one
-  pub behind-node : (i : ℕ) → ((d : RangeEnd) → (get_or es i d).node ≤ node) → IsBehind (AtMostBut node) es first high i
+  -- an end at no lesser node, or at no greater one
+  pub behind-node : (i : ℕ) → ((d : RangeEnd) → node ≤ (get_or es i d).node) → IsBehind (AtMostBut node) es first high i
   behind-node i l j d from to = AtMostBut-nodes node _ _ (omega (arith, l d, gathered j d from to)) (λ e. e ∙ gathered j d from to)
 
   pub ahead-node : (j : ℕ) → IsFrom node es j → IsAhead (AtMostBut node) es first high j
   ahead-node j l i d from to = AtMostBut-nodes node _ _ (omega (arith, l d, gathered i d from to)) (λ _. gathered i d from to)
 
-  -- an end behind the group is at no lesser node where one before it is
+  -- an end behind the group is at no greater node where one before it is
   pub past-node : (i j : ℕ) → i < first → high ≤ j → j < length es → IsFrom node es i → IsFrom node es j
   past-node i j l m n up d = omega (arith, up d, (sorted i j d (omega (arith, l, m, order)) n (inl l) (inr (inl m))).0)
 

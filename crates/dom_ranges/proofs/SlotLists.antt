@@ -4,8 +4,7 @@ use Rattle.dom_base.proofs.Std.{vec_len, vec_capacity, cond-false}
 use Rattle.dom_model.proofs.Model.{Owner, Page, Component, owner_eq, ne-owner_eq}
 use Rattle.dom_base.specs.contracts.OwnerPartialEq.TheImpl as OwnerImpl
 use Rattle.dom_tree.proofs.OwnerLists.{had, written-same}
-use Rattle.dom_ranges.specs.declared.numbers.Numbers.{Numbers}
-use Rattle.dom_ranges.specs.Definitions.{slots_of, HasRoom}
+use Rattle.dom_ranges.specs.Definitions.{HasRoom, Numbers, slots_of}
 
 -- a component's list with room has room for one slot more
 pub room_of : (n : Numbers) (owner : Owner) (v : Vec (Option ℕ) Global) → owner ≢ Page → get OwnerImpl.ghosts.eq n.components owner ≡ Some v →

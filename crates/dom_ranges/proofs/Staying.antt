@@ -5,10 +5,10 @@ use Rattle.dom_base.proofs.Std.{leb-false, or_parts, same_Some, none-some}
 use Rattle.dom_model.proofs.Model.{Owner, NodeName, owner_eq, Boundary, Range, at, from_to, boundary_eq, after_insert, after_removal, after_replace_data}
 use Rattle.dom_model.proofs.Model.{after_split, after_join}
 use Rattle.node_arena.proofs.Numbers.{slice_get-set}
-use Rattle.dom_ranges.specs.Definitions.{is_inside, have_one_root, is_key_before, start_set, end_set, IsWithin, HasRanges, Brings, NoneWithin, SameWithin}
-use Rattle.dom_ranges.specs.Definitions.{MoreWithin, WithinAtNodes, SomeWithin, MadeWithin, RemovedWithin, WrittenWithin, StartWithin, EndWithin}
-use Rattle.dom_ranges.specs.Definitions.{CollapsedWithin, InsertWithin, RemovalWithin, ReplaceDataWithin, SplitWithin, JoinWithin, RangeList, RangeLists}
-use Rattle.dom_ranges.specs.Definitions.{EachRange, BothEnds, ranges_of, range_in, collapsed_range}
+use Rattle.dom_ranges.specs.Definitions.{BothEnds, Brings, collapsed_range, CollapsedWithin, EachRange, end_set, EndWithin, HasRanges, have_one_root}
+use Rattle.dom_ranges.specs.Definitions.{InsertWithin, is_inside, is_key_before, IsWithin, JoinWithin, MadeWithin, MoreWithin, NoneWithin, range_in, RangeList}
+use Rattle.dom_ranges.specs.Definitions.{RangeLists, ranges_of, RemovalWithin, RemovedWithin, ReplaceDataWithin, SameWithin, SomeWithin, SplitWithin, start_set}
+use Rattle.dom_ranges.specs.Definitions.{StartWithin, WithinAtNodes, WrittenWithin}
 use Rattle.dom_ranges.proofs.Naming.{EachRange-ends}
 
 -- ---- lists of ranges

@@ -3,11 +3,8 @@ use Rattle.dom_base.proofs.Std.{◌≡◌, ◌⊎◌, inl, inr, ℕ, zero, suc, 
 use Rattle.dom_base.proofs.Std.{arith, count_by, slice_index_or, option_map, option_flatten, same_Some, none-some, sum_by-cons}
 use Rattle.slab.specs.Slab.{Slab, get, slab_len}
 use Rattle.dom_model.proofs.Model.{Owner, Boundary}
-use Rattle.dom_ranges.specs.declared.ends.RangeEnd.{RangeEnd}
-use Rattle.dom_ranges.specs.declared.numbers.Numbers.{Numbers}
-use Rattle.dom_ranges.specs.declared.table.Points.{Points}
-use Rattle.dom_ranges.specs.Definitions.{IsListed, IsListedAt, end_of, end_in, range_kept, HaveNumbers, RangeList, RangeLists, ranges_of, range_in, range_from}
-use Rattle.dom_ranges.specs.Definitions.{ends_by, HasEndAt}
+use Rattle.dom_ranges.specs.Definitions.{end_in, end_of, ends_by, HasEndAt, HaveNumbers, IsListed, IsListedAt, Numbers, Points, range_from, range_in}
+use Rattle.dom_ranges.specs.Definitions.{range_kept, RangeEnd, RangeList, RangeLists, ranges_of}
 use Rattle.dom_ranges.proofs.Writing.{Shows, range-standing}
 
 -- no rule rewrites anything

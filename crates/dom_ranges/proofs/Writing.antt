@@ -4,10 +4,8 @@ use Rattle.dom_base.proofs.Std.{subst, ◌∙◌, ◌⊎◌, inl, inr, true≢fa
 use Rattle.dom_base.proofs.Std.{map-append, map-set, length-map, same_Some, none-some, slice_get-map}
 use Rattle.slab.specs.Slab.{Slab, get, Updates}
 use Rattle.dom_model.proofs.Model.{Owner, owner_eq, owner_eq-same, owner_eq-true, owner_eq-false, Range}
-use Rattle.dom_ranges.specs.declared.numbers.Numbers.{Numbers}
-use Rattle.dom_ranges.specs.declared.table.Points.{Points}
-use Rattle.dom_ranges.specs.Definitions.{HasRanges, RangeLists, ranges_of, range_in, range_from, with_ranges, slots_of, range_kept, shown, StandsUnder}
-use Rattle.dom_ranges.specs.Definitions.{HaveNumbers}
+use Rattle.dom_ranges.specs.Definitions.{HasRanges, HaveNumbers, Numbers, Points, range_from, range_in, range_kept, RangeLists, ranges_of, shown, slots_of}
+use Rattle.dom_ranges.specs.Definitions.{StandsUnder, with_ranges}
 use Rattle.dom_ranges.proofs.Holding.{ranges_of-shown}
 use Rattle.dom_ranges.proofs.Lists.{map_kept, map_twice, map_set, set_over, set-at, set-absent, set-other, append-cases, append-kept, append-last}
 

@@ -1,8 +1,8 @@
 -- What proofs cite of this crate's definitions.
 pub use Rattle.dom_ranges.specs.Climbs.{AreBeside, depth_at, path_at, Reaches}
 pub use Rattle.dom_ranges.specs.Listed.{AreAllIn, AreAt, AtMost, AtMostBut, end_in, end_of, HasChanged, is_chosen, is_end_of, IsFirm, is_in, IsListed}
-pub use Rattle.dom_ranges.specs.Listed.{IsListedAt, IsListedOnce, IsMovedPart, IsOrdered, IsSortedBeside, IsSortedBut, IsSortedByPoint, IsTurned, LessThan}
-pub use Rattle.dom_ranges.specs.Listed.{node_of, offset_of, point_at, point_of, Stands, times, with_end_at}
+pub use Rattle.dom_ranges.specs.Listed.{IsListedAt, IsListedOnce, IsMovedPart, IsOrdered, IsSortedBeside, IsSortedBut, IsSortedByNode, IsSortedByPoint}
+pub use Rattle.dom_ranges.specs.Listed.{IsTurned, LessThan, offset_of, point_at, point_of, Stands, times, with_end_at}
 pub use Rattle.dom_ranges.specs.Naming.{CollapsedNamed, EndNamed, GrownNamed, InsertNamed, IsNamedRule, JoinNamed, KeepsNodes, MadeNamed, named_ends_by}
 pub use Rattle.dom_ranges.specs.Naming.{RemovalNamed, RemovedNamed, ReplaceDataNamed, RewrittenNamed, SplitNamed, StandAtNodes, StartNamed}
 pub use Rattle.dom_ranges.specs.RangeSlots.{HasRoom, HaveNumbers, lists_of, range_kept, shown, slots_of, StandsUnder}
@@ -13,3 +13,7 @@ pub use Rattle.dom_ranges.specs.Staying.{MadeWithin, MoreWithin, NoneWithin, Rem
 pub use Rattle.dom_ranges.specs.Staying.{SplitWithin, StartWithin, WithinAtNodes, WrittenWithin}
 pub use Rattle.dom_ranges.specs.Tables.{BothEnds, collapsed_range, EachRange, ends_by, HasEndAt, list_of, range_from, range_in, RangeList, RangeLists}
 pub use Rattle.dom_ranges.specs.Tables.{ranges_of, with_ranges}
+pub use Rattle.dom_ranges.specs.declared.ends.RangeEnd.{RangeEnd}
+pub use Rattle.dom_ranges.specs.declared.ends.Span.{Span}
+pub use Rattle.dom_ranges.specs.declared.numbers.Numbers.{Numbers}
+pub use Rattle.dom_ranges.specs.declared.table.Points.{Points}

@@ -1,17 +1,13 @@
--- How the ends of live ranges are listed: each end once, with the boundary point where it stands, sorted by nodes and offsets.
+-- How the ends of live ranges are listed: each end once, with the boundary point where it stands, sorted by nodes, the last one first, and then by offsets.
 use Rattle.std.specs.Prelude.{◌≡◌, ◌⊎◌, ℕ, ◌+◌, ◌-◌, ◌<◌, ◌≤◌, ◌≢◌, Bool, true, false, not, ◌&&◌, List, ◌++◌, length, slice_index_or, nat_eq, nat_lt}
 use Rattle.std.specs.Prelude.{nat_le, Option, Some, option_map, is_some, count_by, cond}
-use Rattle.std.specs.List.Sorted.{IsNonDecreasingBy, IsPermutation}
+use Rattle.std.specs.List.Sorted.{IsPermutation}
 use Rattle.slab.specs.Slab.{Slab, get}
 use Rattle.dom_model.specs.Place.{Boundary}
 use Rattle.dom_model.specs.Ranges.{at}
 use Rattle.dom_ranges.specs.declared.table.Points.{Points}
 use Rattle.dom_ranges.specs.declared.ends.RangeEnd.{RangeEnd}
 use Rattle.dom_ranges.specs.declared.ends.Span.{Span}
-
--- the node of a listed end
-abbrev pub node_of : RangeEnd → ℕ
-node_of e = e.node
 
 -- its offset
 abbrev pub offset_of : RangeEnd → ℕ
@@ -57,17 +53,17 @@ pub record IsListed (live : Slab Points) (es : List RangeEnd) : Type 0 where
 abbrev pub IsListedAt : List RangeEnd → Boundary ℕ → Type 0
 IsListedAt es b = (k : ℕ) × (k < length es) × ((d : RangeEnd) → point_of (slice_index_or es k d) ≡ b)
 
--- of two boundary points the first does not come after the second, by nodes and then by offsets
+-- of two boundary points the first does not come after the second, by nodes from the last one on, and then by offsets
 abbrev pub AtMost : Boundary ℕ → Boundary ℕ → Type 0
-AtMost b c = (b.node ≤ c.node) × (b.node ≡ c.node → b.offset ≤ c.offset)
+AtMost b c = (c.node ≤ b.node) × (b.node ≡ c.node → b.offset ≤ c.offset)
 
 -- it comes before the second
 abbrev pub LessThan : Boundary ℕ → Boundary ℕ → Type 0
-LessThan b c = (b.node ≤ c.node) × (b.node ≡ c.node → b.offset < c.offset)
+LessThan b c = (c.node ≤ b.node) × (b.node ≡ c.node → b.offset < c.offset)
 
 -- it does not come after the second, or both are at this node
 abbrev pub AtMostBut : ℕ → Boundary ℕ → Boundary ℕ → Type 0
-AtMostBut node b c = (b.node ≤ c.node) × (b.node ≡ c.node → b.node ≢ node → b.offset ≤ c.offset)
+AtMostBut node b c = (c.node ≤ b.node) × (b.node ≡ c.node → b.node ≢ node → b.offset ≤ c.offset)
 
 -- of each two ends, the one that is listed first and the other one are in a relation
 abbrev pub IsOrdered : (Boundary ℕ → Boundary ℕ → Type 0) → List RangeEnd → Type 0
@@ -83,12 +79,12 @@ IsSortedBut node es = IsOrdered (AtMostBut node) es
 
 -- they are sorted by their nodes
 abbrev pub IsSortedByNode : List RangeEnd → Type 0
-IsSortedByNode es = IsNonDecreasingBy node_of es
+IsSortedByNode es = IsOrdered (λ (b c : Boundary ℕ). c.node ≤ b.node) es
 
 -- a part of the ends is sorted by node
 abbrev pub IsSortedIn : List RangeEnd → Span → Type 0
 IsSortedIn es part =
-    (i j : ℕ) (d : RangeEnd) → part.first ≤ i → i ≤ j → j < part.behind → (slice_index_or es i d).node ≤ (slice_index_or es j d).node
+    (i j : ℕ) (d : RangeEnd) → part.first ≤ i → i ≤ j → j < part.behind → (slice_index_or es j d).node ≤ (slice_index_or es i d).node
 
 -- the ends from low to high are at a node
 abbrev pub AreAt : List RangeEnd → ℕ → ℕ → ℕ → Type 0

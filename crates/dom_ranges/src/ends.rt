@@ -1,4 +1,5 @@
-//! The ends of live ranges, listed by the nodes where they stand.
+//! The ends of live ranges, listed by the nodes where they stand, from the node that was made last to the first one. A range
+//! begins in a document, which is made before most other nodes: so the ends of new ranges come last, and few are moved for them.
 ghost use Rattle.std.specs.Prelude.{◌≡◌, ℕ, ◌+◌, ◌≤◌, ◌<◌, true, false, ◌∷◌, [], ◌++◌, length, slice_index_or};
 ghost use Rattle.std.specs.List.Sorted.{IsPermutation};
 ghost use Rattle.std.specs.Vec.{vec_len, vec_capacity};
@@ -64,15 +65,15 @@ fn place_in(ends: &[RangeEnd], part: Span, node: Key, offset: usize) -> usize
     requires sorted { IsSortedIn ends.now part }
     ensures first { part.first ≤ result }
     ensures behind { result ≤ part.behind }
-    ensures less { (k : ℕ) (d : RangeEnd) → part.first ≤ k → k < result → (slice_index_or ends.now k d).node ≤ node }
-    ensures more { (k : ℕ) (d : RangeEnd) → result ≤ k → k < part.behind → node ≤ (slice_index_or ends.now k d).node }
+    ensures less { (k : ℕ) (d : RangeEnd) → part.first ≤ k → k < result → node ≤ (slice_index_or ends.now k d).node }
+    ensures more { (k : ℕ) (d : RangeEnd) → result ≤ k → k < part.behind → (slice_index_or ends.now k d).node ≤ node }
 {
     let mut low = part.first;
     let mut high = part.behind;
     while low < high {
         let middle = low + (high - low) / 2;
         let end = ends[middle];
-        if end.node < node || end.node == node && end.offset <= offset {
+        if node < end.node || end.node == node && end.offset <= offset {
             low = middle + 1;
         } else {
             high = middle;

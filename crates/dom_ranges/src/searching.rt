@@ -6,14 +6,14 @@ ghost use Rattle.dom_ranges.specs.Listed.{IsSortedByNode, IsSortedByPoint, AtMos
 use crate::ends::{RangeEnd, Span};
 use node_arena::Key;
 
-/// Where the ends are at their end that are at nodes up to one.
+/// Where the ends are at their end that are at a node, or at greater ones, which come first.
 pub(crate) fn behind_node(ends: &[RangeEnd], node: Key) -> usize
     requires { IsSortedByNode ends.now }
     ensures within { result ≤ length ends.now }
-    ensures less { (k : ℕ) (d : RangeEnd) → k < result → (slice_index_or ends.now k d).node ≤ node }
-    ensures more { (k : ℕ) (d : RangeEnd) → result ≤ k → k < length ends.now → node < (slice_index_or ends.now k d).node }
+    ensures less { (k : ℕ) (d : RangeEnd) → k < result → node ≤ (slice_index_or ends.now k d).node }
+    ensures more { (k : ℕ) (d : RangeEnd) → result ≤ k → k < length ends.now → (slice_index_or ends.now k d).node < node }
 {
-    ends.partition_point(|end| end.node <= node)
+    ends.partition_point(|end| node <= end.node)
 }
 
 /// Where the ends are at their end that are at a boundary point or before it.
@@ -23,7 +23,7 @@ pub(crate) fn place_behind(ends: &[RangeEnd], node: Key, offset: usize) -> usize
     ensures less { (k : ℕ) (d : RangeEnd) → k < result → AtMost (point_of (slice_index_or ends.now k d)) (at node offset) }
     ensures more { (k : ℕ) (d : RangeEnd) → result ≤ k → k < length ends.now → LessThan (at node offset) (point_of (slice_index_or ends.now k d)) }
 {
-    ends.partition_point(|end| end.node < node || end.node == node && end.offset <= offset)
+    ends.partition_point(|end| node < end.node || end.node == node && end.offset <= offset)
 }
 
 /// The places of the ends at a node.
@@ -35,7 +35,7 @@ pub(crate) fn part_of(ends: &[RangeEnd], node: Key) -> Span
     ensures only { (k : ℕ) (d : RangeEnd) → result.first ≤ k → k < result.behind → (slice_index_or ends.now k d).node ≡ node }
 {
     Span {
-        first: ends.partition_point(|end| end.node < node),
+        first: ends.partition_point(|end| node < end.node),
         behind: behind_node(ends, node),
     }
 }
@@ -58,28 +58,28 @@ pub(crate) fn part_near(ends: &[RangeEnd], place: usize, node: Key) -> Span
     part_of(ends, node)
 }
 
-/// Whether all ends before a place are at lesser nodes than one.
+/// Whether all ends before a place are at greater nodes than one.
 fn are_before(ends: &[RangeEnd], place: usize, node: Key) -> bool
     requires sorted { IsSortedByPoint ends.now }
     requires within { place ≤ length ends.now }
-    ensures { result ≡ true → (k : ℕ) (d : RangeEnd) → k < place → (slice_index_or ends.now k d).node < node }
+    ensures { result ≡ true → (k : ℕ) (d : RangeEnd) → k < place → node < (slice_index_or ends.now k d).node }
 {
     if place == 0 {
         return true;
     }
-    ends[place - 1].node < node
+    node < ends[place - 1].node
 }
 
-/// Whether all ends from a place on are at greater nodes than one.
+/// Whether all ends from a place on are at lesser nodes than one.
 fn are_behind(ends: &[RangeEnd], place: usize, node: Key) -> bool
     requires sorted { IsSortedByPoint ends.now }
     requires within { place ≤ length ends.now }
-    ensures { result ≡ true → (k : ℕ) (d : RangeEnd) → place ≤ k → k < length ends.now → node < (slice_index_or ends.now k d).node }
+    ensures { result ≡ true → (k : ℕ) (d : RangeEnd) → place ≤ k → k < length ends.now → (slice_index_or ends.now k d).node < node }
 {
     if place == ends.len() {
         return true;
     }
-    node < ends[place].node
+    ends[place].node < node
 }
 
 /// The places of the ends at a boundary point.
@@ -89,7 +89,7 @@ pub(crate) fn part_at(ends: &[RangeEnd], node: Key, offset: usize) -> Span
     ensures all { (k : ℕ) (d : RangeEnd) → k < length ends.now → point_of (slice_index_or ends.now k d) ≡ at node offset → is_in result k ≡ true }
 {
     Span {
-        first: ends.partition_point(|end| end.node < node
+        first: ends.partition_point(|end| node < end.node
             || end.node == node && end.offset < offset),
         behind: place_behind(ends, node, offset),
     }

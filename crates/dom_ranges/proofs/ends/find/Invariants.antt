@@ -1,5 +1,5 @@
 use Rattle.dom_base.proofs.Std.{◌≡◌, ℕ, ◌<◌, ◌≤◌, get_or}
-use Rattle.dom_ranges.specs.declared.ends.RangeEnd.{RangeEnd}
+use Rattle.dom_ranges.specs.Definitions.{RangeEnd}
 use Rattle.dom_ranges.proofs.ends.find.Given as goal
 
 abbrev pub invariant-loop-behind : goal.invariant-loop-behind

@@ -1,7 +1,6 @@
 use Rattle.dom_base.proofs.Std.{◌≡◌, ◌≢◌, ℕ, ◌+◌, ◌<◌, ◌≤◌, List, length, get_or, sym, ap, ◌∙◌, subst, arith, rules, SwappedAt, IsPermutation, get_or_default}
 use Rattle.dom_base.proofs.Std.{IsPermutation-trans}
-use Rattle.dom_ranges.specs.declared.ends.RangeEnd.{RangeEnd}
-use Rattle.dom_ranges.specs.Definitions.{AreAt, IsSortedBeside}
+use Rattle.dom_ranges.specs.Definitions.{AreAt, IsSortedBeside, RangeEnd}
 use Rattle.dom_ranges.proofs.Gathering.{AreAt-more, IsSortedBeside-more, AreAt-grown, others-more}
 use Rattle.dom_ranges.proofs.ends.gather.Goals.{then-ne, else-ne}
 use Rattle.dom_ranges.proofs.ends.gather.Goals as goal

@@ -1,6 +1,5 @@
 use Rattle.dom_base.proofs.Std.{◌≡◌, ◌≢◌, ℕ, ◌<◌, ◌≤◌, length, get_or, IsPermutation}
-use Rattle.dom_ranges.specs.declared.ends.RangeEnd.{RangeEnd}
-use Rattle.dom_ranges.specs.Definitions.{AreAt, IsSortedBeside}
+use Rattle.dom_ranges.specs.Definitions.{AreAt, IsSortedBeside, RangeEnd}
 use Rattle.dom_ranges.proofs.ends.gather.Given as goal
 
 abbrev pub invariant-loop-i : goal.invariant-loop-i

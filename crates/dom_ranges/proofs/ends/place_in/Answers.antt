@@ -1,5 +1,5 @@
 use Rattle.dom_base.proofs.Std.{◌≡◌, ◌+◌, ◌<◌, ◌≤◌, ◌/◌, ◌-◌, get_or, sym, ap, ◌∙◌, arith, rules, get_or_default}
-use Rattle.dom_ranges.specs.declared.ends.RangeEnd.{RangeEnd}
+use Rattle.dom_ranges.specs.Definitions.{RangeEnd}
 use Rattle.dom_ranges.proofs.ends.place_in.Goals.{then-lt, else-lt+then-eq, else-lt+else-eq}
 use Rattle.dom_ranges.proofs.ends.place_in.Goals as goal
 
@@ -9,7 +9,7 @@ loop-low-preserved-then-end-offset c =
     let part = c.args.part in
     let middle = c.loop-low.low + (c.loop-low.high - c.loop-low.low) / 2 in
     let below : middle < c.loop-low.high = omega arith in
-    let less : c.index-ends-middle.result.node ≤ c.args.node = elim c.if-lt.branch [
+    let less : c.args.node ≤ c.index-ends-middle.result.node = elim c.if-lt.branch [
       | then-lt w ↦ search rules
       | else-lt+then-eq w ↦ search rules
       | else-lt+else-eq w ↦ search rules
@@ -29,7 +29,7 @@ loop-low-preserved c =
     let es = c.args.ends.now in
     let middle = c.loop-low.low + (c.loop-low.high - c.loop-low.low) / 2 in
     let below : middle < c.loop-low.high = omega arith in
-    let more : c.args.node ≤ c.index-ends-middle.result.node = elim c.if-lt.branch [
+    let more : c.index-ends-middle.result.node ≤ c.args.node = elim c.if-lt.branch [
       | then-lt w ↦ search rules
       | else-lt+then-eq w ↦ search rules
       | else-lt+else-eq w ↦ search rules

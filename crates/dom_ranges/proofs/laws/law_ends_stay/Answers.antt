@@ -1,6 +1,5 @@
-use Rattle.dom_ranges.proofs.Staying.{none-within, same-within, more-within, within-at_nodes, some-within, made-within, removed-within}
-use Rattle.dom_ranges.proofs.Staying.{written-within, start-within, end-within}
-use Rattle.dom_ranges.proofs.Staying.{collapsed-within, insert-within, removal-within, replace_data-within, split-within, join-within}
+use Rattle.dom_ranges.proofs.Staying.{none-within, same-within, more-within, within-at_nodes, some-within, made-within, removed-within, written-within}
+use Rattle.dom_ranges.proofs.Staying.{start-within, end-within, collapsed-within, insert-within, removal-within, replace_data-within, split-within, join-within}
 use Rattle.dom_ranges.proofs.laws.law_ends_stay.Goals as goal
 
 pub returns-clause-none : goal.returns-clause-none

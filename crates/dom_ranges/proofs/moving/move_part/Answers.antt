@@ -2,10 +2,7 @@ use Rattle.dom_base.proofs.Std.{◌≡◌, ◌⊎◌, inr, ℕ, ◌+◌, ◌<◌
 use Rattle.dom_base.proofs.Std.{get_or-set_same}
 use Rattle.slab.specs.Slab.{Slab}
 use Rattle.dom_model.proofs.Model.{at}
-use Rattle.dom_ranges.specs.declared.table.Points.{Points}
-use Rattle.dom_ranges.specs.declared.ends.RangeEnd.{RangeEnd}
-use Rattle.dom_ranges.specs.declared.ends.Span.{Span}
-use Rattle.dom_ranges.specs.Definitions.{IsListed, IsMovedPart, is_chosen, end_in}
+use Rattle.dom_ranges.specs.Definitions.{end_in, is_chosen, IsListed, IsMovedPart, Points, RangeEnd, Span}
 use Rattle.dom_ranges.proofs.Listing.{IsPut}
 use Rattle.dom_ranges.proofs.Parts.{up_to, here-still, IsMovedPart-skipped, IsMovedPart-more, IsListed-set, nodes-more, nodes-same}
 use Rattle.dom_ranges.proofs.moving.move_part.Goals.{then-not-has+then-ne, then-not-has+else-ne, else-not-has}

@@ -1,6 +1,5 @@
 use Rattle.dom_base.proofs.Std.{◌≡◌, ◌⊎◌, ℕ, ◌<◌, ◌≤◌, length, get_or}
-use Rattle.dom_ranges.specs.declared.ends.RangeEnd.{RangeEnd}
-use Rattle.dom_ranges.specs.Definitions.{IsListed, IsMovedPart, is_chosen}
+use Rattle.dom_ranges.specs.Definitions.{is_chosen, IsListed, IsMovedPart, RangeEnd}
 use Rattle.dom_ranges.proofs.Parts.{up_to}
 use Rattle.dom_ranges.proofs.moving.move_part.Given as goal
 

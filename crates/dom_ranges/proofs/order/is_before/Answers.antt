@@ -2,7 +2,7 @@ use Rattle.dom_base.proofs.Std.{◌≡◌, inl, inr, ℕ, ◌<◌, ◌≤◌, �
 use Rattle.dom_base.proofs.Std.{subst, ◌∙◌, arith, eqb-true, not-false, leb-true, ltb-true, le-leb, lt-ltb, false_from_ne_true, append_assoc}
 use Rattle.dom_model.proofs.Model.{index_of}
 use Rattle.dom_tree.specs.Definitions.{name_at}
-use Rattle.dom_ranges.specs.Definitions.{path_at, depth_at, Reaches}
+use Rattle.dom_ranges.specs.Definitions.{depth_at, path_at, Reaches}
 use Rattle.dom_ranges.proofs.Before.{before-same, before-up, before-down, before-beside}
 use Rattle.dom_ranges.proofs.Climbing.{path-reached, path-through, reached-deep, reached-here, first-through, first-same}
 use Rattle.dom_ranges.proofs.order.is_before.Goals as goal

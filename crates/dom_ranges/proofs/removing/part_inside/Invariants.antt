@@ -3,8 +3,7 @@ use Rattle.dom_model.proofs.Model.{inclusive_descendants}
 use Rattle.dom_tree.specs.Definitions.{name_at, StandsIn}
 use Rattle.dom_laws.specs.Within.{from_node}
 use Rattle.dom_laws.proofs.Laws.{In}
-use Rattle.dom_ranges.specs.declared.ends.RangeEnd.{RangeEnd}
-use Rattle.dom_ranges.specs.Definitions.{is_in}
+use Rattle.dom_ranges.specs.Definitions.{is_in, RangeEnd}
 use Rattle.dom_ranges.proofs.removing.part_inside.Given as goal
 
 abbrev pub invariant-loop-at : goal.invariant-loop-at

@@ -1,5 +1,5 @@
 use Rattle.dom_base.proofs.Std.{get_or, ap, arith, rules, ◌<◌, get_or_default}
-use Rattle.dom_ranges.specs.declared.ends.RangeEnd.{RangeEnd}
+use Rattle.dom_ranges.specs.Definitions.{RangeEnd}
 use Rattle.dom_ranges.proofs.searching.are_behind.Goals as goal
 
 pub returns : goal.returns
@@ -7,5 +7,5 @@ returns c = λ e k d from l.
     let es = c.args.ends.now in
     let place = c.args.place in
     let end = c.index-ends-place.result in
-    let more : c.args.node < (get_or es place end).node = search rules in
+    let more : (get_or es place end).node < c.args.node = search rules in
     omega (arith, more, ap (λ (x : RangeEnd). x.node) (get_or_default es place d end (omega arith)), (c.requires.sorted place k d from l).0)

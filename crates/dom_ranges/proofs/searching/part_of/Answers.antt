@@ -1,23 +1,22 @@
 use Rattle.dom_base.proofs.Std.{false, inl, inr, ℕ, ◌<◌, ◌≤◌, ltb, length, get_or, arith, rules, ltb-true, ltb-false, cases_lt, IsPartitionPoint-from_clause}
-use Rattle.dom_base.proofs.Std.{IsPartitionedBy-ltb}
 use Rattle.dom_model.proofs.Model.{at}
-use Rattle.dom_ranges.specs.Definitions.{node_of, end_in}
-use Rattle.dom_ranges.specs.declared.ends.RangeEnd.{RangeEnd}
+use Rattle.dom_ranges.specs.Definitions.{end_in, RangeEnd}
+use Rattle.dom_ranges.proofs.Orders.{IsPartitionedBy-past}
 use Rattle.dom_ranges.proofs.Gathering.{is_in-between}
 use Rattle.dom_ranges.proofs.searching.part_of.Goals as goal
 
--- the ends before the part are at lesser nodes
-before : (c : goal.After-behind_node) → (k : ℕ) (d : RangeEnd) → k < c.partition_point.result → (get_or c.args.ends.now k d).node < c.args.node
+-- the ends before the part are at greater nodes
+before : (c : goal.After-behind_node) → (k : ℕ) (d : RangeEnd) → k < c.partition_point.result → c.args.node < (get_or c.args.ends.now k d).node
 before c k d l = ltb-true _ _
-    ((IsPartitionPoint-from_clause (λ (e : RangeEnd). ltb e.node c.args.node) _ _ c.partition_point.ensures.partitioned
-    (IsPartitionedBy-ltb node_of _ c.args.node c.requires) (λ a r q k. search rules)).0 k d (omega arith) l)
+    ((IsPartitionPoint-from_clause (λ (e : RangeEnd). ltb c.args.node e.node) _ _ c.partition_point.ensures.partitioned
+    (IsPartitionedBy-past c.args.node _ c.requires) (λ a r q k. search rules)).0 k d (omega arith) l)
 
 -- the others are not
 from : (c : goal.After-behind_node) → (k : ℕ) (d : RangeEnd) → c.partition_point.result ≤ k → k < length c.args.ends.now →
-    c.args.node ≤ (get_or c.args.ends.now k d).node
+    (get_or c.args.ends.now k d).node ≤ c.args.node
 from c k d l m = ltb-false _ _
-    ((IsPartitionPoint-from_clause (λ (e : RangeEnd). ltb e.node c.args.node) _ _ c.partition_point.ensures.partitioned
-    (IsPartitionedBy-ltb node_of _ c.args.node c.requires) (λ a r q k. search rules)).1 k d l m)
+    ((IsPartitionPoint-from_clause (λ (e : RangeEnd). ltb c.args.node e.node) _ _ c.partition_point.ensures.partitioned
+    (IsPartitionedBy-past c.args.node _ c.requires) (λ a r q k. search rules)).1 k d l m)
 
 pub returns-clause-order : goal.returns-clause-order
 returns-clause-order c = elim (cases_lt c.behind_node.result c.partition_point.result) [

@@ -1,7 +1,7 @@
 use Rattle.dom_base.proofs.Std.{◌≡◌, ◌≢◌, true≢false, refl, sym, subst, slice_set, Some, None, ◌∙◌, get, IsSome, with_item}
 use Rattle.dom_model.proofs.Model.{Page}
 use Rattle.dom_base.specs.contracts.OwnerPartialEq.TheImpl as OwnerImpl
-use Rattle.dom_ranges.specs.declared.numbers.Numbers.{Numbers}
+use Rattle.dom_ranges.specs.Definitions.{Numbers}
 use Rattle.dom_ranges.proofs.SlotLists.{slots-written}
 use Rattle.dom_tree.proofs.OwnerLists.{written-by}
 use Rattle.dom_ranges.proofs.numbers.Numbers.clear.Goals as goal

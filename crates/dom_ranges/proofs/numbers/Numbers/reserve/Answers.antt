@@ -1,7 +1,6 @@
 use Rattle.dom_base.proofs.Std.{◌≡◌, refl, sym, subst, ◌∙◌, IsSome}
 use Rattle.dom_model.proofs.Model.{Owner}
-use Rattle.dom_ranges.specs.Definitions.{slots_of}
-use Rattle.dom_ranges.specs.declared.numbers.Numbers.{Numbers}
+use Rattle.dom_ranges.specs.Definitions.{Numbers, slots_of}
 use Rattle.dom_ranges.proofs.SlotLists.{slots-reserved}
 use Rattle.dom_ranges.proofs.numbers.Numbers.reserve.Goals.{After-reserve-in-Some}
 use Rattle.dom_ranges.proofs.numbers.Numbers.reserve.Goals as goal

@@ -2,9 +2,7 @@ use Rattle.dom_base.proofs.Std.{◌≡◌, ℕ, List, [], ◌∷◌, ◌++◌, t
 use Rattle.dom_base.proofs.Std.{IsPermutation}
 use Rattle.slab.specs.Slab.{get, Slab}
 use Rattle.dom_model.proofs.Model.{at}
-use Rattle.dom_ranges.specs.declared.table.Points.{Points}
-use Rattle.dom_ranges.specs.Definitions.{ranges_of, HaveNumbers, IsListed, IsSortedByPoint, end_in}
-use Rattle.dom_ranges.specs.declared.ends.RangeEnd.{RangeEnd}
+use Rattle.dom_ranges.specs.Definitions.{end_in, HaveNumbers, IsListed, IsSortedByPoint, Points, RangeEnd, ranges_of}
 use Rattle.dom_ranges.proofs.Listing.{IsListed-added, IsListed-same}
 use Rattle.dom_ranges.proofs.Writing.{Shows, Shows-view, Shows-same, HaveNumbers-same, HaveNumbers-pushed, ranges-shown, ranges-pushed, length-ranges}
 use Rattle.dom_ranges.proofs.table.RangeTable.add.Goals as goal

@@ -1,8 +1,7 @@
 use Rattle.dom_base.proofs.Std.{length, ◌∙◌, ap, arith, nat_eq}
 use Rattle.dom_model.proofs.Model.{map_ends, after_removal, index_of}
 use Rattle.dom_tree.specs.Definitions.{name_at}
-use Rattle.dom_ranges.specs.declared.ends.RangeEnd.{RangeEnd}
-use Rattle.dom_ranges.specs.Definitions.{IsAtNode, is_inside}
+use Rattle.dom_ranges.specs.Definitions.{is_inside, IsAtNode, RangeEnd}
 use Rattle.dom_ranges.proofs.Gathering.{written-back}
 use Rattle.dom_ranges.proofs.Leaving.{each-held, kept-moved}
 use Rattle.dom_ranges.proofs.Writing.{Shows-view, ranges-moved}
