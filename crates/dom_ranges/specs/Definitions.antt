@@ -1,5 +1,5 @@
 -- What proofs cite of this crate's definitions.
-pub use Rattle.dom_ranges.specs.Climbs.{AreBeside, depth_at, path_at, Reaches}
+pub use Rattle.dom_ranges.specs.Climbs.{AreBeside, AreTested, depth_at, path_at, Reaches}
 pub use Rattle.dom_ranges.specs.Listed.{AreAllIn, AreAt, AtMost, AtMostBut, end_in, end_of, HasChanged, is_chosen, is_end_of, IsFirm, is_in, IsListed}
 pub use Rattle.dom_ranges.specs.Listed.{IsListedAt, IsListedOnce, IsMovedPart, IsOrdered, IsSortedBeside, IsSortedBut, IsSortedByNode, IsSortedByPoint}
 pub use Rattle.dom_ranges.specs.Listed.{IsTurned, LessThan, offset_of, point_at, point_of, Stands, times, with_end_at}
