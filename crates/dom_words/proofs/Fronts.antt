@@ -1,10 +1,9 @@
 -- Numbers read from the front of bytes, up to the end of the word.
-use Rattle.dom_base.proofs.Std.{◌≡◌, ℕ, ◌+◌, ◌-◌, ◌≤◌, Bool, true, false, List, [], ◌∷◌, ◌++◌, length, get_or, take, drop, min, Option, Some, None, inr, refl}
+use Rattle.dom_base.proofs.Std.{◌≡◌, ℕ, ◌+◌, ◌-◌, ◌≤◌, Bool, true, false, List, [], ◌∷◌, ◌++◌, length, get_or, take, drop, min, Option, Some, None, refl}
 use Rattle.dom_base.proofs.Std.{sym, ap, ◌∙◌, arith, one-add, min_comm, drop-cons, and_from, ne_eqb, eq-eqb, le-leb, nat_tests, take-append-drop, take-take}
 use Rattle.dom_base.proofs.Std.{take_min, take_rest, length-take, prefix_len-le-length, nat_le, ◌==◌, ◌&&◌, IfSome, Bor, list_all, prefix_len, take_while}
 use Rattle.dom_base.proofs.Std.{is_in_range, digit_value, is_ascii_digit, is_ascii_graphic, digits_value_after}
 use Rattle.dom_text.specs.Definitions.{is_positive, positive_of, number_of, numbered, next_as}
-use Rattle.dom_text.proofs.NumberLaws.{number_complete, positive_of_sound}
 use Rattle.dom_text.proofs.WordLaws.{Passes, Stops, run_complete, each_from, list_all_each}
 use Rattle.dom_words.proofs.Texts.{all_of_run}
 use Rattle.dom_words.proofs.Digits.{read_on, digit_is}
@@ -85,14 +84,12 @@ read_front {bytes = bytes} {others = others} {m = m} {n = n} f =
     )
 
 -- a number behind a letter
-read_lettered : {n : ℕ} {rest : List ℕ} (letter : ℕ) (text : List ℕ) → 97 ≤ letter → letter ≤ 122 → positive_of (take_while is_ascii_graphic text) ≡ Some n →
+read_lettered : {n : ℕ} {rest : List ℕ} (letter : ℕ) (text : List ℕ) → 97 ≤ letter → letter ≤ 122 → number_of (take_while is_ascii_graphic text) ≡ Some n →
     drop (prefix_len is_ascii_graphic text) text ≡ rest → next_as (numbered letter) (32 ∷ letter ∷ text) ≡ Some (n, rest)
 read_lettered {n = n} letter text low high number behind =
     let graphic : is_ascii_graphic letter ≡ true = grind (arith, nat_tests) in
     let unquoted : (letter == 34) ≡ false = ne_eqb letter 34 (λ e. omega (arith, e)) in
-    let said : number_of (take_while is_ascii_graphic text) ≡ Some n =
-    number_complete (take_while is_ascii_graphic text) n (inr (positive_of_sound (take_while is_ascii_graphic text) n number)) in
-    rw (graphic, one-add, unquoted, eq-eqb letter letter refl, said) (ap (λ (bytes : List ℕ). Some (n, bytes)) behind)
+    rw (graphic, one-add, unquoted, eq-eqb letter letter refl, number) (ap (λ (bytes : List ℕ). Some (n, bytes)) behind)
 
 -- bytes that begin with a space and a letter
 begun : (bytes : List ℕ) (letter : ℕ) → 2 ≤ length bytes → get_or bytes 0 0 ≡ 32 → get_or bytes 1 0 ≡ letter →
@@ -105,7 +102,7 @@ begun bytes letter two space first =
 -- the same, as the code takes the bytes apart, where a number is found
 pub read_behind : {letter : ℕ} (bytes : List ℕ) (found : Option (ℕ × Bor (List ℕ))) → (97 ≤ letter) × (letter ≤ 122) →
     (2 ≤ length bytes) × (get_or bytes 0 0 ≡ 32) × (get_or bytes 1 0 ≡ letter) →
-    IfSome found (λ x. positive_of (take_while is_ascii_graphic (take (length bytes - 2) (drop 2 bytes))) ≡ Some x.0) →
+    IfSome found (λ x. number_of (take_while is_ascii_graphic (take (length bytes - 2) (drop 2 bytes))) ≡ Some x.0) →
     IfSome found (λ x. drop (prefix_len is_ascii_graphic (take (length bytes - 2) (drop 2 bytes))) (take (length bytes - 2) (drop 2 bytes)) ≡ x.1.now) →
     IfSome found (λ x. next_as (numbered letter) bytes ≡ Some (x.0, x.1.now))
 read_behind bytes None range front number rest = tt

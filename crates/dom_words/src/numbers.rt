@@ -92,7 +92,7 @@ fn numbered(letter: u8, word: &[u8]) -> Option<u32>
 }
 
 /// The number from 1 on whose digits stand in front of the bytes, where the word ends behind them, and the bytes from there on.
-fn positive_at(bytes: &[u8]) -> Option<(u32, &[u8])>
+pub fn positive_at(bytes: &[u8]) -> Option<(u32, &[u8])>
     ensures number { IfSome result (λ x. spec_positive_of (take_while is_ascii_graphic bytes.now) ≡ Some x.0) }
     ensures rest { IfSome result (λ x. drop (prefix_len is_ascii_graphic bytes.now) bytes.now ≡ x.1.now) }
 {
@@ -110,14 +110,25 @@ fn positive_at(bytes: &[u8]) -> Option<(u32, &[u8])>
     }
 }
 
-/// The number from 1 on behind a space and this letter, where the word ends with it, and the bytes behind the word.
+/// The number whose digits stand in front of the bytes, where the word ends behind them, and the bytes from there on.
+fn number_at(bytes: &[u8]) -> Option<(u32, &[u8])>
+    ensures number { IfSome result (λ x. spec_number_of (take_while is_ascii_graphic bytes.now) ≡ Some x.0) }
+    ensures rest { IfSome result (λ x. drop (prefix_len is_ascii_graphic bytes.now) bytes.now ≡ x.1.now) }
+{
+    match bytes {
+        [b'0', rest @ ..] if !begins_graphic(rest) => Some((0, rest)),
+        _ => positive_at(bytes),
+    }
+}
+
+/// The number behind a space and this letter, where the word ends with it, and the bytes behind the word.
 fn lettered_at(letter: u8, bytes: &[u8]) -> Option<(u32, &[u8])>
     requires low { 97 ≤ letter }
     requires high { letter ≤ 122 }
     ensures { IfSome result (λ x. next_as (spec_numbered letter) bytes.now ≡ Some (x.0, x.1.now)) }
 {
     match bytes {
-        [b' ', first, text @ ..] if *first == letter => positive_at(text),
+        [b' ', first, text @ ..] if *first == letter => number_at(text),
         _ => None,
     }
 }
@@ -132,8 +143,8 @@ impl WordReader<'_> {
         number_of(word).ok_or(NotRead::Syntax)
     }
 
-    /// The number from 1 on that the next word says behind this letter, read in one pass over its bytes; the word is taken then.
-    /// Where none is found the word stays.
+    /// The number that the next word says behind this letter, read in one pass over its bytes; the word is taken then. Where
+    /// none is found the word stays.
     pub fn lettered(&mut self, letter: u8) -> Option<u32>
         requires low { 97 ≤ letter }
         requires high { letter ≤ 122 }

@@ -5,5 +5,5 @@ use Rattle.dom_words.proofs.numbers.lettered_at.Goals as goal
 
 pub returns-in-32 : goal.returns-in-32
 returns-in-32 c =
-    read_behind c.args.bytes.now c.positive_at.result (c.requires.low, c.requires.high)
-    (c.in-32.len_at_least, omega arith, c.if-first-letter.true) c.positive_at.ensures.number c.positive_at.ensures.rest
+    read_behind c.args.bytes.now c.number_at.result (c.requires.low, c.requires.high)
+    (c.in-32.len_at_least, omega arith, c.if-first-letter.true) c.number_at.ensures.number c.number_at.ensures.rest
