@@ -7,3 +7,4 @@ pub mod StreamLaws
 mod FedPieces
 pub mod WholeLines
 mod KeywordLaws
+mod ShortOwners

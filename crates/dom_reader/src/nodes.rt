@@ -1,6 +1,6 @@
 //! Owners, and nodes as lines name them.
 
-ghost use Rattle.std.specs.Prelude.{◌≡◌, nat_lt, option_map, length, ◌≤◌};
+ghost use Rattle.std.specs.Prelude.{◌≡◌, nat_lt, option_map, length, ◌≤◌, IfSome, Some};
 ghost use Rattle.std.specs.List.{prefix_len};
 ghost use Rattle.dom_base.specs.Owners.{no_path, longer_path};
 ghost use Rattle.dom_text.specs.Readers.{only_if, between_dots, path_onto, component_of as spec_component_of, owner_of as spec_owner_of, behind as spec_behind};
@@ -14,7 +14,7 @@ ghost use Rattle.dom_reader.specs.Views.{own_letter, word_view};
 use crate::line::NodeWord;
 use crate::separated::first_part;
 use dom_base::{MAX_DEPTH, Owner, OwnerPath};
-use dom_words::{NotRead, WordReader, number_of, positive_of, word_at};
+use dom_words::{NotRead, WordReader, number_of, positive_at, positive_of, word_at};
 
 /// A path with one number more behind its own, where there is room for it.
 fn longer(path: OwnerPath, number: u32) -> Option<OwnerPath>
@@ -66,12 +66,34 @@ pub fn owner_of(word: &[u8]) -> Option<Owner>
     }
 }
 
-/// The owner whose word and a space begin the line, and the bytes from the space on.
+/// The component of one number whose word and a space begin the line, and the bytes from the space on.
+fn short_component_at(line: &[u8]) -> Option<(Owner, &[u8])>
+    ensures { IfSome result (λ x. spec_owner_at line.now ≡ Some (x.0, x.1.now)) }
+{
+    let [b'c', text @ ..] = line else {
+        return None;
+    };
+    let (number, rest) = positive_at(text)?;
+    let path = OwnerPath {
+        depth: 1,
+        parts: [number, 0, 0, 0, 0, 0, 0, 0],
+    };
+    match rest {
+        [b' ', ..] => Some((Owner::Component(path), rest)),
+        _ => None,
+    }
+}
+
+/// The owner whose word and a space begin the line, and the bytes from the space on. The page's word, and that of a component
+/// with one number, are read in one pass.
 pub fn owner_at(line: &[u8]) -> Option<(Owner, &[u8])>
     ensures { option_map (λ x. (x.0, x.1.now)) result ≡ spec_owner_at line.now }
 {
     if let [b'p', b' ', ..] = line {
         return Some((Owner::Page, &line[1..]));
+    }
+    if let Some(found) = short_component_at(line) {
+        return Some(found);
     }
     let (word, rest) = word_at(line)?;
     let owner = owner_of(word)?;

@@ -11,5 +11,5 @@ mod words;
 
 pub use labels::is_name;
 pub use not_read::NotRead;
-pub use numbers::{number_of, positive_of};
+pub use numbers::{number_of, positive_at, positive_of};
 pub use words::{WordReader, text_of, word_at};
