@@ -175,7 +175,9 @@ fn own_letter(owner: Owner) -> u8
     }
 }
 
-/// The next word as a node, as a line of the owner names it, however it is spelled.
+/// The next word as a node, as a line of the owner names it, however it is spelled. It is kept out of line, so that the reading of an
+/// owner's own node keeps few registers.
+#[inline(never)]
 fn spelled_node(owner: Owner, words: &mut WordReader) -> Result<NodeWord, NotRead>
     ensures { Takes word_view result (node_at owner words.old) words.new }
 {
