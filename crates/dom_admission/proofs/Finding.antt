@@ -1,31 +1,13 @@
 -- What a look-up of a name in a forest says of an owner's own trees.
-use Rattle.dom_base.proofs.Std.{◌≡◌, ℕ, ◌<◌, Bool, true, false, ◌||◌, List, [], ◌∷◌, length, Option, Some, None, cond, refl, sym, ap, subst, ◌∙◌, arith}
-use Rattle.dom_base.proofs.Std.{zero-add, is_some, slice_get, count_by, find, option_map, ForSome, sum_by-cons, slice_get_within, get_or_from_slice_get}
+use Rattle.dom_base.proofs.Std.{◌≡◌, ℕ, ◌<◌, Bool, true, false, ◌||◌, List, [], ◌∷◌, length, Option, Some, None, refl, sym, ap, ◌∙◌}
+use Rattle.dom_base.proofs.Std.{is_some, slice_get, find, ForSome, slice_get_within, get_or_from_slice_get}
 use Rattle.dom_model.proofs.Model.{Owner, Page, NodeName, name_eq, is_in, node_of, NodeWord, own, foreign, named, Part, World, part_of, owner-part_of, Trees}
-use Rattle.dom_model.proofs.Model.{Node, nodes, names_of, has_node, node_in, no_node, is_document, name_eq-turned}
+use Rattle.dom_model.proofs.Model.{Node, nodes, names_of, has_node, node_in, no_node, name_eq-turned}
 use Rattle.dom_admission.specs.Refusals.{number_in}
 use Rattle.dom_tree.specs.Definitions.{name_at, trees_of_owner, AreOwned, IsReadOwn}
 use Rattle.dom_tree.proofs.Owned.{read_own}
 use Rattle.dom_mutation.specs.Definitions.{DocState, name_in, owner_in, trees_in}
 use Rattle.dom_admission.specs.Turned.{turned}
-
--- a node that is counted once is there
-pub counted : (ns : List Node) (x : NodeName) → count_by (λ n. name_eq n.name x) ns ≡ 1 → is_in name_eq x (names_of ns) ≡ true
-counted [] x e = absurd (omega (arith, e))
-counted (n ∷ ns) x e = cases (name_eq n.name x) refl (λ rest. counted ns x rest)
-  where
-    cases : (t : Bool) → name_eq n.name x ≡ t → (count_by (λ n. name_eq n.name x) ns ≡ 1 → is_in name_eq x (names_of ns) ≡ true) →
-        is_in name_eq x (names_of (n ∷ ns)) ≡ true
-    cases true h more = rw (name_eq-turned x n.name, h) refl
-    cases false h more =
-        let rest : count_by (λ n. name_eq n.name x) ns ≡ 1 =
-        sym (zero-add (count_by (λ n. name_eq n.name x) ns)) ∙ (rw (sum_by-cons (λ (n : Node). cond (name_eq n.name x) 1 0) n ns, h) at e) in
-        rw (name_eq-turned x n.name, h) (more rest)
-
--- what a forest says of its names
-pub record FindsNames (names : List NodeName) (ts : Trees) : Type 0 where
-  pub once : (k : ℕ) → k < length names → count_by (λ n. name_eq n.name (name_at names k)) (nodes ts) ≡ 1
-  pub only : (x : NodeName) → has_node ts x ≡ true → (k : ℕ) × (slice_get names k ≡ Some x)
 
 pub named-number_in : (p : Part) (s : NodeWord) → named p s ≡ node_of p.owner (number_in s)
 named-number_in p (own k) = refl
@@ -52,33 +34,19 @@ pub found_node : (names : List NodeName) (x : NodeName) (r : Option ℕ) → For
     ForSome r (λ k. (k < length names) × (name_at names k ≡ x))
 found_node names x r found k e = let is = found k e in (slice_get_within names k x is, get_or_from_slice_get names k x (node_of Page 0) is)
 
--- the look-up finds the nodes that are there
-pub is_found : {names : List NodeName} {ts : Trees} (x : NodeName) (r : Option ℕ) → FindsNames names ts → ForSome r (λ k. slice_get names k ≡ Some x) →
-    ((k : ℕ) → slice_get names k ≡ Some x → r ≡ Some k) → is_some r ≡ has_node ts x
-is_found {names = names} {ts = ts} x (Some k) finds found kept =
-    let is = found_node names x (Some k) found k refl in
-    let once : count_by (λ n. name_eq n.name x) (nodes ts) ≡ 1 =
-    ap (λ (y : NodeName). count_by (λ n. name_eq n.name y) (nodes ts)) (sym is.1) ∙ finds.once k is.0 in
-    sym (counted (nodes ts) x once)
-is_found {ts = ts} x None finds found kept = cases (has_node ts x) refl
-  where
-    cases : (b : Bool) → has_node ts x ≡ b → false ≡ b
-    cases true h = let there = finds.only x h in let no : None ≡ Some there.0 = kept there.0 there.1 in absurd cc
-    cases false h = refl
-
 -- Trees of all owners, and a world that shows them.
 module _ (ts : Trees) (w : World) (owned : AreOwned ts) (own_trees : (o : Owner) → trees_of_owner o ts ≡ (part_of w o).trees) where
   -- a node is found in an owner's own trees, as a line of the owner spells it
-  pub find_own : {names : List NodeName} {n : ℕ} {r : Option ℕ} (o : Owner) (s : NodeWord) → FindsNames names ts → n ≡ number_in s →
-      ForSome r (λ k. slice_get names k ≡ Some (node_of o n)) → ((k : ℕ) → slice_get names k ≡ Some (node_of o n) → r ≡ Some k) →
+  pub find_own : (names : List NodeName) {n : ℕ} {r : Option ℕ} (o : Owner) (s : NodeWord) → n ≡ number_in s →
+      ForSome r (λ k. slice_get names k ≡ Some (node_of o n)) → is_some r ≡ has_node ts (node_of o n) →
       ForSome r (λ k. (k < length names) × (name_at names k ≡ named (part_of w o) s))
       × (is_some r ≡ has_node (part_of w o).trees (named (part_of w o) s))
-  find_own {names = names} {n = n} {r = r} o s finds e found kept =
+  find_own names {n = n} {r = r} o s e found there =
       let x = node_of o n in
       let spelled : named (part_of w o) s ≡ x =
       named-number_in (part_of w o) s ∙ ap (λ (p : Owner). node_of p (number_in s)) (owner-part_of w o) ∙ ap (node_of o) (sym e) in
       let here : has_node ts x ≡ has_node (part_of w o).trees x = (read_own ts owned o x refl).presence ∙ ap (λ (us : Trees). has_node us x) (own_trees o) in
-      rw spelled (found_node names x r found, is_found x r finds found kept ∙ here)
+      rw spelled (found_node names x r found, there ∙ here)
 
 -- a name that no node has is not found
 absent : (ns : List Node) (x : NodeName) → is_in name_eq x (names_of ns) ≡ false → find (λ n. name_eq n.name x) ns ≡ None
@@ -94,17 +62,6 @@ absent (n ∷ ns) x h = cases (name_eq n.name x) refl (rw (name_eq-turned x n.na
 -- it reads as a fragment without a node document
 pub no_node-absent : (ts : Trees) (x : NodeName) → has_node ts x ≡ false → no_node x ≡ node_in ts x
 no_node-absent ts x h = rw (absent (nodes ts) x h) refl
-
--- a document is found
-pub found-document : (ts : Trees) (x : NodeName) (r : Option ℕ) → is_some r ≡ has_node ts x → is_document (node_in ts x).kind ≡ true → is_some r ≡ true
-found-document ts x (Some k) e h = refl
-found-document ts x None e h = let no : false ≡ true = ap (λ (n : Node). is_document n.kind) (no_node-absent ts x (sym e)) ∙ h in absurd cc
-
--- the name of a key that was found
-pub name-found : (names : List NodeName) (x : NodeName) (r : Option ℕ) → ForSome r (λ k. (k < length names) × (name_at names k ≡ x)) →
-    is_some r ≡ true → option_map (name_at names) r ≡ Some x
-name-found names x (Some k) found e = ap Some (found k refl).1
-name-found names x None found e = absurd cc
 
 -- a node that is named, by the number of its name
 numbered : (p : Part) (s : NodeWord) (x : NodeName) → x ≡ named p s → named p (own x.number) ≡ named p s
@@ -147,12 +104,3 @@ module _ (t : Option Owner) (d now : DocState) (seen : turned t d ≡ now) (o : 
     mine = owner-named d.world o s;
     reads = read_own ts owned o (named (part_of d.world o) s) (owner-named d.world o s);
   }
-
-  -- what is read of it in the trees of all owners is read so of the node that is named, in its owner's
-  pub read_found : {A : Type 0} {names : List NodeName} {ts : Trees} (f : Trees → NodeName → A) → names ≡ d.names → AreOwned ts →
-      ((p : Owner) → trees_of_owner p ts ≡ (part_of d.world p).trees) →
-      ((p : Owner) (x : NodeName) → IsReadOwn p ts x → f ts x ≡ f (trees_of_owner p ts) x) →
-      f ts (name_at names key) ≡ f (part_of now.world o).trees (named (part_of now.world o) s)
-  read_found {names = names} {ts = ts} f all owned each same =
-      subst (λ (u : DocState). f ts (name_at names key) ≡ f (part_of u.world o).trees (named (part_of u.world o) s)) seen
-      (read_of d key f all owned each same ∙ told_one (λ p x. f p.trees x) key_of)

@@ -1,5 +1,5 @@
 -- How a command is handled: it passes the tests that all commands share, then it changes its owner's part and answers, or only answers.
-use Rattle.dom_base.proofs.Std.{◌≡◌, ℕ, Bool, true, false, not, ◌&&◌, unwrap_or, List, [], ◌∷◌, ◌++◌, map, Option, Some, None, Result, Ok, Err, refl, sym, ap}
+use Rattle.dom_base.proofs.Std.{◌≡◌, ℕ, Bool, true, false, not, unwrap_or, List, [], ◌∷◌, ◌++◌, map, Option, Some, None, Result, Ok, Err, refl, sym, ap}
 use Rattle.dom_base.proofs.Std.{subst, ◌∙◌, append_assoc, is_some, if◌then◌else◌, IsErrAnd, append-nil, option_or}
 use Rattle.dom_model.proofs.Model.{Fault, Refused, Memory, Refusal, Busy, Foreign, Unknown, WrongKind, NodeName, Owner, Plan, named, owner_eq, Effect, answers}
 use Rattle.dom_model.proofs.Model.{changes, Output, says, replied, Said, Value, Part, empty_part, first_refusal, Run, Step, opening_turn, World, part_of}
@@ -10,7 +10,7 @@ use Rattle.dom_text.proofs.OutputLaws.{output_text-append}
 use Rattle.dom_mutation.specs.Definitions.{DocState, MakesSaying, made, name_in, owner_in}
 use Rattle.dom_admission.specs.declared.admission.Operand.{Operand}
 use Rattle.dom_admission.specs.Handled.{IsDone, IsHandled, let_pass}
-use Rattle.dom_admission.specs.Refusals.{is_there_as, is_fit, has_foreign, are_there, are_fitting, early_refusal}
+use Rattle.dom_admission.specs.Refusals.{is_there_as, has_foreign, are_there, are_fitting, early_refusal}
 use Rattle.dom_admission.specs.Turned.{with_turn, turned, opened_turn}
 use Rattle.dom_tree.specs.Definitions.{name_at}
 use Rattle.dom_admission.proofs.Finding.{key_of}
@@ -55,22 +55,10 @@ passes w o names is ok = record { early = none; owner = known.0; present = known
 pub one_there : {w : World} {o : Owner} {n : Operand} → Passes w o (n ∷ []) → is_there_as (part_of w o) n ≡ true
 one_there {w = w} {o = o} {n = n} p = sym (and_true (is_there_as (part_of w o) n)) ∙ p.present
 
--- the first node that it names is of the kind that is asked for
-pub first_fits : {w : World} {o : Owner} {n : Operand} {ns : List Operand} → Passes w o (n ∷ ns) → is_fit (part_of w o) n ≡ true
-first_fits {w = w} {o = o} {n = n} {ns = ns} p = first (is_fit (part_of w o) n) (are_fitting (part_of w o) ns) p.fitting
-  where
-    first : (a b : Bool) → (a && b) ≡ true → a ≡ true
-    first true b h = refl
-    first false b h = absurd cc
-
 -- In a state with these documents, a line that was let pass: what it names is so in the documents.
 module _ (t : Option Owner) (d s : DocState) (seen : turned t d ≡ s) (o : Owner) (n : Operand) where
   pub thing_there : {r : Result (Unit {0}) Fault} → r ≡ let_pass (early_refusal s.world o (n ∷ [])) → r ≡ Ok tt → is_there_as (part_of d.world o) n ≡ true
   thing_there is ok = rw (← seen) at (one_there (passes s.world o (n ∷ []) is ok))
-
-  pub fits : (ns : List Operand) {r : Result (Unit {0}) Fault} → r ≡ let_pass (early_refusal s.world o (n ∷ ns)) → r ≡ Ok tt →
-      is_fit (part_of d.world o) n ≡ true
-  fits ns is ok = rw (← seen) at (first_fits (passes s.world o (n ∷ ns) is ok))
 
 -- a line that doesn't pass is refused, and nothing is changed
 module _ (w : World) (o : Owner) (c : Command) (names : List Operand) (text : List ℕ) where
@@ -241,31 +229,22 @@ module _ (t : Option Owner) (d s : DocState) (seen : turned t d ≡ s) {o : Owne
 
 -- ---- commands that only answer
 
--- a part that is found is the owner's
-owner-found : (ps : List Part) (o : Owner) (d : Part) → is_some (find_part ps o) ≡ true → (unwrap_or (find_part ps o) d).owner ≡ o
-owner-found [] o d h = absurd cc
-owner-found (q ∷ qs) o d h = cases (owner_eq q.owner o) refl (λ g. owner-found qs o d g)
+-- a part that is found is the owner's, and writing it as it is changes nothing
+found_same : (ps : List Part) (o : Owner) (d : Part) → is_some (find_part ps o) ≡ true →
+    ((unwrap_or (find_part ps o) d).owner ≡ o) × (put_part ps (unwrap_or (find_part ps o) d) ≡ ps)
+found_same [] o d h = absurd cc
+found_same (q ∷ qs) o d h = cases (owner_eq q.owner o) refl (λ g. found_same qs o d g)
   where
-    cases : (b : Bool) → owner_eq q.owner o ≡ b → (is_some (find_part qs o) ≡ true → (unwrap_or (find_part qs o) d).owner ≡ o) →
-        (unwrap_or (find_part (q ∷ qs) o) d).owner ≡ o
-    cases true e more = rw e (owner_eq-true q.owner o e)
-    cases false e more = rw e (more (rw e at h))
-
--- a part that is written as it is changes nothing
-put_same : (ps : List Part) (o : Owner) (d : Part) → is_some (find_part ps o) ≡ true → put_part ps (unwrap_or (find_part ps o) d) ≡ ps
-put_same [] o d h = absurd cc
-put_same (q ∷ qs) o d h = cases (owner_eq q.owner o) refl (λ g. put_same qs o d g)
-  where
-    cases : (b : Bool) → owner_eq q.owner o ≡ b → (is_some (find_part qs o) ≡ true → put_part qs (unwrap_or (find_part qs o) d) ≡ qs) →
-        put_part (q ∷ qs) (unwrap_or (find_part (q ∷ qs) o) d) ≡ q ∷ qs
-    cases true e more = rw (e, owner_eq-same q.owner) refl
+    cases : (b : Bool) → owner_eq q.owner o ≡ b →
+        (is_some (find_part qs o) ≡ true → ((unwrap_or (find_part qs o) d).owner ≡ o) × (put_part qs (unwrap_or (find_part qs o) d) ≡ qs)) →
+        ((unwrap_or (find_part (q ∷ qs) o) d).owner ≡ o) × (put_part (q ∷ qs) (unwrap_or (find_part (q ∷ qs) o) d) ≡ q ∷ qs)
+    cases true e more = (rw e (owner_eq-true q.owner o e), rw (e, owner_eq-same q.owner) refl)
     cases false e more =
-        let rest : is_some (find_part qs o) ≡ true = rw e at h in
-        rw (e, owner-found qs o d rest, e) (ap (λ (ps : List Part). q ∷ ps) (more rest))
+        let rest = more (rw e at h) in (rw e rest.0, rw (e, rest.0, e) (ap (λ (ps : List Part). q ∷ ps) rest.1))
 
 pub with_part-same : (w : World) (o : Owner) → is_there w o ≡ true → with_part w (part_of w o) ≡ w
 with_part-same w o h = ap (λ (ps : List Part). record { parts = ps; signalled = w.signalled; tasks = w.tasks; turn = w.turn })
-    (put_same w.parts o (empty_part o) h)
+    (found_same w.parts o (empty_part o) h).1
 
 -- what does not go by the open turn is the same when an owner's is open
 pub opened-same : {A : Type 0} (f : World → A) (w : World) (o : Owner) → ((t : Option Owner) → f w ≡ f (with_turn t w)) → f w ≡ f (opening_turn w o)

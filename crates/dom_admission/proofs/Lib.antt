@@ -1,3 +1,4 @@
+mod Admitting
 pub mod Finding
 pub mod Handling
 pub mod OwnRefusals

@@ -28,6 +28,11 @@ abbrev pub let_pass : Option Refusal → Result (Unit {0}) Fault
 let_pass None = Ok tt
 let_pass (Some r) = Err (Refused r)
 
+-- how a line is let pass that gives something then (own rule)
+abbrev pub passing : {A : Type 0} → Result A Fault → Result (Unit {0}) Fault
+passing (Ok x) = Ok tt
+passing (Err f) = Err f
+
 -- the first names are these: nodes were made, or none
 abbrev pub BeginsWith : List NodeName → List NodeName → Type 0
 BeginsWith names more = take (length names) more ≡ names

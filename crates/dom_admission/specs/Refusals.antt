@@ -1,12 +1,13 @@
 -- The refusals that come before those of a command's own: the tests in their order (own rules).
-use Rattle.std.specs.Prelude.{ℕ, Bool, true, false, not, ◌&&◌, ◌||◌, codes, List, [], ◌∷◌, slice_get, Option, Some, None, is_some}
+use Rattle.std.specs.Prelude.{◌≡◌, ℕ, Bool, true, false, not, ◌&&◌, ◌||◌, codes, List, [], ◌∷◌, slice_get, Option, Some, None, is_some}
 use Rattle.std.specs.List.{list_any, list_all}
-use Rattle.std.specs.Option.{option_map_or}
+use Rattle.std.specs.Option.{ForSome, option_map_or}
 use Rattle.dom_base.specs.declared.Owner.{Owner}
+use Rattle.dom_base.specs.declared.NodeName.{NodeName}
 use Rattle.dom_base.specs.declared.Kind.{Kind}
 use Rattle.dom_base.specs.declared.Refusal.{Refusal}
 use Rattle.dom_base.specs.declared.Refusal.TheVariants.{Busy, Foreign, Unknown, WrongKind}
-use Rattle.dom_model.specs.Names.{Word, text_eq}
+use Rattle.dom_model.specs.Names.{Word, text_eq, node_of}
 use Rattle.dom_model.specs.Tree.{Node, node_in, has_node, is_element, is_text, is_document, has_data}
 use Rattle.dom_model.specs.Command.{NodeWord, own, foreign}
 use Rattle.dom_model.specs.CommandNames.{named, is_foreign}
@@ -14,6 +15,7 @@ use Rattle.dom_model.specs.Part.{Part, range_at}
 use Rattle.dom_model.specs.Validity.{first_refusal}
 use Rattle.dom_model.specs.World.{World, part_of, is_there}
 use Rattle.dom_model.specs.DocumentMachine.{is_busy}
+use Rattle.dom_mutation.specs.Doc.{DocState, HoldsNode, name_in, trees_in}
 use Rattle.dom_reader.specs.declared.line.NodeWord as line
 use Rattle.dom_reader.specs.Views.{word_view}
 use Rattle.dom_admission.specs.declared.admission.Operand.{Operand}
@@ -91,6 +93,36 @@ are_there p ns = list_all (is_there_as p) ns
 -- whether the nodes are of the kinds that are asked for
 abbrev pub are_fitting : Part → List Operand → Bool
 are_fitting p ns = list_all (is_fit p) ns
+
+-- the name of the node that is named; of a range, an iterator, a walker or an observer that of the owner's first node
+abbrev pub name_named : Part → Operand → NodeName
+name_named p n = option_map_or (λ x. named p (word_view x)) (node_named n) (node_of p.owner 0)
+
+-- whether the node of a key is of the kind that is asked for
+abbrev pub is_kind_at : DocState → Operand → ℕ → Bool
+is_kind_at s n key = accepts_node n (node_in (trees_in s key) (name_in s key))
+
+-- a key of the node that an owner's line names
+pub record IsNamedBy (s : DocState) (o : Owner) (n : Operand) (key : ℕ) : Type 0 where
+  pub node : HoldsNode s key
+  pub name : name_in s key ≡ name_named (part_of s.world o) n
+  pub owner : is_there s.world o ≡ true
+
+-- the look-up of the node that an owner's line names gave this
+pub record IsLookedUp (s : DocState) (o : Owner) (n : Operand) (r : Option ℕ) : Type 0 where
+  pub there : is_some r ≡ is_there_as (part_of s.world o) n
+  pub found : ForSome r (IsNamedBy s o n)
+
+-- a key of the node that an owner's line names, which is of the kind that is asked for
+pub record IsKeyOf (s : DocState) (o : Owner) (n : Operand) (key : ℕ) : Type 0 where
+  pub node : HoldsNode s key
+  pub name : name_in s key ≡ name_named (part_of s.world o) n
+  pub kind : is_kind_at s n key ≡ true
+
+-- the refusal of a line by whether it comes when it may not, names another owner's node, and names what is there and of the kinds
+-- that are asked for
+abbrev pub four_tests : Bool → Bool → Bool → Bool → Option Refusal
+four_tests busy others present fits = first_refusal ((busy, Busy) ∷ (others, Foreign) ∷ (not present, Unknown) ∷ (not fits, WrongKind) ∷ [])
 
 -- the refusal of a line of an owner that names these, if there is one
 abbrev pub early_refusal : World → Owner → List Operand → Option Refusal

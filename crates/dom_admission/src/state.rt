@@ -9,12 +9,13 @@ ghost use Rattle.dom_model.specs.CommandNames.{named};
 ghost use Rattle.dom_model.specs.World.{part_of, is_there};
 ghost use Rattle.dom_model.specs.Turns.{opening_turn};
 ghost use Rattle.dom_model.specs.DocumentMachine.{first_world, is_busy};
+ghost use Rattle.dom_tree.specs.Forest.{name_of};
 ghost use Rattle.dom_tree.specs.Owners.{trees_of_owner, AreOwned};
 ghost use Rattle.dom_slots.specs.Kept.{AreSlotsOf};
 ghost use Rattle.dom_slots.specs.Shadows.{shadows, IsShownBy};
 ghost use Rattle.dom_reader.specs.Views.{word_view};
 ghost use Rattle.dom_admission.specs.Refusals.{number_in};
-ghost use Rattle.dom_mutation.specs.Doc.{HoldsNode, name_in};
+ghost use Rattle.dom_mutation.specs.Doc.{HoldsNode, name_in, trees_in};
 
 use dom_base::{Kind, NodeName, Owner};
 use dom_mutation::Doc;
@@ -98,6 +99,7 @@ impl State {
         ensures names { result.now.names ≡ self.now.names }
         ensures trees { (o : OwnerOf) → trees_of_owner o result.now.trees ≡ (part_of self.now.world o).trees }
         ensures owned { AreOwned result.now.trees }
+        ensures nodes { (k : ℕ) → node_in result.now.trees (name_of result.now k) ≡ node_in (trees_in self.now k) (name_in self.now k) }
     {
         self.doc.forest()
     }
@@ -112,6 +114,7 @@ impl State {
     }
 
     /// The node that an owner's line names, if it is there.
+    #[inline(always)]
     pub fn find(&self, owner: Owner, node: NodeWord) -> Option<Key>
         ensures found { ForSome result (λ key. (HoldsNode self.now key) ×
             (name_in self.now key ≡ named (part_of self.now.world owner) (word_view node))) }
@@ -119,7 +122,6 @@ impl State {
     {
         let number = number_in(node);
         let forest = self.doc.forest();
-        forest.law_nodes_stand_once();
         forest.find(NodeName { owner, number })
     }
 
@@ -130,24 +132,30 @@ impl State {
         self.find(owner, node).is_some()
     }
 
-    /// The kind of the node that an owner's line names; a name that no node has reads as a fragment.
-    pub fn kind(&self, owner: Owner, node: NodeWord) -> Kind
-        ensures { result ≡ (node_in (part_of self.now.world owner).trees (named (part_of self.now.world owner) (word_view node))).kind }
+    /// The kind of a node.
+    #[inline(always)]
+    pub fn kind(&self, key: Key) -> Kind
+        requires { HoldsNode self.now key }
+        ensures { result ≡ (node_in (trees_in self.now key) (name_in self.now key)).kind }
     {
-        match self.find(owner, node) {
-            Some(key) => self.doc.forest().kind(key),
-            None => Kind::Fragment,
-        }
+        self.forest().kind(key)
     }
 
-    /// The local name of the element that an owner's line names; another node, and a name that no node has, read as empty.
-    pub fn element(&self, owner: Owner, node: NodeWord) -> &str
-        ensures { result.now ≡ (node_in (part_of self.now.world owner).trees (named (part_of self.now.world owner) (word_view node))).element }
+    /// The local name of an element; another node's reads as empty.
+    pub(crate) fn element(&self, key: Key) -> &str
+        requires { HoldsNode self.now key }
+        ensures { result.now ≡ (node_in (trees_in self.now key) (name_in self.now key)).element }
     {
-        match self.find(owner, node) {
-            Some(key) => self.doc.forest().element(key),
-            None => "",
-        }
+        self.forest().element(key)
+    }
+
+    /// The node document of a node, if it has one.
+    pub fn document_of(&self, key: Key) -> Option<Key>
+        requires { HoldsNode self.now key }
+        ensures value { option_map (name_in self.now) result ≡ (node_in (trees_in self.now key) (name_in self.now key)).document }
+        ensures node { ForSome result (HoldsNode self.now) }
+    {
+        self.forest().document(key)
     }
 
     /// The node document of the node that an owner's line names, if it has one.
@@ -157,7 +165,7 @@ impl State {
         ensures node { ForSome result (HoldsNode self.now) }
     {
         match self.find(owner, node) {
-            Some(key) => self.doc.forest().document(key),
+            Some(key) => self.document_of(key),
             None => None,
         }
     }

@@ -1,3 +1,4 @@
+mod Handlers
 mod Attaching
 mod CommandPlans
 mod NamedNodes

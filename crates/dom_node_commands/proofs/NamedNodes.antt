@@ -1,9 +1,11 @@
 -- What is said of two or three nodes by their keys, and by the owner of the first, is said of their names.
-use Rattle.dom_base.proofs.Std.{◌≡◌, ℕ, Option}
+use Rattle.dom_base.proofs.Std.{◌≡◌, ℕ, true, Option, subst, sym}
 use Rattle.dom_model.proofs.Model.{NodeName, Owner, Plan, NodeWord, named, Part, part_of}
 use Rattle.dom_mutation.specs.Definitions.{DocState, made, name_in, owner_in}
 use Rattle.dom_tree.specs.Definitions.{name_at}
 use Rattle.dom_admission.specs.Turned.{turned}
+use Rattle.dom_admission.specs.Refusals.{is_kind_at}
+use Rattle.dom_admission.specs.declared.admission.Operand.{Operand}
 use Rattle.dom_admission.proofs.Finding.{KeyOf, key_of}
 
 -- In a state with these documents, keys by which nodes were looked up.
@@ -33,3 +35,8 @@ module _ {d : DocState} {o : Owner} {a b : NodeWord} {i j : ℕ} where
       made (owner_in d i) (plan (name_in d i) (name_in d j) (name_in d k)) d.world ≡
       made o (plan (named (part_of d.world o) a) (named (part_of d.world o) b) (named (part_of d.world o) c)) d.world
   made_three plan x = λ l. made (x.0.mine l) (plan (x.0.name l) (x.1.name l) (x.2.name l)) d.world
+
+-- the kind of a node is so in the documents
+module _ (t : Option Owner) where
+  pub kind_in : (d now : DocState) (n : Operand) (key : ℕ) → turned t d ≡ now → is_kind_at now n key ≡ true → is_kind_at d n key ≡ true
+  kind_in d now n key seen h = subst (λ (s : DocState). is_kind_at s n key ≡ true) (sym seen) h

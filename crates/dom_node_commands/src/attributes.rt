@@ -27,8 +27,7 @@ pub fn set_attribute(
         out.old.items out.new.items result }
     ensures names { KeepsNames state.old.names state.new.names result }
 {
-    state.admit(owner, &[Operand::Element(element)])?;
-    let element = state.key(owner, element);
+    let element = state.admit_one(owner, Operand::Element(element))?;
     state.doc.set_attr(element, &name, value)?;
     state.accept(owner, &Value::Nothing, out)
 }
@@ -45,8 +44,7 @@ pub fn unset_attribute(
         out.new.items result }
     ensures names { KeepsNames state.old.names state.new.names result }
 {
-    state.admit(owner, &[Operand::Element(element)])?;
-    let element = state.key(owner, element);
+    let element = state.admit_one(owner, Operand::Element(element))?;
     state.doc.remove_attr(element, &name)?;
     state.accept(owner, &Value::Nothing, out)
 }
@@ -63,8 +61,7 @@ pub fn attribute(
         out.new.items result }
     ensures names { KeepsNames state.old.names state.new.names result }
 {
-    state.admit(owner, &[Operand::Element(element)])?;
-    let element = state.key(owner, element);
+    let element = state.admit_one(owner, Operand::Element(element))?;
     put_reply(out, owner, &attribute_value(state, element, &name))?;
     state.open_turn(owner);
     Ok(())

@@ -19,8 +19,7 @@ pub fn set_data(
     ensures handled { IsHandled owner (set_data (word_view node) text.items) state.old.world state.new.world out.old.items out.new.items result }
     ensures names { KeepsNames state.old.names state.new.names result }
 {
-    state.admit(owner, &[Operand::Data(node)])?;
-    let node = state.key(owner, node);
+    let node = state.admit_one(owner, Operand::Data(node))?;
     state.doc.set_data(node, text)?;
     state.accept(owner, &Value::Nothing, out)
 }
@@ -39,8 +38,7 @@ pub fn replace_data(
         out.new.items result }
     ensures names { KeepsNames state.old.names state.new.names result }
 {
-    state.admit(owner, &[Operand::Data(node)])?;
-    let node = state.key(owner, node);
+    let node = state.admit_one(owner, Operand::Data(node))?;
     state
         .doc
         .replace_data(node, offset as usize, count as usize, text)?;
@@ -58,8 +56,7 @@ pub fn split(
     ensures handled { IsHandled owner (split (word_view node) offset) state.old.world state.new.world out.old.items out.new.items result }
     ensures names { KeepsNames state.old.names state.new.names result }
 {
-    state.admit(owner, &[Operand::Text(node)])?;
-    let node = state.key(owner, node);
+    let node = state.admit_one(owner, Operand::Text(node))?;
     let tail = state.doc.split(node, offset as usize)?;
     let made = state.doc.forest().name(tail);
     state.accept(owner, &Value::Node(made), out)
@@ -77,8 +74,7 @@ pub fn set_text(
     ensures handled { IsHandled owner (set_text (word_view node) text.items) state.old.world state.new.world out.old.items out.new.items result }
     ensures names { KeepsNames state.old.names state.new.names result }
 {
-    state.admit(owner, &[Operand::Any(node)])?;
-    let node = state.key(owner, node);
+    let node = state.admit_one(owner, Operand::Any(node))?;
     state.doc.set_text(node, text)?;
     state.accept(owner, &Value::Nothing, out)
 }
@@ -93,8 +89,7 @@ pub fn normalize(
     ensures handled { IsHandled owner (normalize (word_view node)) state.old.world state.new.world out.old.items out.new.items result }
     ensures names { KeepsNames state.old.names state.new.names result }
 {
-    state.admit(owner, &[Operand::Any(node)])?;
-    let node = state.key(owner, node);
+    let node = state.admit_one(owner, Operand::Any(node))?;
     state.doc.normalize(node)?;
     state.accept(owner, &Value::Nothing, out)
 }

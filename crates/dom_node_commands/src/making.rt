@@ -124,11 +124,11 @@ fn first_document(state: &State, owner: Owner) -> Option<Key>
     ensures value { option_map (name_in state.now) result ≡ new_document_of (part_of state.now.world owner) }
     ensures node { ForSome result (HoldsNode state.now) }
 {
-    let first = NodeWord::Own(0);
-    if is_document(state.kind(owner, first)) {
-        state.find(owner, first)
+    let first = state.find(owner, NodeWord::Own(0))?;
+    if is_document(state.kind(first)) {
+        Some(first)
     } else {
-        state.document(owner, first)
+        state.document_of(first)
     }
 }
 

@@ -19,8 +19,7 @@ pub fn append(
     ensures handled { IsHandled owner (append (word_view parent) (word_view node)) state.old.world state.new.world out.old.items out.new.items result }
     ensures names { KeepsNames state.old.names state.new.names result }
 {
-    state.admit(owner, &[Operand::Any(parent), Operand::Any(node)])?;
-    let (parent, node) = (state.key(owner, parent), state.key(owner, node));
+    let (parent, node) = state.admit_two(owner, Operand::Any(parent), Operand::Any(node))?;
     state.doc.insert(parent, node, None)?;
     state.accept(owner, &Value::Nothing, out)
 }
@@ -38,14 +37,12 @@ pub fn insert(
         out.old.items out.new.items result }
     ensures names { KeepsNames state.old.names state.new.names result }
 {
-    let named = [
+    let (parent, node, child) = state.admit_three(
+        owner,
         Operand::Any(parent),
         Operand::Any(node),
         Operand::Any(child),
-    ];
-    state.admit(owner, &named)?;
-    let (parent, node) = (state.key(owner, parent), state.key(owner, node));
-    let child = state.key(owner, child);
+    )?;
     state.doc.insert(parent, node, Some(child))?;
     state.accept(owner, &Value::Nothing, out)
 }
@@ -63,14 +60,12 @@ pub fn replace(
         out.old.items out.new.items result }
     ensures names { KeepsNames state.old.names state.new.names result }
 {
-    let named = [
+    let (parent, node, child) = state.admit_three(
+        owner,
         Operand::Any(parent),
         Operand::Any(node),
         Operand::Any(child),
-    ];
-    state.admit(owner, &named)?;
-    let (parent, node) = (state.key(owner, parent), state.key(owner, node));
-    let child = state.key(owner, child);
+    )?;
     state.doc.replace(parent, node, child)?;
     state.accept(owner, &Value::Nothing, out)
 }
@@ -85,8 +80,7 @@ pub fn remove(
     ensures handled { IsHandled owner (remove (word_view node)) state.old.world state.new.world out.old.items out.new.items result }
     ensures names { KeepsNames state.old.names state.new.names result }
 {
-    state.admit(owner, &[Operand::Child(node)])?;
-    let node = state.key(owner, node);
+    let node = state.admit_one(owner, Operand::Child(node))?;
     state.doc.remove(node)?;
     state.accept(owner, &Value::Nothing, out)
 }
@@ -102,8 +96,7 @@ pub fn adopt(
     ensures handled { IsHandled owner (adopt (word_view document) (word_view node)) state.old.world state.new.world out.old.items out.new.items result }
     ensures names { KeepsNames state.old.names state.new.names result }
 {
-    state.admit(owner, &[Operand::Document(document), Operand::Any(node)])?;
-    let (document, node) = (state.key(owner, document), state.key(owner, node));
+    let (document, node) = state.admit_two(owner, Operand::Document(document), Operand::Any(node))?;
     state.doc.adopt(document, node)?;
     state.accept(owner, &Value::Nothing, out)
 }

@@ -26,8 +26,7 @@ pub fn attach(
     ensures handled { IsHandled owner (attach (word_view host)) state.old.world state.new.world out.old.items out.new.items result }
     ensures names { KeepsNames state.old.names state.new.names result }
 {
-    state.admit(owner, &[Operand::Element(host)])?;
-    let host = state.key(owner, host);
+    let host = state.admit_one(owner, Operand::Element(host))?;
     let root = state.doc.attach(host)?;
     let component = state.doc.forest().name(root).owner;
     state.accept(owner, &Value::Component(component), out)

@@ -1,6 +1,4 @@
-use Rattle.dom_base.proofs.Std.{◌∙◌, ap}
-use Rattle.dom_model.proofs.Model.{string_or_null, attribute_value, node_in}
-use Rattle.dom_admission.proofs.Finding.{read_of}
+use Rattle.dom_node_commands.proofs.Handlers.{◌∙◌, ap, attribute_value, node_in, read_of, string_or_null}
 use Rattle.dom_node_commands.proofs.attributes.attribute_value.Goals as goal
 
 pub attr-requires : goal.attr-requires

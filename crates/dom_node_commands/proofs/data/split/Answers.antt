@@ -1,38 +1,29 @@
-use Rattle.dom_base.proofs.Std.{◌∷◌, ◌∙◌, ◌++◌, [], Err, ap, refl}
-use Rattle.dom_model.proofs.Model.{named, changes, a_node, next_name, splitting, is_text, kind_of, part_of}
-use Rattle.dom_admission.specs.declared.admission.Operand.TheVariants.{Text}
-use Rattle.dom_mutation.specs.Definitions.{splitting_refusal}
-use Rattle.dom_reader.specs.Views.{word_view}
-use Rattle.dom_admission.proofs.Finding.{key_of, told_one}
-use Rattle.dom_admission.proofs.Handling.{faults, fits, makes, may_act, refused}
-use Rattle.dom_admission.proofs.OwnRefusals.{none_stopped, refuses}
-use Rattle.dom_admission.proofs.Refusing.{namings}
-use Rattle.dom_node_commands.proofs.CommandPlans.{name-last}
+use Rattle.dom_node_commands.proofs.Handlers.{◌++◌, ◌∙◌, ◌∷◌, Err, Text, [], a_node, ap, changes, faults, key_of, kind_in, makes, may_act, name-last, named}
+use Rattle.dom_node_commands.proofs.Handlers.{namings, next_name, none_stopped, part_of, refl, refused, refuses, splitting, splitting_refusal, told_one}
+use Rattle.dom_node_commands.proofs.Handlers.{word_view}
 use Rattle.dom_node_commands.proofs.data.split.Goals as goal
 
-pub returns-in_err-admit-clause-handled : goal.returns-in_err-admit-clause-handled
-returns-in_err-admit-clause-handled c = refused _ _ _ (Text c.args.node ∷ []) _ _ (search namings) c.admit.ensures c.in_err-admit.was c.from_residual.ensures.1
+pub returns-in_err-node-clause-handled : goal.returns-in_err-node-clause-handled
+returns-in_err-node-clause-handled c = refused _ _ _ (Text c.args.node ∷ []) _ _ (search namings) c.in_err-node.ensures.passed refl c.from_residual.ensures.1
 
 pub returns-in_err-tail-clause-handled : goal.returns-in_err-tail-clause-handled
 returns-in_err-tail-clause-handled c =
-    let same = told_one (λ p x. splitting_refusal p x c.args.offset) (key_of _ c.state.inside.doc _ c.state.view_is _ _ _ c.key-node.ensures.name) in
-    faults _ c.state.inside.doc _ c.state.view_is (may_act _ _ _ (Text c.args.node ∷ []) (search namings) c.admit.ensures c.in_ok-admit.was) _ _ _
+    let same = told_one (λ p x. splitting_refusal p x c.args.offset) (key_of _ c.state.inside.doc _ c.state.view_is _ _ _ c.in_ok-node.ensures.key.name) in
+    faults _ c.state.inside.doc _ c.state.view_is (may_act _ _ _ (Text c.args.node ∷ []) (search namings) c.in_ok-node.ensures.passed refl) _ _ _
     c.from_residual-in_err-tail.ensures.1 (refuses same c.in_err-tail.ensures.refused) (λ r h. c.in_err-tail.ensures.unchanged r (ap Err h))
 
 pub returns-clause-handled : goal.returns-clause-handled
 returns-clause-handled c =
     let d = c.state.inside.doc in
-    let node = key_of _ d _ c.state.view_is _ _ _ c.key-node.ensures.name in
+    let node = key_of _ d _ c.state.view_is _ _ _ c.in_ok-node.ensures.key.name in
     let e = c.in_ok-tail.ensures in
     let p = part_of d.world c.args.owner in
     let names = c.forest.ensures.names ∙ e.names ∙ told_one (λ q x. d.names ++ next_name q ∷ []) node in
     makes (λ x. splitting x c.args.offset) _ d _ c.state.view_is
-    (may_act _ _ _ (Text c.args.node ∷ []) (search namings) c.admit.ensures c.in_ok-admit.was) _ _ _ _ _ _ c.key-node.ensures.name
+    (may_act _ _ _ (Text c.args.node ∷ []) (search namings) c.in_ok-node.ensures.passed refl) _ _ _ _ _ _ c.in_ok-node.ensures.key.name
     (none_stopped (told_one (λ q x. splitting_refusal q x c.args.offset) node) c.in_ok-tail.tail e.stopped) refl
     (ap (changes (splitting (named p (word_view c.args.node)) c.args.offset p))
     (ap a_node (name-last d.names (next_name p) names e.key c.name-made.ensures.at))) e.world c.accept.ensures.done
 
 pub split-requires-clause-text : goal.split-requires-clause-text
-split-requires-clause-text c =
-    told_one (λ p x. is_text (kind_of p.trees x)) (key_of _ c.state.inside.doc _ c.state.view_is _ _ _ c.key-node.ensures.name)
-    ∙ fits _ c.state.inside.doc _ c.state.view_is _ (Text c.args.node) [] c.admit.ensures c.in_ok-admit.was
+split-requires-clause-text c = kind_in _ c.state.inside.doc _ (Text c.args.node) _ c.state.view_is c.in_ok-node.ensures.key.kind

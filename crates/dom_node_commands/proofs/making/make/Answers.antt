@@ -1,13 +1,6 @@
-use Rattle.dom_base.proofs.Std.{◌∷◌, ◌∙◌, ◌≡◌, [], List, Option, ap, subst, sym, option_map, string_bytes}
-use Rattle.dom_model.proofs.Model.{NodeName, changes, a_node, next_name, make, Attribute, Node, part_of, world_after}
-use Rattle.dom_admission.specs.Turned.{with_turn}
-use Rattle.dom_attributes.specs.Attributes.{attributes_from}
-use Rattle.dom_mutation.specs.Definitions.{DocState}
-use Rattle.dom_node_commands.specs.Making.{document_for}
-use Rattle.dom_tree.specs.Definitions.{name_at}
-use Rattle.dom_admission.proofs.Handling.{faults, may_act, plans, refused}
-use Rattle.dom_admission.proofs.OwnRefusals.{none_refused, refuses}
-use Rattle.dom_node_commands.proofs.CommandPlans.{making_is, name-last}
+use Rattle.dom_node_commands.proofs.Handlers.{◌∙◌, ◌∷◌, ◌≡◌, Attribute, DocState, List, Node, NodeName, Option, [], a_node, ap, attributes_from, changes}
+use Rattle.dom_node_commands.proofs.Handlers.{document_for, faults, make, making_is, may_act, name-last, name_at, next_name, none_refused, option_map, part_of}
+use Rattle.dom_node_commands.proofs.Handlers.{plans, refused, refuses, string_bytes, subst, sym, with_turn, world_after}
 use Rattle.dom_node_commands.proofs.making.make.Goals as goal
 
 pub returns-in_err-admit-clause-handled : goal.returns-in_err-admit-clause-handled

@@ -1,9 +1,5 @@
-use Rattle.dom_base.proofs.Std.{◌∷◌, ◌∙◌, [], ap, refl, sym}
-use Rattle.dom_model.proofs.Model.{named, a_list, assigned_nodes, part_of}
-use Rattle.dom_admission.specs.declared.admission.Operand.TheVariants.{Slot}
-use Rattle.dom_reader.specs.Views.{word_view}
-use Rattle.dom_admission.proofs.Handling.{asks, may_act, one_there, opened-same, passes, refused}
-use Rattle.dom_admission.proofs.Refusing.{naming-assigned}
+use Rattle.dom_node_commands.proofs.Handlers.{◌∙◌, ◌∷◌, Slot, [], a_list, ap, asks, assigned_nodes, may_act, named, naming-assigned, one_there, opened-same}
+use Rattle.dom_node_commands.proofs.Handlers.{part_of, passes, refl, refused, sym, word_view}
 use Rattle.dom_node_commands.proofs.shadows.assigned.Goals as goal
 
 pub returns-in_err-admit-clause-handled : goal.returns-in_err-admit-clause-handled

@@ -1,7 +1,4 @@
-use Rattle.dom_base.proofs.Std.{◌≡◌, ◌∙◌, List, ap, sym, map, IfOk-weaker}
-use Rattle.dom_model.proofs.Model.{NodeName, assigned_nodes}
-use Rattle.dom_slots.specs.Definitions.{shadows, assigned_at}
-use Rattle.dom_tree.specs.Definitions.{name_at}
+use Rattle.dom_node_commands.proofs.Handlers.{◌∙◌, ◌≡◌, IfOk-weaker, List, NodeName, ap, assigned_at, assigned_nodes, map, name_at, shadows, sym}
 use Rattle.dom_node_commands.proofs.shadows.assigned_to.Goals as goal
 
 pub returns : goal.returns

@@ -1,7 +1,4 @@
-use Rattle.dom_base.proofs.Std.{◌∷◌, [], refl}
-use Rattle.dom_admission.specs.declared.admission.Operand.TheVariants.{Slottable}
-use Rattle.dom_admission.proofs.Handling.{may_act, reads, refused}
-use Rattle.dom_admission.proofs.Refusing.{namings}
+use Rattle.dom_node_commands.proofs.Handlers.{◌∷◌, Slottable, [], may_act, namings, reads, refl, refused}
 use Rattle.dom_node_commands.proofs.shadows.slot_of.Goals as goal
 
 pub returns-in_err-admit-clause-handled : goal.returns-in_err-admit-clause-handled
