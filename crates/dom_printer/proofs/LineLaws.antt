@@ -34,7 +34,3 @@ pub row_of_record : (owner space end : List ℕ) (number kind : List ℕ × List
     owner ++ space ++ in_pieces (number ∷ (space ++ kind.0, kind.1) ∷ pieces) ++ end
     ≡ ((owner ++ space ++ (number.0 ++ number.1 ++ space ++ in_a_row (kind.0 ++ kind.1) pieces)) ++ end) ++ []
 row_of_record owner space end number kind pieces = rw (in_a_row-is (kind.0 ++ kind.1) pieces) (simp (append_assoc, append-nil))
-
--- the line of a tree
-pub tree_row : (owner space ok steps : List ℕ) → (owner ++ (space ++ ok)) ++ steps ≡ owner ++ space ++ (ok ++ steps)
-tree_row owner space ok steps = simp append_assoc

@@ -1,6 +1,6 @@
 -- Puts one after the other: what the buffer has when all are done, and what it keeps where one was refused memory.
 use Rattle.dom_base.proofs.Std.{◌≡◌, ℕ, ◌+◌, ◌<◌, List, ◌++◌, length, take, get_or, Ok, Err, subst, sym, ap, ◌∙◌, append_assoc, arith, Result, OnOk, OnErr}
-use Rattle.dom_base.proofs.Std.{is_ok, if◌then◌else◌, IsErr, flat_map, take_all, take_more, flat_map_more}
+use Rattle.dom_base.proofs.Std.{IsErr, flat_map, take_all, take_more, flat_map_more}
 use Rattle.dom_printer.specs.Keeping.{Keeps}
 use Rattle.dom_printer.proofs.KeepLaws.{keeps_front}
 
@@ -31,16 +31,6 @@ module _ (old first : List ℕ) {mid : List ℕ} (e : mid ≡ old ++ first) wher
   pub failed_put : {X E : Type 0} (r : Result X E) (text new : List ℕ) → IsErr r → Keeps mid new → Puts r old text new
   failed_put (Ok x) text new h keeps = absurd cc
   failed_put (Err x) text new h keeps = record { ok = tt; err = kept new keeps }
-
--- a first put that was refused memory
-pub failed : {X E : Type 0} (r : Result X E) (old text new : List ℕ) → IsErr r → Keeps old new → Puts r old text new
-failed (Ok x) old text new h keeps = absurd cc
-failed (Err x) old text new h keeps = record { ok = tt; err = keeps }
-
--- bytes that were put behind others, or not
-pub bytes_put : {X E : Type 0} (r : Result X E) (old bytes new : List ℕ) → new ≡ (if is_ok r then old ++ bytes else old) → Puts r old bytes new
-bytes_put (Ok x) old bytes new e = record { ok = e; err = tt }
-bytes_put (Err x) old bytes new e = record { ok = tt; err = same old new e }
 
 -- a round of a loop that puts the text of each of some things: what the buffer has before all rounds, before this one and after it
 pub record PutsNext {X : Type 0} (f : X → List ℕ) (xs : List X) (i : ℕ) (d : X) (old mid new : List ℕ) : Type 0 where

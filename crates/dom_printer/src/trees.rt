@@ -127,6 +127,7 @@ fn kind_name(kind: Kind) -> &'static str
 }
 
 /// Puts what stands between a node's kind and its children, each part behind a space.
+#[tactic(auto, using(crate::proofs::KeepLaws::keeps_at))]
 fn put_own_parts(out: &mut Vec<u8>, opening: &Opening<'_>) -> Result<(), AllocError>
     ensures ok { OnOk result (out.new.items ≡ out.old.items ++ own_parts opening.now.kind (opening_view opening.now)) }
     ensures err { OnErr result (Keeps out.old.items out.new.items) }
