@@ -6,6 +6,9 @@ use Rattle.dom_path.proofs.Tracks.{IsTrack, track-more, track-last, trail-last, 
 use Rattle.dom_path.proofs.Viewed.{item-made}
 use Rattle.dom_path.proofs.event.Event.items.Goals as goal
 
+pub item-requires-clause-at : goal.item-requires-clause-at
+item-requires-clause-at c = (c.loop-next.invariant.track.place c.in-Some.at c.in-Some.is).within
+
 pub loop-next-preserved : goal.loop-next-preserved
 loop-next-preserved c =
     let f = c.args.forest.now in
