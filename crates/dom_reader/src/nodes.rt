@@ -66,7 +66,9 @@ pub fn owner_of(word: &[u8]) -> Option<Owner>
     }
 }
 
-/// The component of one number whose word and a space begin the line, and the bytes from the space on.
+/// The component of one number whose word and a space begin the line, and the bytes from the space on. Out of line, so that the
+/// path of numbers is copied as one block.
+#[inline(never)]
 fn short_component_at(line: &[u8]) -> Option<(Owner, &[u8])>
     ensures { IfSome result (λ x. spec_owner_at line.now ≡ Some (x.0, x.1.now)) }
 {
