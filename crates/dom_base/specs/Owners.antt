@@ -1,9 +1,12 @@
 -- Owners: the test of equality, how deep they are, and whom an owner's attaches make. All own rules.
-use Rattle.std.specs.Prelude.{ℕ, zero, suc, Bool, true, false, ◌&&◌, ◌==◌, nat_le, nat_lt, List, [], ◌∷◌, length, take, drop, slice_get, slice_set}
+use Rattle.std.specs.Prelude.{◌≡◌, IsTrue, ℕ, zero, suc, Bool, true, false, ◌&&◌, ◌==◌, nat_le, nat_lt, List, [], ◌∷◌, length, take, drop, slice_get, slice_set}
 use Rattle.std.specs.Prelude.{Option, Some, None, if◌then◌else◌}
-use Rattle.std.specs.List.{list_all}
+use Rattle.std.specs.List.{flat_map, list_all}
+use Rattle.std.specs.Hash as fed
+use Rattle.std.proofs.Common.{ap, sym, ◌∙◌}
+use Rattle.std.proofs.lemmas.Bool.{and_parts, eqb-true}
 use Rattle.std.specs.Option.{option_and_then}
-use Rattle.std.specs.Cmp.Lexicographic.{pointwise}
+use Rattle.std.specs.Cmp.Lexicographic.{pointwise, same_text}
 use Rattle.dom_base.specs.declared.Owner.{Owner}
 use Rattle.dom_base.specs.declared.Owner.TheVariants.{Page, Component}
 use Rattle.dom_base.specs.declared.OwnerPath.{OwnerPath}
@@ -12,6 +15,21 @@ use Rattle.dom_base.specs.declared.TheConstants.{MAX_DEPTH}
 -- whether two paths are the same
 abbrev pub path_eq : OwnerPath → OwnerPath → Bool
 path_eq p q = (p.depth == q.depth) && pointwise ◌==◌ p.parts q.parts
+
+-- two paths that the test finds the same are one
+pub path_eq-true : (p q : OwnerPath) → path_eq p q ≡ true → p ≡ q
+path_eq-true p q e =
+    let both = and_parts (p.depth == q.depth) (pointwise ◌==◌ p.parts q.parts) e in
+    let joined : ℕ → List ℕ → OwnerPath = λ d parts. record { depth = d; parts = parts } in
+    ap (λ d. joined d p.parts) (eqb-true p.depth q.depth both.0) ∙ ap (joined q.depth) (same_text p.parts q.parts (sym both.1))
+
+-- what is fed to the hash of a path: its numbers, without the zeros behind them
+abbrev pub path_hash : OwnerPath → List (List ℕ)
+path_hash path = flat_map fed.u32 (take path.depth path.parts)
+
+-- paths that are the same feed it alike
+pub same_paths_hash_alike : (p q : OwnerPath) → IsTrue (path_eq p q) → path_hash p ≡ path_hash q
+same_paths_hash_alike p q same = ap path_hash (path_eq-true p q same)
 
 -- whether two owners are the same: every test of owners is this one
 abbrev pub owner_eq : Owner → Owner → Bool

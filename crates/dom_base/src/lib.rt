@@ -6,15 +6,40 @@ ghost use Rattle.dom_base.specs.Refusals.{refusal_number, refusal_word};
 ghost use Rattle.dom_base.specs.Owners.{owner_depth, max_depth, path_of, component_made};
 
 use std::alloc::{AllocError, AllocFailed};
+use std::hash::{Hash, Hasher};
 
 /// The numbers of a component's word, as of `c1.2`: the first is counted by the page's attaches, each further one by those of
 /// the component before it.
-#[derive(Clone, Copy, PartialEq, Eq, PartialOrd, Ord, Hash, Debug)]
+#[derive(Clone, Copy, PartialEq, Eq, PartialOrd, Ord, Debug)]
 pub struct OwnerPath {
     /// How many numbers there are: 1 to 8.
     pub depth: u8,
     /// The numbers, none of which is 0, and zeros behind them.
     pub parts: [u32; 8],
+}
+
+/// A path is hashed by its numbers alone, without the zeros behind them (own rule).
+impl Hash for OwnerPath {
+    ghost use Rattle.dom_base.specs.Owners.{path_hash, same_paths_hash_alike};
+
+    ghost hash_input = { path_hash };
+
+    ghost respects_eq = { same_paths_hash_alike };
+
+    fn hash<H: Hasher>(&self, state: &mut H) {
+        Hash::hash_slice(self.numbers(), state);
+    }
+}
+
+impl OwnerPath {
+    ghost use Rattle.std.specs.Prelude.{take};
+
+    /// The numbers of a component's word, the outermost first.
+    pub fn numbers(&self) -> &[u32]
+        ensures { result.now ≡ take self.now.depth self.now.parts }
+    {
+        &self.parts[..(self.depth as usize).min(self.parts.len())]
+    }
 }
 
 /// Whose trees: the page's, or those of the component with this path.
