@@ -2,6 +2,7 @@
 #![tactic(auto)]
 
 ghost use Rattle.std.specs.Prelude.{◌≡◌, ◌<◌, nat_lt, Some, None, if◌then◌else◌};
+ghost use Rattle.std.specs.Str.{bytes_eq};
 ghost use Rattle.dom_base.specs.Refusals.{refusal_number, refusal_word};
 ghost use Rattle.dom_base.specs.Owners.{owner_depth, max_depth, path_of, component_made};
 
@@ -176,6 +177,21 @@ pub const MAX_DEPTH: u8 = 8;
 
 /// The longest input in bytes.
 pub const MAX_INPUT: u64 = 1 << 30;
+
+/// Whether two texts are the same. They are compared byte by byte, since most are short.
+pub fn is_same(text: &[u8], other: &[u8]) -> bool
+    ensures { result ≡ bytes_eq text.now other.now }
+{
+    if text.len() != other.len() {
+        return false;
+    }
+    for index in 0..text.len() {
+        if text[index] != other[index] {
+            return false;
+        }
+    }
+    true
+}
 
 impl Owner {
     /// The numbers of its word, of which the page has none.
