@@ -11,6 +11,7 @@ ghost use Rattle.dom_words.specs.declared.not_read.NotRead.TheVariants.{Syntax};
 ghost use Rattle.dom_words.specs.Gives.{Gives, Takes};
 
 use crate::not_read::NotRead;
+use dom_base::is_same;
 use std::alloc::{AllocError, Global};
 use std::marker::Model;
 
@@ -165,7 +166,7 @@ impl<'a> WordReader<'a> {
     {
         match next_word(self.rest) {
             Some((word, rest)) => {
-                let found = word == name;
+                let found = is_same(word, name);
                 if found {
                     self.rest = rest;
                 }
