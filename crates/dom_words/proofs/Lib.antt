@@ -1,4 +1,5 @@
 mod Digits
 mod Texts
 mod Loop
+mod Items
 mod Fronts

@@ -4,11 +4,12 @@ use Rattle.dom_words.specs.declared.strings.Place.{Place}
 use Rattle.dom_words.specs.declared.strings.Place.TheVariants.{Between, Escaped, InDigits}
 use Rattle.dom_words.specs.declared.strings.Read.{Read}
 use Rattle.dom_words.specs.declared.strings.Read.TheVariants.{Wrong, Closed, Item, On}
+use Rattle.std.specs.Int.{is_in_range}
 use Rattle.dom_text.specs.Readers as text
 
--- neither a quote nor a backslash
-abbrev pub is_plain : ℕ → Bool
-is_plain b = not (b == 34) && not (b == 92)
+-- an item of its own within a string
+abbrev pub is_item : ℕ → Bool
+is_item b = not (b == 34) && (not (b == 92) && is_in_range 0x20 0x7E b)
 
 -- a place, without the widths of its numbers
 abbrev pub place_view : Place → text.Place

@@ -1,17 +1,17 @@
 //! Strings: items between two quotes, each item one 16-bit code unit.
 
-ghost use Rattle.std.specs.Prelude.{◌≡◌, ◌+◌, ◌*◌, ◌<◌, ◌≤◌, true, false, MatchOption};
+ghost use Rattle.std.specs.Prelude.{◌≡◌, ◌+◌, ◌*◌, ◌<◌, ◌≤◌, true, false, length, IfOk, MatchOption};
 ghost use Rattle.std.specs.List.{prefix_len};
 ghost use Rattle.std.specs.Char.{is_ascii_hexdigit, digit_value};
 ghost use Rattle.dom_text.specs.Readers.{between, read_digit as spec_read_digit, read_byte as spec_read_byte, units_at as spec_units_at};
 ghost use Rattle.dom_text.specs.Readers.{string_at as spec_string_at, next_string};
 ghost use Rattle.dom_words.specs.Gives.{Gives, Takes};
-ghost use Rattle.dom_words.specs.Strings.{is_plain, place_view, read_view, DigitsFit, PlaceFits, ReadFits};
+ghost use Rattle.dom_words.specs.Strings.{is_item, place_view, read_view, DigitsFit, PlaceFits, ReadFits};
 
 use crate::not_read::NotRead;
 use crate::words::{WordReader, behind_space};
 use dom_base::DomStr;
-use std::alloc::Global;
+use std::alloc::{AllocError, Global};
 
 /// Where the reading of a string stands: between two items, behind a backslash, or behind `\u` and digits that have
 /// this value, with so many digits to come behind the next one.
@@ -94,26 +94,37 @@ fn read_byte(place: Place, b: u8) -> Read
     }
 }
 
-/// Whether the byte is an item of its own within a string, or no part of one: neither a quote nor a backslash.
-fn is_plain(b: u8) -> bool
-    ensures { result ≡ is_plain b }
+/// Whether the byte is an item of its own within a string.
+fn is_item(b: u8) -> bool
+    ensures { result ≡ is_item b }
 {
-    b != b'"' && b != b'\\'
+    b != b'"' && (b != b'\\' && (0x20 <= b && b <= 0x7E))
 }
 
-/// How many bytes come before the first quote or backslash.
-fn plain_len(bytes: &[u8]) -> usize
-    ensures { result ≡ prefix_len is_plain bytes.now }
+/// How many bytes in front are items of their own.
+fn items_len(bytes: &[u8]) -> usize
+    ensures count { result ≡ prefix_len is_item bytes.now }
+    ensures within { result ≤ length bytes.now }
 {
-    bytes.iter().take_while(|b| is_plain(**b)).count()
+    bytes.iter().take_while(|b| is_item(**b)).count()
 }
 
-/// The units up to the quote that ends the string, and the bytes behind it. At first there is room for the items before the
-/// first backslash: for all of them, where there is none.
-fn units_at(alloc: Global, bytes: &[u8]) -> Result<(DomStr, &[u8]), NotRead>
+/// The bytes, each as a code unit.
+fn as_units(alloc: Global, bytes: &[u8]) -> Result<DomStr, AllocError>
+    ensures { IfOk result (λ units. units.items ≡ bytes.now) }
+{
+    let mut units = Vec::with_capacity(alloc, bytes.len())?;
+    for b in bytes {
+        units.push(*b as u16)?;
+    }
+    Ok(units)
+}
+
+/// The units up to the quote that ends the string, and the bytes behind it, item by item. At first there is room for so many.
+fn mixed_units_at(alloc: Global, room: usize, bytes: &[u8]) -> Result<(DomStr, &[u8]), NotRead>
     ensures { Gives (λ x. (x.0.items, x.1.now)) result (spec_units_at between bytes.now) }
 {
-    let mut units = Vec::with_capacity(alloc, plain_len(bytes))?;
+    let mut units = Vec::with_capacity(alloc, room)?;
     let mut place = Place::Between;
     for (i, b) in bytes.iter().enumerate() {
         match read_byte(place, *b) {
@@ -127,6 +138,18 @@ fn units_at(alloc: Global, bytes: &[u8]) -> Result<(DomStr, &[u8]), NotRead>
         }
     }
     Err(NotRead::Syntax)
+}
+
+/// The units up to the quote that ends the string, and the bytes behind it. A string without a backslash is copied as it stands; of
+/// any other there is room for the items before the first backslash.
+fn units_at(alloc: Global, bytes: &[u8]) -> Result<(DomStr, &[u8]), NotRead>
+    ensures { Gives (λ x. (x.0.items, x.1.now)) result (spec_units_at between bytes.now) }
+{
+    let (items, rest) = bytes.split_at(items_len(bytes));
+    match rest {
+        [b'"', behind @ ..] => Ok((as_units(alloc, items)?, behind)),
+        _ => mixed_units_at(alloc, items.len(), bytes),
+    }
 }
 
 /// A string, and the bytes behind it.

@@ -3,8 +3,8 @@ use Rattle.dom_base.proofs.Std.{◌≡◌, ◌+◌, drop, ap, sym, ◌∙◌}
 use Rattle.dom_text.specs.Definitions.{Place, between, units_at, read_on}
 use Rattle.dom_words.specs.Strings.{place_view, read_view}
 use Rattle.dom_words.proofs.Loop.{with_front, one_more, at_byte, at_no_byte}
-use Rattle.dom_words.proofs.strings.units_at.Goals.{in-Item+in_ok-push-in-Item, in-On}
-use Rattle.dom_words.proofs.strings.units_at.Goals as goal
+use Rattle.dom_words.proofs.strings.mixed_units_at.Goals.{in-Item+in_ok-push-in-Item, in-On}
+use Rattle.dom_words.proofs.strings.mixed_units_at.Goals as goal
 
 pub loop-i-preserved : goal.loop-i-preserved
 loop-i-preserved c =
