@@ -6,6 +6,8 @@ ghost use Rattle.dom_text.specs.Decode.{keyword_of as spec_keyword_of};
 ghost use Rattle.dom_reader.specs.Keywords.{keywords_with, spelled};
 ghost use Rattle.dom_reader.specs.Views.{keyword_view};
 
+use dom_base::is_same;
+
 /// What makes nodes, and shadow roots.
 #[derive(Clone, Copy)]
 pub enum MakingWord {
@@ -241,7 +243,7 @@ fn among(keywords: &[(&'static str, Keyword)], word: &[u8]) -> Option<(&'static 
     keywords
         .iter()
         .copied()
-        .find(|(text, _)| text.as_bytes() == word)
+        .find(|(text, _)| is_same(text.as_bytes(), word))
 }
 
 /// The command's word that these bytes are.
