@@ -68,7 +68,8 @@ impl AttributeList {
         })
     }
 
-    /// The value of the attribute of this name, if there is one.
+    /// The value of the attribute of this name, if there is one. One that is alone is found in line.
+    #[inline(always)]
     pub fn get(&self, name: &str) -> Option<&[u16]>
         ensures { option_map (λ value. value.now) result ≡ value_among name.now self.now }
     {

@@ -63,7 +63,9 @@ impl HashedAttributes {
         Ok(HashedAttributes { boxed })
     }
 
-    /// The value of the attribute of this name, if there is one.
+    /// The value of the attribute of this name, if there is one. It is not in line, since most nodes have so few attributes that none
+    /// is found by a hash.
+    #[inline(never)]
     pub(crate) fn get(&self, name: &str) -> Option<&[u16]>
         ensures { option_map (λ value. value.now) result ≡ value_among name.now self.now }
     {

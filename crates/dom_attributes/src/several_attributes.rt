@@ -86,7 +86,8 @@ impl SeveralAttributes {
         let _ = &self.few;
     }
 
-    /// The value of the attribute of this name, if there is one.
+    /// The value of the attribute of this name, if there is one. It is not in line, since most nodes have one attribute at most.
+    #[inline(never)]
     pub(crate) fn get(&self, name: &str) -> Option<&[u16]>
         ensures { option_map (λ value. value.now) result ≡ value_among name.now self.now }
     {
