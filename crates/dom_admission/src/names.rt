@@ -12,7 +12,7 @@ pub fn names_of(alloc: Global, forest: &Forest, keys: &[Key]) -> Result<Vec<Node
     requires { All (IsNode forest.now) keys.now }
     ensures { IfOk result (λ names. names.items ≡ map (name_of forest.now) keys.now) }
 {
-    let mut names = Vec::new(alloc);
+    let mut names = Vec::with_capacity(alloc, keys.len())?;
     for key in keys {
         names.push(forest.name(*key))?;
     }
