@@ -13,7 +13,8 @@ use node_arena::Key;
 
 impl Forest {
     /// The node just after a node in tree order, within the tree of a node `top` in which it stands (DOM Standard,
-    /// concept: following). A walk through a tree takes each link at most twice.
+    /// concept: following). A walk through a tree takes each link at most twice. It is in line, since walks make it at each node.
+    #[inline(always)]
     pub fn following(&self, key: Key, top: Key) -> Option<Key>
         requires key_is_node { IsNode self.now key }
         requires top_is_node { IsNode self.now top }
