@@ -120,7 +120,8 @@ fn element_matches(forest: &Forest, parts: &[CompoundPart], key: Key) -> bool
     is_element(forest, key) && all_parts_match(forest, parts, key)
 }
 
-/// Whether a node is an element that matches a compound. The local name comes first where one is asked for, since most elements fail there.
+/// Whether a node is an element that matches a compound. The local name comes first where one is asked for, since most elements fail
+/// there; and what is one simple selector alone is tried without a walk over parts.
 #[inline(always)]
 pub(crate) fn compound_matches(forest: &Forest, parts: &[CompoundPart], key: Key) -> bool
     requires { IsNode forest.now key }
@@ -129,6 +130,9 @@ pub(crate) fn compound_matches(forest: &Forest, parts: &[CompoundPart], key: Key
     match parts {
         [CompoundPart::Is(Simple::OfType(name)), others @ ..] => {
             is_same_text(forest.element(key), name.as_str()) && element_matches(forest, others, key)
+        }
+        [CompoundPart::Is(simple)] => {
+            simple_matches(forest, simple, key) && is_element(forest, key)
         }
         _ => element_matches(forest, parts, key),
     }
