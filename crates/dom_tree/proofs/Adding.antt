@@ -26,7 +26,7 @@ IsKept-keys ps lists keys more kept same = record {
 }
 
 -- an element of a list with one more
-push_cases : {X : Type 0} (xs : List X) (x y : X) (k : ℕ) → slice_get (xs ++ x ∷ []) k ≡ Some y → (slice_get xs k ≡ Some y) ⊎ ((k ≡ length xs) × (x ≡ y))
+pub push_cases : {X : Type 0} (xs : List X) (x y : X) (k : ℕ) → slice_get (xs ++ x ∷ []) k ≡ Some y → (slice_get xs k ≡ Some y) ⊎ ((k ≡ length xs) × (x ≡ y))
 push_cases [] x y zero e = inr (refl, same_Some x y e)
 push_cases [] x y (suc k) e = absurd (none-some y e)
 push_cases (z ∷ xs) x y zero e = inl e

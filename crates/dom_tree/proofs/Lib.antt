@@ -13,6 +13,8 @@ mod Walks
 mod Children
 mod Placing
 mod Unchanged
+pub mod AttributeValues
+mod Noted
 pub mod Once
 mod Within
 mod Order

@@ -4,6 +4,7 @@ pub mod Rows
 pub mod Contents
 pub mod Own
 pub mod Forest
+pub mod Ids
 pub mod Owners
 pub mod Apart
 pub mod EachNode

@@ -9,6 +9,7 @@ ghost use Rattle.dom_model.specs.Tree.{node_in};
 ghost use Rattle.dom_tree.specs.Owners.{AreInOrder};
 ghost use Rattle.dom_model.specs.TreeChanges.{with_node};
 ghost use Rattle.dom_tree.specs.Forest.{next_name, count_of, node_from, IsNode, name_of};
+ghost use Rattle.dom_tree.specs.Ids.{HasId, MayBear};
 
 mod contents;
 mod links;
@@ -16,6 +17,7 @@ mod order;
 mod validity;
 
 use crate::data::NodeData;
+use crate::ids::{IdTable, id_code};
 use crate::shared::SharedTable;
 use crate::stored::StoredNode;
 use crate::table::KeyTable;
@@ -31,6 +33,7 @@ pub struct Forest {
     keys: KeyTable,
     shared: SharedTable,
     attribute_names: SharedNames,
+    ids: IdTable,
     alloc: Global,
 }
 
@@ -42,15 +45,17 @@ impl Drop for Forest {
             keys,
             shared,
             attribute_names,
+            ids,
             alloc,
         } = self;
     }
 }
 
 impl Model for Forest {
-    ghost use Rattle.dom_tree.specs.Forest.{NamedTrees, named_trees_code, stored_names, nodes_of, IsKept};
+    ghost use Rattle.dom_tree.specs.Forest.{NamedTrees, named_trees_code, stored_names, nodes_of};
     ghost use Rattle.dom_tree.specs.Rows.{trees_of};
     ghost use Rattle.dom_tree.specs.Table.{keys_of};
+    ghost use Rattle.dom_tree.specs.Ids.{bearers_of, IsKeptWithIds};
 
     ghost Value = { NamedTrees };
 
@@ -58,7 +63,7 @@ impl Model for Forest {
 
     ghost view = { λ f. record { names = stored_names f.arena.payloads; trees = trees_of (nodes_of f.arena.payloads) f.arena.children } };
 
-    ghost invariant = { λ f. IsKept f.arena.payloads f.arena.children (keys_of f.keys) };
+    ghost invariant = { λ f. IsKeptWithIds f.arena.payloads f.arena.children (keys_of f.keys) (bearers_of f.ids) };
 }
 
 impl Forest {
@@ -71,6 +76,7 @@ impl Forest {
             keys: KeyTable::new(alloc),
             shared: SharedTable::new(alloc),
             attribute_names: SharedNames::new(alloc),
+            ids: IdTable::new(alloc),
             alloc,
         }
     }
@@ -112,8 +118,11 @@ impl Forest {
             number: number as u32,
         };
         let stored = StoredNode::of(self.alloc, &mut self.shared, name, node)?;
+        let number = stored.id_number();
+        self.ids.make_room(number)?;
         let key = self.arena.add(stored)?;
         self.keys.push(owner, key);
+        self.ids.put(number, key);
         Ok(key)
     }
 
@@ -134,6 +143,16 @@ impl Forest {
         ensures node { ForSome result (IsNode self.now) }
     {
         self.keys.find(name)
+    }
+
+    /// The only node of an owner that may have an ID, if any may; nothing where it is not known (own rule). It takes the time that
+    /// the ID's length asks for. Where several had the ID, or one with the same number, at once, it is not known from then on.
+    pub fn only_bearer(&self, owner: Owner, id: &[u16]) -> Option<Option<Key>>
+        ensures kept { (k : ℕ) → IsNode self.now k → (name_of self.now k).owner ≡ owner →
+            HasId self.now.trees (name_of self.now k) id.now → MayBear result k }
+        ensures node { (k : ℕ) → result ≡ Some (Some k) → IsNode self.now k }
+    {
+        self.ids.only_bearer(id_code(owner, id))
     }
 
     /// Holds of every forest (own rule): names tell the nodes apart, each node stands once in the trees, no others

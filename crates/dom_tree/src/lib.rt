@@ -8,6 +8,7 @@
 
 mod data;
 mod forest;
+mod ids;
 mod owners;
 mod shared;
 mod stored;

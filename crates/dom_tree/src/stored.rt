@@ -6,9 +6,11 @@ ghost use Rattle.dom_model.specs.TreeChanges.{attributes_with, attributes_withou
 ghost use Rattle.dom_attributes.specs.Attributes.{HaveOwnNames, attribute_from, attributes_from, value_among};
 ghost use Rattle.dom_tree.specs.Contents.{stored_from};
 ghost use Rattle.dom_tree.specs.Forest.{contents_of};
+ghost use Rattle.dom_tree.specs.Ids.{code_in};
 ghost use Rattle.dom_tree.specs.Own.{kind_in, number_in, attributes_in};
 
 use crate::data::NodeData;
+use crate::ids::id_code;
 use crate::shared::{Shared, SharedTable};
 use dom_attributes::{AttributeList, SharedNames};
 use dom_base::{DomStr, Kind, NodeName};
@@ -184,6 +186,17 @@ impl StoredNode {
         ensures { option_map (λ value. value.now) result ≡ value_among name.now self.now.node.attributes }
     {
         self.own.attributes()?.get(name)
+    }
+
+    /// The number of its ID among its owner's nodes, if it has one.
+    #[inline(always)]
+    pub(crate) fn id_number(&self) -> Option<u64>
+        ensures { result ≡ code_in self.now }
+    {
+        match self.attribute("id") {
+            Some(id) => Some(id_code(self.shared.owner, id)),
+            None => None,
+        }
     }
 
     /// The name and the value of its attribute at an index, if there are so many.

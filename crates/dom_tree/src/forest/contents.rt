@@ -8,6 +8,7 @@ ghost use Rattle.dom_attributes.specs.Attributes.{HaveOwnNames, attribute_from};
 ghost use Rattle.dom_tree.specs.Forest.{IsNode, name_of};
 
 use crate::Forest;
+use crate::ids::code_under;
 use dom_base::{DomStr, Kind};
 use node_arena::Key;
 use std::alloc::AllocError;
@@ -145,11 +146,14 @@ impl Forest {
         ensures held { (k : ℕ) → IsNode self.old k → k ≢ key →
             node_in self.new.trees (name_of self.old k) ≡ node_in self.old.trees (name_of self.old k) }
     {
+        let node = self.arena.payload(key);
+        let left = self.ids.note_value(node, key, name, &value)?;
         let alloc = self.alloc;
         let names = &mut self.attribute_names;
         self.arena
             .payload_mut(key)
             .set_attribute(alloc, names, name, value)?;
+        self.ids.forget(left, key);
         Ok(())
     }
 
@@ -166,6 +170,9 @@ impl Forest {
         ensures held { (k : ℕ) → IsNode self.old k → k ≢ key →
             node_in self.new.trees (name_of self.old k) ≡ node_in self.old.trees (name_of self.old k) }
     {
-        self.arena.payload_mut(key).remove_attribute(name)
+        let left = code_under(self.arena.payload(key), name);
+        let value = self.arena.payload_mut(key).remove_attribute(name);
+        self.ids.forget(left, key);
+        value
     }
 }

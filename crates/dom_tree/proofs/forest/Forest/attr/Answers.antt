@@ -6,4 +6,4 @@ use Rattle.dom_tree.proofs.forest.Forest.attr.Goals as goal
 pub returns : goal.returns
 returns c =
     c.attribute.ensures
-    ∙ ap (λ n. attribute_value n c.args.name.now) (sym (shows_node c.self.view_is c.self.invariant c.args.key _ c.requires c.payload.ensures.value))
+    ∙ ap (λ n. attribute_value n c.args.name.now) (sym (shows_node c.self.view_is c.self.invariant.kept c.args.key _ c.requires c.payload.ensures.value))

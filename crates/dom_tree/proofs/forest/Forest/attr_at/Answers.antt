@@ -7,4 +7,4 @@ pub returns : goal.returns
 returns c =
     c.attribute_at.ensures
     ∙ ap (λ (n : Node). slice_get n.attributes c.args.index)
-    (sym (shows_node c.self.view_is c.self.invariant c.args.key _ c.requires c.payload.ensures.value))
+    (sym (shows_node c.self.view_is c.self.invariant.kept c.args.key _ c.requires c.payload.ensures.value))

@@ -15,9 +15,9 @@ returns c =
     (option_map (name_at c.args.self.now.names) c.args.child) false =
     elim c.match-child.branch [
       | in-Some w ↦ w.is_lost-is ∙ (w.ne-is_lost.ensures ∙
-          (lost_test c.self.view_is c.self.invariant c.args.parent w.in-Some.child w.parent.result c.requires.parent_is_node
+          (lost_test c.self.view_is c.self.invariant.kept c.args.parent w.in-Some.child w.parent.result c.requires.parent_is_node
           (c.requires.child_is_node w.in-Some.child w.in-Some.is) w.parent.ensures.value
-          (λ q e. within_names c.self.view_is c.self.invariant q (w.parent.ensures.node q e)) ∙
+          (λ q e. within_names c.self.view_is c.self.invariant.kept q (w.parent.ensures.node q e)) ∙
           sym (ap (λ o. option_map_or (λ x. not (has_parent c.args.self.now.trees (name_at c.args.self.now.names c.args.parent) x))
           (option_map (name_at c.args.self.now.names) o) false) w.in-Some.is)))
       | in-None w ↦ w.is_lost-is ∙ sym (ap

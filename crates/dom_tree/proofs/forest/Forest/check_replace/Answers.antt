@@ -12,5 +12,5 @@ returns c =
     (name_at c.args.self.now.names c.args.node) b
     (without_given (Some (name_at c.args.self.now.names c.args.child))
     (child_nodes c.args.self.now.trees (name_at c.args.self.now.names c.args.parent)))))
-    (c.ne-is_lost.ensures ∙ lost_test c.self.view_is c.self.invariant c.args.parent c.args.child c.parent.result c.requires.parent_is_node
-    c.requires.child_is_node c.parent.ensures.value (λ q e. within_names c.self.view_is c.self.invariant q (c.parent.ensures.node q e)))
+    (c.ne-is_lost.ensures ∙ lost_test c.self.view_is c.self.invariant.kept c.args.parent c.args.child c.parent.result c.requires.parent_is_node
+    c.requires.child_is_node c.parent.ensures.value (λ q e. within_names c.self.view_is c.self.invariant.kept q (c.parent.ensures.node q e)))

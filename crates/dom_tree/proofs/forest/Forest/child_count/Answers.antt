@@ -16,22 +16,22 @@ loop-at-init c = (
 
 pub overflow_add-count : goal.overflow_add-count
 overflow_add-count c =
-    let few = c.self.invariant.few in
-    let inside = within c.self.view_is c.self.invariant c.args.key c.requires in
-    let paired = c.self.invariant.paired in
-    let below = few_children c.self.inside.arena.children c.self.invariant.forest c.args.key (omega arith) in
-    let next = children_left-next c.self.invariant.forest c.args.key c.loop-at.invariant.1 c.in-Some.child c.in-Some.is refl in
+    let few = c.self.invariant.kept.few in
+    let inside = within c.self.view_is c.self.invariant.kept c.args.key c.requires in
+    let paired = c.self.invariant.kept.paired in
+    let below = few_children c.self.inside.arena.children c.self.invariant.kept.forest c.args.key (omega arith) in
+    let next = children_left-next c.self.invariant.kept.forest c.args.key c.loop-at.invariant.1 c.in-Some.child c.in-Some.is refl in
     omega (arith, c.loop-at.invariant.2)
 
 pub loop-at-smaller : goal.loop-at-smaller
 loop-at-smaller c =
-    children_left-fewer c.self.invariant.forest c.args.key c.loop-at.invariant.1 c.in-Some.child c.in-Some.is c.next-at.ensures.value
+    children_left-fewer c.self.invariant.kept.forest c.args.key c.loop-at.invariant.1 c.in-Some.child c.in-Some.is c.next-at.ensures.value
 
 pub loop-at-preserved : goal.loop-at-preserved
 loop-at-preserved c =
-    let next = children_left-next c.self.invariant.forest c.args.key c.loop-at.invariant.1 c.in-Some.child c.in-Some.is c.next-at.ensures.value in (
+    let next = children_left-next c.self.invariant.kept.forest c.args.key c.loop-at.invariant.1 c.in-Some.child c.in-Some.is c.next-at.ensures.value in (
       c.next-at.ensures.node,
-      among-next c.self.invariant.forest c.args.key c.loop-at.invariant.1 c.in-Some.child c.in-Some.is c.next-at.ensures.value,
+      among-next c.self.invariant.kept.forest c.args.key c.loop-at.invariant.1 c.in-Some.child c.in-Some.is c.next-at.ensures.value,
       omega (arith, c.loop-at.invariant.2),
     )
 
@@ -42,4 +42,4 @@ returns c =
     let counted = c.loop-at.invariant.2 in
     let count : c.loop-at.count ≡ length (children_of c.self.inside.arena.children c.args.key) = omega arith in
     count ∙ (sym (length-map (children_of c.self.inside.arena.children c.args.key) (name_at c.args.self.now.names)) ∙
-    ap length (sym (shows_children c.self.view_is c.self.invariant c.args.key c.requires)))
+    ap length (sym (shows_children c.self.view_is c.self.invariant.kept c.args.key c.requires)))

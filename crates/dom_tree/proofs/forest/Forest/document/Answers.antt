@@ -5,4 +5,4 @@ use Rattle.dom_tree.proofs.forest.Forest.document.Goals as goal
 
 pub returns-clause-value : goal.returns-clause-value
 returns-clause-value c = ap (option_map (name_at c.args.self.now.names)) c.document.ensures ∙
-    ap (λ n. n.document) (sym (shows_node c.self.view_is c.self.invariant c.args.key _ c.requires c.payload.ensures.value))
+    ap (λ n. n.document) (sym (shows_node c.self.view_is c.self.invariant.kept c.args.key _ c.requires c.payload.ensures.value))

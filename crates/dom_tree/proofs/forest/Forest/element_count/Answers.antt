@@ -20,15 +20,15 @@ loop-at-init c = (
 
 pub overflow_add-count : goal.overflow_add-count
 overflow_add-count c =
-    let few = c.self.invariant.few in
-    let inside = within c.self.view_is c.self.invariant c.args.key c.requires.key_is_node in
-    let paired = c.self.invariant.paired in
-    let below = few_children c.self.inside.arena.children c.self.invariant.forest c.args.key (omega arith) in
-    let rest = rest_of-next c.self.invariant.forest c.args.key c.loop-at.invariant.1 c.in-Some.child c.in-Some.is refl in
+    let few = c.self.invariant.kept.few in
+    let inside = within c.self.view_is c.self.invariant.kept c.args.key c.requires.key_is_node in
+    let paired = c.self.invariant.kept.paired in
+    let below = few_children c.self.inside.arena.children c.self.invariant.kept.forest c.args.key (omega arith) in
+    let rest = rest_of-next c.self.invariant.kept.forest c.args.key c.loop-at.invariant.1 c.in-Some.child c.in-Some.is refl in
     let counted = is_counted (nodes_of c.self.inside.arena.payloads) c.args.apart in
     let was = ap (tally counted) rest in
     let on : counted c.in-Some.child ≡ true =
-    is_counted-split c.self.view_is c.self.invariant c.in-Some.child c.args.apart
+    is_counted-split c.self.view_is c.self.invariant.kept c.in-Some.child c.args.apart
     (c.loop-at.invariant.0 c.in-Some.child c.in-Some.is) c.requires.apart_is_node ∙
     and_from _ _ (sym c.if-is_element.ensures) (sym (c.if-ne.ensures ∙ ap not (apart_test c.args.apart c.in-Some.child))) in
     omega (
@@ -42,18 +42,18 @@ overflow_add-count c =
 
 pub loop-at-smaller : goal.loop-at-smaller
 loop-at-smaller c =
-    children_left-fewer c.self.invariant.forest c.args.key c.loop-at.invariant.1 c.in-Some.child c.in-Some.is c.next-at.ensures.value
+    children_left-fewer c.self.invariant.kept.forest c.args.key c.loop-at.invariant.1 c.in-Some.child c.in-Some.is c.next-at.ensures.value
 
 pub loop-at-preserved : goal.loop-at-preserved
 loop-at-preserved c =
     let counted = is_counted (nodes_of c.self.inside.arena.payloads) c.args.apart in
     let left = rest_of (children_of c.self.inside.arena.children c.args.key) c.next-at.result in
-    let rest = rest_of-next c.self.invariant.forest c.args.key c.loop-at.invariant.1 c.in-Some.child c.in-Some.is c.next-at.ensures.value in
+    let rest = rest_of-next c.self.invariant.kept.forest c.args.key c.loop-at.invariant.1 c.in-Some.child c.in-Some.is c.next-at.ensures.value in
     let was = ap (tally counted) rest in
-    let split = is_counted-split c.self.view_is c.self.invariant c.in-Some.child c.args.apart
+    let split = is_counted-split c.self.view_is c.self.invariant.kept c.in-Some.child c.args.apart
     (c.loop-at.invariant.0 c.in-Some.child c.in-Some.is) c.requires.apart_is_node in (
       c.next-at.ensures.node,
-      among-next c.self.invariant.forest c.args.key c.loop-at.invariant.1 c.in-Some.child c.in-Some.is c.next-at.ensures.value,
+      among-next c.self.invariant.kept.forest c.args.key c.loop-at.invariant.1 c.in-Some.child c.in-Some.is c.next-at.ensures.value,
       elim c.if-is_element.branch [
         | then-is_element+then-ne w ↦
             let on = split ∙ and_from _ _ (sym w.if-is_element.ensures) (sym (w.if-ne.ensures ∙ ap not (apart_test c.args.apart c.in-Some.child))) in
@@ -77,4 +77,4 @@ returns c =
     let counted = c.loop-at.invariant.2 in
     let count : c.loop-at.count ≡ tally (is_counted (nodes_of c.self.inside.arena.payloads) c.args.apart)
     (children_of c.self.inside.arena.children c.args.key) = omega arith in
-    count ∙ shows_element_count c.self.view_is c.self.invariant c.args.key c.args.apart c.requires.key_is_node
+    count ∙ shows_element_count c.self.view_is c.self.invariant.kept c.args.key c.args.apart c.requires.key_is_node

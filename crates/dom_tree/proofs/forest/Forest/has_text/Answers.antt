@@ -17,25 +17,25 @@ loop-at-init c = (
 
 pub returns-then-is_text : goal.returns-then-is_text
 returns-then-is_text c =
-    let shown = shows_text c.self.view_is c.self.invariant c.in-Some.child (c.loop-at.invariant.0 c.in-Some.child c.in-Some.is) in
+    let shown = shows_text c.self.view_is c.self.invariant.kept c.in-Some.child (c.loop-at.invariant.0 c.in-Some.child c.in-Some.is) in
     let here = sym shown ∙ sym c.if-is_text.ensures in
-    let rest = rest_of-next c.self.invariant.forest c.args.key c.loop-at.invariant.1 c.in-Some.child c.in-Some.is refl in
+    let rest = rest_of-next c.self.invariant.kept.forest c.args.key c.loop-at.invariant.1 c.in-Some.child c.in-Some.is refl in
     sym (sym c.loop-at.invariant.2 ∙ (ap (any_of (is_text_key (nodes_of c.self.inside.arena.payloads))) rest ∙
     (any_of-cons (is_text_key (nodes_of c.self.inside.arena.payloads)) c.in-Some.child
     (rest_of (children_of c.self.inside.arena.children c.args.key) (next_of c.self.inside.arena.children c.in-Some.child)) ∙ or_left _ _ here)))
-    ∙ shows_has_text c.self.view_is c.self.invariant c.args.key c.requires
+    ∙ shows_has_text c.self.view_is c.self.invariant.kept c.args.key c.requires
 
 pub loop-at-smaller : goal.loop-at-smaller
 loop-at-smaller c =
-    children_left-fewer c.self.invariant.forest c.args.key c.loop-at.invariant.1 c.in-Some.child c.in-Some.is c.next-at.ensures.value
+    children_left-fewer c.self.invariant.kept.forest c.args.key c.loop-at.invariant.1 c.in-Some.child c.in-Some.is c.next-at.ensures.value
 
 pub loop-at-preserved : goal.loop-at-preserved
 loop-at-preserved c =
-    let shown = shows_text c.self.view_is c.self.invariant c.in-Some.child (c.loop-at.invariant.0 c.in-Some.child c.in-Some.is) in
+    let shown = shows_text c.self.view_is c.self.invariant.kept c.in-Some.child (c.loop-at.invariant.0 c.in-Some.child c.in-Some.is) in
     let here = sym shown ∙ sym c.if-is_text.ensures in
-    let rest = rest_of-next c.self.invariant.forest c.args.key c.loop-at.invariant.1 c.in-Some.child c.in-Some.is c.next-at.ensures.value in (
+    let rest = rest_of-next c.self.invariant.kept.forest c.args.key c.loop-at.invariant.1 c.in-Some.child c.in-Some.is c.next-at.ensures.value in (
       c.next-at.ensures.node,
-      among-next c.self.invariant.forest c.args.key c.loop-at.invariant.1 c.in-Some.child c.in-Some.is c.next-at.ensures.value,
+      among-next c.self.invariant.kept.forest c.args.key c.loop-at.invariant.1 c.in-Some.child c.in-Some.is c.next-at.ensures.value,
       sym (ap (λ b. b || any_of (is_text_key (nodes_of c.self.inside.arena.payloads))
           (rest_of (children_of c.self.inside.arena.children c.args.key) c.next-at.result)) here) ∙
           (sym (any_of-cons (is_text_key (nodes_of c.self.inside.arena.payloads)) c.in-Some.child
@@ -45,7 +45,7 @@ loop-at-preserved c =
 
 pub returns : goal.returns
 returns c =
-    sym (sym (shows_has_text c.self.view_is c.self.invariant c.args.key c.requires)
+    sym (sym (shows_has_text c.self.view_is c.self.invariant.kept c.args.key c.requires)
     ∙ (sym c.loop-at.invariant.2 ∙ (ap (any_of (is_text_key (nodes_of c.self.inside.arena.payloads)))
     (ap (rest_of (children_of c.self.inside.arena.children c.args.key)) (none_left c.loop-at.at c.in_default.not-Some) ∙
     rest_of-none (children_of c.self.inside.arena.children c.args.key)) ∙ any_of-nil (is_text_key (nodes_of c.self.inside.arena.payloads)))))

@@ -10,4 +10,4 @@ same_test false b h = sym (false_from_ne_true b (λ e. true≢false (sym (h.1 e)
 pub returns : goal.returns
 returns c =
     same_test _ _ c.is_inclusive_ancestor.ensures
-    ∙ shows_above c.self.view_is c.self.invariant c.args.above c.args.key c.requires.above_is_node c.requires.key_is_node
+    ∙ shows_above c.self.view_is c.self.invariant.kept c.args.above c.args.key c.requires.above_is_node c.requires.key_is_node

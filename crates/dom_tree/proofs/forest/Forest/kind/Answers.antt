@@ -3,4 +3,4 @@ use Rattle.dom_tree.proofs.Kept.{shows_node}
 use Rattle.dom_tree.proofs.forest.Forest.kind.Goals as goal
 
 pub returns : goal.returns
-returns c = c.kind.ensures ∙ ap (λ n. n.kind) (sym (shows_node c.self.view_is c.self.invariant c.args.key _ c.requires c.payload.ensures.value))
+returns c = c.kind.ensures ∙ ap (λ n. n.kind) (sym (shows_node c.self.view_is c.self.invariant.kept c.args.key _ c.requires c.payload.ensures.value))

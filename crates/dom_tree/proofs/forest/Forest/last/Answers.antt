@@ -5,8 +5,8 @@ use Rattle.dom_tree.proofs.Kept.{shows, shows_child}
 use Rattle.dom_tree.proofs.forest.Forest.last.Goals as goal
 
 pub returns-clause-value : goal.returns-clause-value
-returns-clause-value c = shows c.self.view_is c.self.invariant {read = λ ts x. last_of (children_in ts x)}
+returns-clause-value c = shows c.self.view_is c.self.invariant.kept {read = λ ts x. last_of (children_in ts x)}
     {key_read = λ lists x. last_key (children_of lists x)} (record { agree = last_in-at }) c.args.key c.requires c.last.ensures.value
 
 pub returns-clause-child : goal.returns-clause-child
-returns-clause-child c k e = shows_child c.self.view_is c.self.invariant k (c.last.ensures.node k e) (c.last.ensures.child k e)
+returns-clause-child c k e = shows_child c.self.view_is c.self.invariant.kept k (c.last.ensures.node k e) (c.last.ensures.child k e)

@@ -6,5 +6,5 @@ use Rattle.dom_tree.proofs.forest.Forest.law_attributes_have_own_names.Goals as 
 
 pub returns : goal.returns
 returns c =
-    subst (λ (n : Node). HaveOwnNames n.attributes) (sym (shows_node c.self.view_is c.self.invariant c.args.key _ c.requires c.payload.ensures.value))
+    subst (λ (n : Node). HaveOwnNames n.attributes) (sym (shows_node c.self.view_is c.self.invariant.kept c.args.key _ c.requires c.payload.ensures.value))
     c.law_attributes_have_own_names.ensures

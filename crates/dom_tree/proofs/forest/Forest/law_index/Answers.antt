@@ -9,9 +9,9 @@ use Rattle.dom_tree.proofs.forest.Forest.law_index.Goals as goal
 pub returns : goal.returns
 returns c = λ k node.
     let lists = c.self.inside.arena.children in
-    let paired = c.self.invariant.paired in
-    let inside = within c.self.view_is c.self.invariant k node in
-    let below = place-within lists c.self.invariant.forest k (omega arith) in
-    let shown : place_of lists k ≡ index_of c.args.self.now.trees (name_at c.args.self.now.names k) = shows_index c.self.view_is c.self.invariant k node in
-    let there = within_names c.self.view_is c.self.invariant (place_of lists k) (omega arith) in
+    let paired = c.self.invariant.kept.paired in
+    let inside = within c.self.view_is c.self.invariant.kept k node in
+    let below = place-within lists c.self.invariant.kept.forest k (omega arith) in
+    let shown : place_of lists k ≡ index_of c.args.self.now.trees (name_at c.args.self.now.names k) = shows_index c.self.view_is c.self.invariant.kept k node in
+    let there = within_names c.self.view_is c.self.invariant.kept (place_of lists k) (omega arith) in
     omega arith

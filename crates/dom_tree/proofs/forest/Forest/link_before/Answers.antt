@@ -3,6 +3,7 @@ use Rattle.node_arena.specs.Nodes.{Nodes, IsForest, parent_of}
 use Rattle.dom_model.proofs.Model.{children_of as children_in}
 use Rattle.dom_laws.specs.Siblings.{put_name}
 use Rattle.dom_tree.specs.Definitions.{Stored, name_at}
+use Rattle.dom_tree.specs.Ids.{AreNoted}
 use Rattle.dom_tree.proofs.Kept.{link_shown, link_asked, link_done, kept_with, within}
 use Rattle.dom_tree.proofs.Stays.{AreSameBut, moved_above, moved_parents, parent_shown, linked_apart, linked_parent}
 use Rattle.dom_tree.proofs.ChildLists.{children_linked, children_beside, put-first, put-last}
@@ -11,26 +12,29 @@ use Rattle.dom_tree.proofs.forest.Forest.link_before.Goals as goal
 
 pub link_before-requires : goal.link_before-requires
 link_before-requires c =
-    let meant = link_asked c.self.inside.arena c.self.view_is c.self.invariant (link_shown c.requires.parent_is_node c.requires.child_is_node
+    let meant = link_asked c.self.inside.arena c.self.view_is c.self.invariant.kept (link_shown c.requires.parent_is_node c.requires.child_is_node
     c.requires.unlinked c.requires.not_above c.requires.before_is_node c.requires.before_is_child) in
     record {
-      parent_is_node = within c.self.view_is c.self.invariant c.args.parent c.requires.parent_is_node;
-      child_is_node = within c.self.view_is c.self.invariant c.args.child c.requires.child_is_node;
+      parent_is_node = within c.self.view_is c.self.invariant.kept c.args.parent c.requires.parent_is_node;
+      child_is_node = within c.self.view_is c.self.invariant.kept c.args.child c.requires.child_is_node;
       unlinked = meant.unlinked;
       not_above = λ found. both_ways _ meant.not_above found;
       before_is_child = meant.before_is_child;
     }
 
 pub invariant_of-self : goal.invariant_of-self
-invariant_of-self c = kept_with c.self.inside.arena c.link_before.new.self _ c.self.invariant (ap (λ a. a.payloads) c.link_before.ensures.linked)
-    c.link_before.ensures.sound
+invariant_of-self c = record {
+  kept = kept_with c.self.inside.arena c.link_before.new.self _ c.self.invariant.kept (ap (λ a. a.payloads) c.link_before.ensures.linked)
+      c.link_before.ensures.sound;
+  ids = subst (AreNoted _) (ap (λ (a : Nodes Stored). a.payloads) (sym c.link_before.ensures.linked)) c.self.invariant.ids;
+}
 
 pub returns : goal.returns
 returns c =
     let f = c.args.self.now in
     let old = c.self.inside.arena in
     let is = c.self.view_is in
-    let kept = c.self.invariant in
+    let kept = c.self.invariant.kept in
     let sound = c.link_before.ensures.sound in
     let same = ap (λ (a : Nodes Stored). a.payloads) c.link_before.ensures.linked in
     let lists = ap (λ (a : Nodes Stored). a.children) c.link_before.ensures.linked in

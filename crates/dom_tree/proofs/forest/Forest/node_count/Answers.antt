@@ -5,5 +5,5 @@ use Rattle.dom_tree.proofs.forest.Forest.node_count.Goals as goal
 pub returns : goal.returns
 returns c =
     ap (length {A = ℕ}) c.of-keys.ensures
-    ∙ c.self.invariant.counted c.args.owner
+    ∙ c.self.invariant.kept.counted c.args.owner
     ∙ ap (λ (f : NamedTrees). count_of c.args.owner f.names) c.self.view_is

@@ -4,9 +4,10 @@ use Rattle.dom_tree.proofs.Walks.{shows_above}
 use Rattle.dom_tree.proofs.forest.Forest.parent.Goals as goal
 
 pub returns-clause-value : goal.returns-clause-value
-returns-clause-value c = shows_parent c.self.view_is c.self.invariant c.args.key c.requires c.parent.ensures.value
+returns-clause-value c = shows_parent c.self.view_is c.self.invariant.kept c.args.key c.requires c.parent.ensures.value
 
 pub returns-clause-above : goal.returns-clause-above
 returns-clause-above c = λ p e.
-    sym (shows_above c.self.view_is c.self.invariant c.args.key p c.requires (within_names c.self.view_is c.self.invariant p (c.parent.ensures.node p e)))
+    sym (shows_above c.self.view_is c.self.invariant.kept c.args.key p c.requires
+    (within_names c.self.view_is c.self.invariant.kept p (c.parent.ensures.node p e)))
     ∙ false_from_ne_true _ (c.parent.ensures.above p e)

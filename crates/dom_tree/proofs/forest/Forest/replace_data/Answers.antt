@@ -1,27 +1,31 @@
 use Rattle.dom_base.proofs.Std.{◌≡◌, ◌≤◌, ℕ, List, length, ap, set, refl, subst, sym, true≢false, Result, Ok, Err, OnErr}
 use Rattle.dom_model.proofs.Model.{inclusive_ancestors, children_of, node_in, with_data_replaced}
 use Rattle.dom_tree.specs.Definitions.{Stored, name_at, node_with}
-use Rattle.dom_tree.proofs.Setting.{IsKept-set_same, set_names}
+use Rattle.dom_tree.specs.Ids.{code_in}
+use Rattle.dom_tree.proofs.Setting.{set_names}
+use Rattle.dom_tree.proofs.Noted.{stays_kept}
 use Rattle.dom_tree.proofs.Kept.{seen, shows_node}
 use Rattle.dom_tree.proofs.Unchanged.{set_same}
 use Rattle.dom_tree.proofs.Holds.{IsChangedAt-stored}
 use Rattle.dom_tree.proofs.forest.Forest.replace_data.Goals as goal
 
 pub invariant_of-self : goal.invariant_of-self
-invariant_of-self c = IsKept-set_same c.self.invariant c.args.key _ c.payload_mut.ensures.value
+invariant_of-self c = stays_kept c.self.invariant c.args.key _ c.payload_mut.ensures.value
     (ap (λ (s : Stored). s.name) c.in_err-replace_text.ensures.err) (ap (λ (s : Stored). s.node.document) c.in_err-replace_text.ensures.err)
+    (ap code_in c.in_err-replace_text.ensures.err)
 
 pub invariant_of-self-2 : goal.invariant_of-self-2
-invariant_of-self-2 c = IsKept-set_same c.self.invariant c.args.key _ c.payload_mut.ensures.value
+invariant_of-self-2 c = stays_kept c.self.invariant c.args.key _ c.payload_mut.ensures.value
     (ap (λ (s : Stored). s.name) c.in_ok-replace_text.ensures.ok) (ap (λ (s : Stored). s.node.document) c.in_ok-replace_text.ensures.ok)
+    (ap code_in c.in_ok-replace_text.ensures.ok)
 
 pub returns-in_err-replace_text-clause-names : goal.returns-in_err-replace_text-clause-names
-returns-in_err-replace_text-clause-names c = set_names c.self.view_is c.self.invariant c.args.key _ c.payload_mut.ensures.value
+returns-in_err-replace_text-clause-names c = set_names c.self.view_is c.self.invariant.kept c.args.key _ c.payload_mut.ensures.value
     (ap (λ (s : Stored). s.name) c.in_err-replace_text.ensures.err)
 
 pub returns-in_err-replace_text-clause-whole : goal.returns-in_err-replace_text-clause-whole
 returns-in_err-replace_text-clause-whole c start all =
-    let node = shows_node c.self.view_is c.self.invariant c.args.key _ c.requires c.payload_mut.ensures.value in
+    let node = shows_node c.self.view_is c.self.invariant.kept c.args.key _ c.requires c.payload_mut.ensures.value in
     absurd (true≢false (sym (c.in_err-replace_text.ensures.whole start
     (subst (λ (units : List ℕ). length units ≤ c.args.count) (ap (λ n. n.text) node) all))))
 
@@ -29,7 +33,7 @@ returns-in_err-replace_text-clause-whole c start all =
 left : (c : goal.After-from_residual) →
     seen (set c.self.inside.arena.payloads c.args.key c.replace_text.new.self) c.self.inside.arena.children ≡ c.args.self.now
 left c =
-    set_same c.self.view_is c.self.invariant
+    set_same c.self.view_is c.self.invariant.kept
     (record { at = c.payload_mut.ensures.value; name_kept = ap (λ (s : Stored). s.name) c.in_err-replace_text.ensures.err })
     (ap (λ (s : Stored). node_with c.args.self.now.names s.name s.node) c.in_err-replace_text.ensures.err)
 
@@ -51,7 +55,7 @@ returns-in_err-replace_text-clause-err c = on_any c.from_residual.result (left c
 
 pub returns : goal.returns
 returns c =
-    let done = IsChangedAt-stored c.self.view_is c.self.invariant (invariant_of-self-2 c)
+    let done = IsChangedAt-stored c.self.view_is c.self.invariant.kept (invariant_of-self-2 c).kept
     (record { at = c.payload_mut.ensures.value; name_kept = ap (λ (s : Stored). s.name) c.in_ok-replace_text.ensures.ok })
     c.requires (with_data_replaced c.args.offset c.args.count c.args.units.items) (λ n. refl)
     (ap (λ (s : Stored). node_with c.args.self.now.names s.name s.node) c.in_ok-replace_text.ensures.ok) in

@@ -2,28 +2,45 @@ use Rattle.dom_base.proofs.Std.{◌≡◌, ap, set, refl, Some, Result, Ok, Err,
 use Rattle.dom_model.proofs.Model.{inclusive_ancestors, children_of, node_in, with_attribute}
 use Rattle.dom_tree.specs.Definitions.{Stored, name_at, node_with}
 use Rattle.dom_tree.proofs.Setting.{IsKept-set_same, set_names}
-use Rattle.dom_tree.proofs.Kept.{seen}
+use Rattle.dom_tree.specs.Ids.{code_in}
+use Rattle.dom_tree.proofs.Kept.{seen, within}
+use Rattle.dom_tree.proofs.Noted.{noted-anew, noted-more, noted-set_same, set_in}
 use Rattle.dom_tree.proofs.Unchanged.{set_same}
 use Rattle.dom_tree.proofs.Holds.{IsChangedAt-stored}
 use Rattle.dom_tree.proofs.forest.Forest.set_attr.Goals as goal
+use Rattle.dom_tree.proofs.forest.Forest.set_attr.Goals.{After-from_residual-in_err-set_attribute}
 
 pub invariant_of-self : goal.invariant_of-self
-invariant_of-self c = IsKept-set_same c.self.invariant c.args.key _ c.payload_mut.ensures.value
-    (ap (λ (s : Stored). s.name) c.in_err-set_attribute.ensures.err) (ap (λ (s : Stored). s.node.document) c.in_err-set_attribute.ensures.err)
+invariant_of-self c = record {
+  kept = c.self.invariant.kept;
+  ids = noted-more c.self.invariant.ids c.note_value.ensures.widens (within c.self.view_is c.self.invariant.kept c.args.key c.requires);
+}
+
+pub invariant_of-self-in_err-set_attribute : goal.invariant_of-self-in_err-set_attribute
+invariant_of-self-in_err-set_attribute c = record {
+  kept = IsKept-set_same c.self.invariant.kept c.args.key _ c.payload_mut.ensures.value
+      (ap (λ (s : Stored). s.name) c.in_err-set_attribute.ensures.err) (ap (λ (s : Stored). s.node.document) c.in_err-set_attribute.ensures.err);
+  ids = noted-set_same c.args.key _ (noted-more c.self.invariant.ids c.note_value.ensures.widens
+      (within c.self.view_is c.self.invariant.kept c.args.key c.requires)) c.payload_mut.ensures.value (ap code_in c.in_err-set_attribute.ensures.err);
+}
 
 pub invariant_of-self-2 : goal.invariant_of-self-2
-invariant_of-self-2 c = IsKept-set_same c.self.invariant c.args.key _ c.payload_mut.ensures.value
-    (ap (λ (s : Stored). s.name) c.in_ok-set_attribute.ensures.ok) (ap (λ (s : Stored). s.node.document) c.in_ok-set_attribute.ensures.ok)
+invariant_of-self-2 c = record {
+  kept = IsKept-set_same c.self.invariant.kept c.args.key _ c.payload_mut.ensures.value
+      (ap (λ (s : Stored). s.name) c.in_ok-set_attribute.ensures.ok) (ap (λ (s : Stored). s.node.document) c.in_ok-set_attribute.ensures.ok);
+  ids = noted-anew c.self.invariant.ids c.note_value.ensures.widens c.forget.ensures c.payload-node.ensures.value c.payload_mut.ensures.value
+      (set_in c.args.name.now c.args.value.items) c.in_ok-set_attribute.ensures.ok c.in_ok-left.ensures.noted;
+}
 
 pub returns-in_err-set_attribute-clause-names : goal.returns-in_err-set_attribute-clause-names
-returns-in_err-set_attribute-clause-names c = set_names c.self.view_is c.self.invariant c.args.key _ c.payload_mut.ensures.value
+returns-in_err-set_attribute-clause-names c = set_names c.self.view_is c.self.invariant.kept c.args.key _ c.payload_mut.ensures.value
     (ap (λ (s : Stored). s.name) c.in_err-set_attribute.ensures.err)
 
 -- a refused call leaves the forest
-left : (c : goal.After-from_residual) →
+left : (c : After-from_residual-in_err-set_attribute) →
     seen (set c.self.inside.arena.payloads c.args.key c.set_attribute.new.self) c.self.inside.arena.children ≡ c.args.self.now
 left c =
-    set_same c.self.view_is c.self.invariant
+    set_same c.self.view_is c.self.invariant.kept
     (record { at = c.payload_mut.ensures.value; name_kept = ap (λ (s : Stored). s.name) c.in_err-set_attribute.ensures.err })
     (ap (λ (s : Stored). node_with c.args.self.now.names s.name s.node) c.in_err-set_attribute.ensures.err)
 
@@ -37,7 +54,7 @@ pub returns-in_err-set_attribute-clause-held : goal.returns-in_err-set_attribute
 returns-in_err-set_attribute-clause-held c = λ k node other. let f = c.args.self.now in ap (λ g. node_in g.trees (name_at f.names k)) (left c)
 
 pub returns-in_err-set_attribute-clause-err : goal.returns-in_err-set_attribute-clause-err
-returns-in_err-set_attribute-clause-err c = on_any c.from_residual.result (left c)
+returns-in_err-set_attribute-clause-err c = on_any c.from_residual-in_err-set_attribute.result (left c)
   where
     on_any : {T E P : Type 0} (r : Result T E) → P → OnErr r P
     on_any (Ok x) p = tt
@@ -45,7 +62,7 @@ returns-in_err-set_attribute-clause-err c = on_any c.from_residual.result (left 
 
 pub returns : goal.returns
 returns c =
-    let done = IsChangedAt-stored c.self.view_is c.self.invariant (invariant_of-self-2 c)
+    let done = IsChangedAt-stored c.self.view_is c.self.invariant.kept (invariant_of-self-2 c).kept
     (record { at = c.payload_mut.ensures.value; name_kept = ap (λ (s : Stored). s.name) c.in_ok-set_attribute.ensures.ok })
     c.requires (with_attribute c.args.name.now (Some c.args.value.items)) (λ n. refl)
     (ap (λ (s : Stored). node_with c.args.self.now.names s.name s.node) c.in_ok-set_attribute.ensures.ok) in
