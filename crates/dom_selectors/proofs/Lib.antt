@@ -12,6 +12,7 @@ mod Earlier
 mod Chains
 mod Searches
 mod QueryLaws
+mod IdQueries
 mod Sound
 mod SoundLists
 mod Complete

@@ -5,6 +5,7 @@
 #![tactic(auto)]
 
 mod above;
+mod by_id;
 mod chain;
 mod compounds;
 mod grammar;
