@@ -1,7 +1,10 @@
 -- A walk through the tree of a node, and which of its nodes are still to come.
-use Rattle.dom_base.proofs.Std.{◌≡◌, ◌⊎◌, inl, inr, ℕ, ◌<◌, length, Option, Some, sym, subst, option_map, ForSome}
+use Rattle.dom_base.proofs.Std.{◌≡◌, ◌≢◌, ◌⊎◌, inl, inr, ℕ, ◌<◌, false, ◌||◌, length, Option, Some, None, ap, ◌∙◌, sym, subst, option_map, ForSome}
 use Rattle.dom_traversal.proofs.Trees.{above-within, behind, behind_is, below, beyond, from_node, here, In, In-left, inclusive_descendants, IsWithin-itself}
-use Rattle.dom_traversal.proofs.Trees.{name_at, NamedTrees, NodeName, StandAlone, StandOnce, StandsIn}
+use Rattle.dom_laws.proofs.Laws.{above-root}
+use Rattle.dom_traversal.proofs.Trees.{above-parent, Has-forest, is_in, name_at, name_eq, name_eq-other, NamedTrees, NodeName, Once-forest, parent_of}
+use Rattle.dom_traversal.proofs.Trees.{StandAlone, StandOnce, StandsIn, TellApart}
+use Rattle.dom_traversal.specs.Definitions.{is_inside}
 
 module _ (f : NamedTrees) (top : ℕ) where
   -- the names from a key on, in the tree of the top
@@ -34,3 +37,18 @@ module _ (f : NamedTrees) (top : ℕ) where
     | inl same ↦ inl same
     | inr j ↦ inr (subst (In y) e j)
   ]
+
+-- a node that is not `top` is in the tree of `top` just if its parent is, and a root is not
+module _ (f : NamedTrees) (once : StandOnce f) (only : StandAlone f) (distinct : TellApart f.names) (top k : ℕ) (top_is_node : top < length f.names)
+    (node : k < length f.names) (other : k ≢ top) where
+  passes : name_eq (name_at f.names top) (name_at f.names k) ≡ false
+  passes = name_eq-other (name_at f.names top) (name_at f.names k) (λ same. other (distinct k top node top_is_node (sym same)))
+
+  pub inside-up : (p : ℕ) → Some (name_at f.names p) ≡ parent_of f.trees (name_at f.names k) → is_inside f top k ≡ is_inside f top p
+  inside-up p e =
+      let up = above-parent f.trees (name_at f.names k) (name_at f.names p) (Once-forest f once only) (Has-forest f once k node) (sym e) in
+      ap (is_in name_eq (name_at f.names top)) up.0 ∙ ap (λ b. b || is_inside f top p) passes
+
+  pub inside-root : None ≡ parent_of f.trees (name_at f.names k) → is_inside f top k ≡ false
+  inside-root e =
+      ap (is_in name_eq (name_at f.names top)) (above-root f.trees (name_at f.names k) (Has-forest f once k node) (sym e)) ∙ ap (λ b. b || false) passes

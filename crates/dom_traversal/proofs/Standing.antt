@@ -1,13 +1,21 @@
 -- The order of references in their list, and what taking one out leaves.
-use Rattle.dom_base.proofs.Std.{◌≡◌, inl, inr, ℕ, zero, suc, ◌+◌, ◌<◌, ◌≤◌, Bool, true, false, List, [], ◌∷◌, length, get_or, eqb, ltb, refl, sym, subst, ◌∙◌}
-use Rattle.dom_base.proofs.Std.{arith, ◌&&◌, ◌||◌, Contains, remove, IsPartitionedBy, cases_Bool, cases_lt, eqb-true, eqb-false, ltb-true, ltb-false}
-use Rattle.dom_base.proofs.Std.{get_or_default, length-remove, get_or-remove_below, get_or-remove_above, Contains-append_cases, Contains-append_right}
-use Rattle.dom_base.proofs.Std.{Contains-permutation, IsPermutation-remove, IsPermutation-sym}
+use Rattle.dom_base.proofs.Std.{◌≡◌, inl, inr, ℕ, zero, suc, ◌+◌, ◌<◌, ◌≤◌, Bool, true, false, List, [], ◌∷◌, length, get_or, eqb, ltb, refl, sym, subst, ap}
+use Rattle.dom_base.proofs.Std.{◌∙◌, arith, ◌&&◌, ◌||◌, Contains, remove, IsPartitionedBy, cases_Bool, cases_lt, eqb-true, eqb-false, ltb-true, ltb-false}
+use Rattle.dom_base.proofs.Std.{cases_eq, get_or_default, length-remove, get_or-remove_below, get_or-remove_above, Contains-append_cases, Contains-append_right}
+use Rattle.dom_base.proofs.Std.{Contains-permutation, IsPermutation-remove, IsPermutation-sym, insert, ◌⊎◌, ◌-◌, cases_order}
+use Rattle.std.proofs.lemmas.List.Edits.{get_or-insert_above, get_or-insert_at, get_or-insert_below, length-insert}
 use Rattle.dom_traversal.specs.Definitions.{AreSorted, IsBefore, IsUpTo, Reference, reference_at}
 
 -- whether a reference comes before another one
 abbrev pub is_before : Reference → Reference → Bool
 is_before y x = ltb y.node x.node || (eqb x.node y.node && ltb x.number y.number)
+
+-- none comes after a later one
+pub AreSorted-up_to : (xs : List Reference) {j k : ℕ} (d : Reference) → AreSorted xs → j ≤ k → k < length xs → IsUpTo (get_or xs j d) (get_or xs k d)
+AreSorted-up_to xs {j} {k} d sorted le l = elim (cases_eq j k) [
+  | inl e ↦ subst (λ (n : ℕ). IsUpTo (get_or xs j d) (get_or xs n d)) e (omega arith, λ _. omega arith)
+  | inr off ↦ let b = sorted j k d (omega (arith, le, off)) l in (b.0, λ s. let less = b.1 s in omega (arith, less))
+]
 
 -- ---- what the test says
 
@@ -36,7 +44,7 @@ IsPartitionedBy-before y xs sorted i j d le l e = elim (cases_Bool (is_before y 
   | inr f ↦
       let up = before-true y (get_or xs j d) e in
       let past = before-false y (get_or xs i d) f in
-      let s = sorted i j d le l in
+      let s = AreSorted-up_to xs d sorted le l in
       absurd (let same : y.node ≡ (get_or xs i d).node = omega (arith, up.0, past.0, s.0) in
       omega (arith, past.1 same, s.1 (omega (arith, up.0, s.0, same)), up.1 (omega (arith, up.0, s.0, same))))
 ]
@@ -65,7 +73,7 @@ module _ (xs : List Reference) (y : Reference) (place : ℕ) (sorted : AreSorted
         within,
         λ d.
             let low = from place d (omega arith) within in
-            let high = subst (λ (x : Reference). IsUpTo (get_or xs place d) x) (get_or_default xs w.0 d z w.1 ∙ w.2) (sorted place w.0 d up w.1) in
+            let high = subst (λ (x : Reference). IsUpTo (get_or xs place d) x) (get_or_default xs w.0 d z w.1 ∙ w.2) (AreSorted-up_to xs d sorted up w.1) in
             let same : (get_or xs place d).node ≡ z.node = omega (arith, low.0, high.0, node) in
             (same ∙ sym node, high.1 same),
       )
@@ -84,6 +92,10 @@ module _ (xs : List Reference) (y : Reference) (place : ℕ) (sorted : AreSorted
       same : (x : Reference) → x.node ≡ y.node → x.number ≡ y.number → x ≡ y
       same x e f = (λ i. reference_at (e i) (f i))
 
+-- the same references in the same order
+kept : {x y z w : Reference} → x ≡ z → y ≡ w → IsBefore z w → IsBefore x y
+kept {x} {y} {z} {w} e f h = subst (λ (t : Reference). IsBefore t y) (sym e) (subst (λ (t : Reference). IsBefore z t) (sym f) h)
+
 -- ---- a reference is taken out
 
 module _ (xs : List Reference) (place : ℕ) (within : place < length xs) where
@@ -101,9 +113,6 @@ module _ (xs : List Reference) (place : ℕ) (within : place < length xs) where
               (sorted (a + 1) (b + 1) d (omega (arith, le)) (omega (arith, l, size)))
         ]
       ]
-    where
-      kept : {x y z w : Reference} → x ≡ z → y ≡ w → IsUpTo z w → IsUpTo x y
-      kept {x} {y} {z} {w} e f h = subst (λ (t : Reference). IsUpTo t y) (sym e) (subst (λ (t : Reference). IsUpTo z t) (sym f) h)
 
   -- and all listed
   pub Contains-removed : (y x : Reference) → y ≡ get_or xs place y → (x ≡ y → ⊥) → Contains xs x → Contains (remove xs place) x
@@ -123,3 +132,66 @@ module _ (xs : List Reference) (place : ℕ) (within : place < length xs) where
   Contains-was y x is w =
       Contains-permutation (y ∷ remove xs place) xs x (IsPermutation-sym xs (y ∷ remove xs place) (IsPermutation-remove xs place y within is))
       (Contains-append_right (y ∷ []) (remove xs place) x w)
+
+  -- and not that one
+  pub Contains-gone : (y x : Reference) → y ≡ get_or xs place y → AreSorted xs → Contains (remove xs place) x → x ≡ y → ⊥
+  Contains-gone y x is sorted w same = elim (cases_lt w.0 place) [
+    | inl m ↦ twice (sym (get_or-remove_below xs place x w.0 m within) ∙ w.2) here (sorted w.0 place x m within)
+    | inr m ↦ let size = length-remove xs place within in
+        twice here (sym (get_or-remove_above xs place x w.0 m within) ∙ w.2) (sorted place (w.0 + 1) x (omega (arith, m)) (omega (arith, w.1, size)))
+  ]
+    where
+      here : get_or xs place x ≡ x
+      here = get_or_default xs place x y within ∙ (sym is ∙ sym same)
+
+      twice : {z v : Reference} → z ≡ x → v ≡ x → IsBefore z v → ⊥
+      twice e f b =
+          let number = ap (λ (r : Reference). r.number) (e ∙ sym f) in
+          omega (arith, b.1 (ap (λ (r : Reference). r.node) (e ∙ sym f)), number)
+
+-- ---- a reference is put in
+
+module _ (xs : List Reference) (place : ℕ) (y : Reference) (within : place ≤ length xs) where
+  -- what stands at a place then
+  stands : (k : ℕ) (d : Reference) → ((k ≡ place) × (get_or (insert xs place y) k d ≡ y)) ⊎
+      (((k < place) × (get_or (insert xs place y) k d ≡ get_or xs k d)) ⊎ ((place < k) × (get_or (insert xs place y) k d ≡ get_or xs (k - 1) d)))
+  stands k d = elim (cases_order k place) [
+    | inl e ↦ inl (e, ap (λ n. get_or (insert xs place y) n d) e ∙ get_or-insert_at xs place y d within)
+    | inr f ↦ inr (elim f [
+      | inl l ↦ inl (l, get_or-insert_below xs place y d k l within)
+      | inr l ↦
+          let up : k ≡ k - 1 + 1 = omega (arith, l) in
+          inr (l, ap (λ n. get_or (insert xs place y) n d) up ∙ get_or-insert_above xs place y d (k - 1) (omega (arith, l)) within)
+    ])
+  ]
+
+  -- the references are sorted where it stands behind those before it, and before the others
+  pub AreSorted-inserted : AreSorted xs → ((k : ℕ) (d : Reference) → k < place → IsBefore (get_or xs k d) y) →
+      ((k : ℕ) (d : Reference) → place ≤ k → k < length xs → IsBefore y (get_or xs k d)) → AreSorted (insert xs place y)
+  AreSorted-inserted sorted before behind a b d less m =
+      let size = length-insert xs place y within in
+      elim (stands a d) [
+        | inl p ↦ elim (stands b d) [
+          | inl q ↦ absurd (omega (arith, less, p.0, q.0))
+          | inr q ↦ elim q [
+            | inl r ↦ absurd (omega (arith, less, p.0, r.0))
+            | inr r ↦ kept p.1 r.1 (behind (b - 1) d (omega (arith, r.0)) (omega (arith, r.0, m, size)))
+          ]
+        ]
+        | inr p ↦ elim p [
+          | inl r ↦ elim (stands b d) [
+            | inl q ↦ kept r.1 q.1 (before a d r.0)
+            | inr q ↦ elim q [
+              | inl t ↦ kept r.1 t.1 (sorted a b d less (omega (arith, t.0, within)))
+              | inr t ↦ kept r.1 t.1 (sorted a (b - 1) d (omega (arith, r.0, t.0)) (omega (arith, t.0, m, size)))
+            ]
+          ]
+          | inr r ↦ elim (stands b d) [
+            | inl q ↦ absurd (omega (arith, less, r.0, q.0))
+            | inr q ↦ elim q [
+              | inl t ↦ absurd (omega (arith, less, r.0, t.0))
+              | inr t ↦ kept r.1 t.1 (sorted (a - 1) (b - 1) d (omega (arith, less, r.0)) (omega (arith, t.0, m, size)))
+            ]
+          ]
+        ]
+      ]

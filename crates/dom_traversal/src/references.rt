@@ -1,12 +1,14 @@
 //! At which nodes an owner's iterators stand: their references in a sorted list, where those at one node are found by
 //! binary search. It goes from the node that was made last to the first one: an iterator begins at its root, which is
 //! made before most nodes in its tree, so that few references are moved for a new one.
-ghost use Rattle.std.specs.Prelude.{◌≡◌, ◌⊎◌, true, ℕ, ◌<◌, ◌≤◌, length, slice_index_or, IsSome};
+ghost use Rattle.std.specs.Prelude.{◌≡◌, ◌≢◌, ◌⊎◌, true, ℕ, ◌<◌, ◌≤◌, length, slice_index_or, IsSome, None};
 ghost use Rattle.std.specs.List.{Contains};
 ghost use Rattle.std.specs.Option.{ForSome};
 ghost use Rattle.std.specs.Vec.{vec_len, vec_capacity};
-ghost use Rattle.dom_traversal.specs.References.{AreSorted, IsBefore, IsUpTo, reference_at};
+ghost use Rattle.dom_traversal.specs.References.{AreSorted, AreNodes, AreOutside, AreTested, IsBefore, IsUpTo, reference_at};
+ghost use Rattle.dom_tree.specs.Forest.{IsNode};
 
+use dom_tree::Forest;
 use node_arena::Key;
 
 /// The node that is the reference of an iterator, and the iterator's number.
@@ -75,9 +77,70 @@ fn are_behind(references: &[Reference], place: usize, node: Key) -> bool
     references[place].node < node
 }
 
+/// Whether no reference is in the tree of `top`, as far as going up from the references shows it. It is given up after as many
+/// steps as the tree has nodes below `top`, or the list has references. Of those at one node, one is tested.
+pub(crate) fn is_apart(references: &[Reference], forest: &Forest, top: Key) -> bool
+    requires sorted { AreSorted references.now }
+    requires nodes { AreNodes forest.now references.now }
+    requires top_is_node { IsNode forest.now top }
+    ensures { result ≡ true → AreOutside forest.now top references.now (length references.now) }
+{
+    forest.law_nodes_stand_once();
+    if references.is_empty() {
+        return true;
+    }
+    let mut place = 0;
+    let mut at = references[0].node;
+    let mut walked = forest.following(top, top);
+    for _ in 0..references.len() {
+        let Some(key) = walked else {
+            return false;
+        };
+        if at == top {
+            return false;
+        }
+        let Some((next, above)) = test_on(references, forest, top, place, at) else {
+            return true;
+        };
+        place = next;
+        at = above;
+        walked = forest.following(key, top);
+    }
+    false
+}
+
+/// Goes on with a test of the references before and at a place: from a node that was reached from that one to the parent, and
+/// from a root to the next node with references. Gives none where there is no such node: all references are outside then.
+fn test_on(
+    references: &[Reference],
+    forest: &Forest,
+    top: Key,
+    place: usize,
+    at: Key,
+) -> Option<(usize, Key)>
+    requires sorted { AreSorted references.now }
+    requires nodes { AreNodes forest.now references.now }
+    requires top_is_node { IsNode forest.now top }
+    requires tested { AreTested forest.now top references.now place at }
+    requires other { at ≢ top }
+    ensures tested { ForSome result (λ next. AreTested forest.now top references.now next.0 next.1) }
+    ensures none { result ≡ None → AreOutside forest.now top references.now (length references.now) }
+{
+    forest.law_nodes_stand_once();
+    if let Some(above) = forest.parent(at) {
+        return Some((place, above));
+    }
+    let behind = place_of(references, references[place].node, usize::MAX);
+    if behind == references.len() {
+        return None;
+    }
+    Some((behind, references[behind].node))
+}
+
 /// Lists the reference of one iterator more, for which there is room.
 pub(crate) fn list(references: &mut Vec<Reference>, number: usize, node: Key)
     requires sorted { AreSorted references.old.items }
+    requires unlisted { (x : Reference) → Contains references.old.items x → x.number ≢ number }
     requires room { vec_len references.old < vec_capacity references.old }
     ensures sorted { AreSorted references.new.items }
     ensures listed { Contains references.new.items (reference_at node number) }
@@ -92,10 +155,11 @@ pub(crate) fn list(references: &mut Vec<Reference>, number: usize, node: Key)
 pub(crate) fn bring(references: &mut Vec<Reference>, number: usize, from: Key, to: Key)
     requires sorted { AreSorted references.old.items }
     requires there { Contains references.old.items (reference_at from number) }
+    requires alone { (x : Reference) → Contains references.old.items x → x.number ≡ number → x.node ≡ from }
     ensures sorted { AreSorted references.new.items }
     ensures listed { Contains references.new.items (reference_at to number) }
     ensures kept { (x : Reference) → (x ≡ reference_at from number → ⊥) → Contains references.old.items x → Contains references.new.items x }
-    ensures only { (x : Reference) → Contains references.new.items x → (x ≡ reference_at to number) ⊎ Contains references.old.items x }
+    ensures only { (x : Reference) → Contains references.new.items x → (x ≡ reference_at to number) ⊎ (Contains references.old.items x × (x.number ≢ number)) }
 {
     if from == to {
         return;

@@ -12,7 +12,7 @@ ghost use Rattle.dom_traversal.specs.OwnTables.{EachItem, AreLeft, IsLeftIf, no_
 ghost use Rattle.dom_traversal.specs.References.{MayHaveLeft};
 
 use crate::iter::Direction;
-use crate::references::{Reference, bring, list, number_at};
+use crate::references::{Reference, bring, is_apart, list, number_at};
 use crate::{Filter, Iter, Walker};
 use dom_base::{Fault, MAX_NODES, Move, Refusal};
 use dom_tree::Forest;
@@ -105,14 +105,18 @@ impl OwnTables {
     }
 
     /// Lets each iterator leave the tree of a node that is about to be removed (DOM Standard, NodeIterator pre-remove
-    /// steps). Those are looked for that stand at each node of the tree. Where the tree has more nodes than there are
-    /// iterators, the search stops after as many: to ask each iterator is less then.
+    /// steps). Where going up from the references shows soon that none is in the tree, nothing is looked for in it. Else those are
+    /// looked for that stand at each node of the tree. Where it has more nodes than there are iterators, the search stops after as
+    /// many: to ask each iterator is less then.
     pub(crate) fn leave(&mut self, forest: &Forest, node: Key)
         requires node_is_node { IsNode forest.now node }
         requires iterators { EachItem (IsIteratorOf forest.now) self.old.iterators }
         ensures iterators { AreLeft forest.now node self.old.iterators self.new.iterators }
         ensures walkers { self.new.walkers ≡ self.old.walkers }
     {
+        if is_apart(self.references.as_slice(), forest, node) {
+            return;
+        }
         forest.law_nodes_stand_once();
         let mut left = self.iterators.len();
         let mut near = 0;

@@ -1,5 +1,6 @@
 use Rattle.dom_base.proofs.Std.{◌-◌, get_or, ap, arith, rules, ◌<◌, get_or_default}
 use Rattle.dom_traversal.specs.Definitions.{Reference}
+use Rattle.dom_traversal.proofs.Standing.{AreSorted-up_to}
 use Rattle.dom_traversal.proofs.references.are_before.Goals as goal
 
 pub returns : goal.returns
@@ -8,4 +9,5 @@ returns c = λ e k d l.
     let last = c.args.place - 1 in
     let end = c.index-references-place.result in
     let less : c.args.node < (get_or xs last end).node = search rules in
-    omega (arith, less, ap (λ (x : Reference). x.node) (get_or_default xs last d end (omega arith)), (c.requires.sorted k last d (omega arith) (omega arith)).0)
+    let up = AreSorted-up_to xs {j = k} {k = last} d c.requires.sorted (omega arith) (omega arith) in
+    omega (arith, less, ap (λ (x : Reference). x.node) (get_or_default xs last d end (omega arith)), up.0)

@@ -1,5 +1,6 @@
 use Rattle.dom_base.proofs.Std.{get_or, ap, arith, rules, ◌<◌, get_or_default}
 use Rattle.dom_traversal.specs.Definitions.{Reference}
+use Rattle.dom_traversal.proofs.Standing.{AreSorted-up_to}
 use Rattle.dom_traversal.proofs.references.are_behind.Goals as goal
 
 pub returns : goal.returns
@@ -8,4 +9,4 @@ returns c = λ e k d from l.
     let place = c.args.place in
     let end = c.index-references-place.result in
     let more : (get_or xs place end).node < c.args.node = search rules in
-    omega (arith, more, ap (λ (x : Reference). x.node) (get_or_default xs place d end (omega arith)), (c.requires.sorted place k d from l).0)
+    omega (arith, more, ap (λ (x : Reference). x.node) (get_or_default xs place d end (omega arith)), (AreSorted-up_to xs d c.requires.sorted from l).0)

@@ -1,7 +1,13 @@
-use Rattle.dom_base.proofs.Std.{◌≡◌, ◌⊎◌, List, length, sym, subst, ap, arith, Contains}
+use Rattle.dom_base.proofs.Std.{◌≡◌, ◌⊎◌, List, length, sym, subst, ap, arith, slice_get_within, Contains}
 use Rattle.dom_traversal.specs.Definitions.{AreListed, KeyedIterator, Reference, reference_at}
 use Rattle.dom_traversal.proofs.Listing.{AreListed-added}
 use Rattle.dom_traversal.proofs.tables.OwnTables.add_iter.Goals as goal
+
+pub list-requires-clause-unlisted : goal.list-requires-clause-unlisted
+list-requires-clause-unlisted c x w n =
+    let is : List KeyedIterator = c.self.inside.iterators.items in
+    let i = c.self.invariant.1.only x (subst (λ (xs : List Reference). Contains xs x) c.in_ok-reserve.ensures.items w) in
+    omega (arith, n, slice_get_within is x.number i.0 i.1, c.len-number.ensures, c.self.inside.iterators.ok.0)
 
 pub invariant_of-self-2 : goal.invariant_of-self-2
 invariant_of-self-2 c =

@@ -1,9 +1,31 @@
-use Rattle.dom_base.proofs.Std.{inl, inr, Some, refl, sym, subst, ◌∙◌, slice_get, cases_Bool}
+use Rattle.dom_base.proofs.Std.{◌≡◌, ℕ, ◌<◌, false, inl, inr, List, Some, length, get_or, ap, refl, sym, subst, ◌∙◌, slice_get, cases_Bool, get_or_default}
 use Rattle.dom_traversal.proofs.Trees.{following_step, In-from, In-not, inclusive_descendants, is_in, name_at, name_eq, Once-forest, outside-test}
-use Rattle.dom_traversal.specs.Definitions.{IsLeftIf}
+use Rattle.dom_traversal.specs.Definitions.{AreOutside, is_inside, IsLeftIf, KeyedTables, Reference, reference_at}
 use Rattle.dom_traversal.proofs.Leaving.{may-none, may-may, may-items, may-left, left-may, all-left, left-outside}
 use Rattle.dom_traversal.proofs.Inside.{from_key, all-from_top, top-stands, next-from}
 use Rattle.dom_traversal.proofs.tables.OwnTables.leave.Goals as goal
+
+pub is_apart-requires-clause-nodes : goal.is_apart-requires-clause-nodes
+is_apart-requires-clause-nodes c k d l =
+    let xs = c.self.inside.references.items in
+    let x = get_or xs k d in
+    let within = subst (λ (ys : List Reference). k < length ys) c.as_slice.ensures.value l in
+    let i = c.self.invariant.1.only x (k, within, get_or_default xs k x d within) in
+    let there = ap (λ (t : KeyedTables). slice_get t.iterators x.number) (sym c.self.view_is) ∙ i.1 in
+    subst (λ (ys : List Reference). (get_or ys k d).node < length c.args.forest.now.names) (sym c.as_slice.ensures.value)
+    (subst (λ (n : ℕ). n < length c.args.forest.now.names) i.2 (c.requires.iterators x.number i.0 there).reference.node)
+
+pub returns-then-is_apart-clause-iterators : goal.returns-then-is_apart-clause-iterators
+returns-then-is_apart-clause-iterators c =
+    let f = c.args.forest.now in
+    let was = c.args.self.now.iterators in
+    let xs = c.self.inside.references.items in
+    all-left f c.args.node was was (may-none f c.args.node was)
+    (λ k i there.
+    let at = c.self.invariant.1.all k i (ap (λ (t : KeyedTables). slice_get t.iterators k) c.self.view_is ∙ there) in
+    let out = subst (λ (ys : List Reference). AreOutside f c.args.node ys (length ys)) c.as_slice.ensures.value (c.is_apart.ensures c.if-is_apart.true) in
+    subst (λ o. IsLeftIf f c.args.node o o) (sym there) (left-outside f c.args.node i (c.requires.iterators k i there)
+    (subst (λ (x : Reference). is_inside f c.args.node x.node ≡ false) at.2 (out at.0 (reference_at i.reference k) at.1))))
 
 pub loop-at-init : goal.loop-at-init
 loop-at-init c =

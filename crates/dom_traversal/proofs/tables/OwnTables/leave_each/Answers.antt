@@ -1,7 +1,6 @@
-use Rattle.dom_base.proofs.Std.{◌≡◌, length, ap, arith}
+use Rattle.dom_base.proofs.Std.{◌≡◌, length, ap, arith, slice_get_within}
 use Rattle.dom_traversal.specs.Definitions.{KeyedTables}
 use Rattle.dom_traversal.proofs.Leaving.{may-items, all-left, have_left-all}
-use Rattle.dom_traversal.proofs.Listing.{within-got}
 use Rattle.dom_traversal.proofs.tables.OwnTables.leave_each.Goals as goal
 
 pub leave_one-requires-clause-iterators : goal.leave_one-requires-clause-iterators
@@ -17,5 +16,6 @@ returns-clause-iterators c =
     all-left c.args.forest.now c.args.node was now left.may
     (λ k i e. have_left-all c.args.forest.now c.args.node (λ _. Unit {0}) was left
     (λ j x le there _.
-    let l = within-got now j x there in omega (arith, l, le, c.loop-number-test.false, c.len-number-end.ensures, c.self.inside.iterators.ok.0, size, left.len))
+    let l = slice_get_within now j x there in
+    omega (arith, l, le, c.loop-number-test.false, c.len-number-end.ensures, c.self.inside.iterators.ok.0, size, left.len))
     k e tt)

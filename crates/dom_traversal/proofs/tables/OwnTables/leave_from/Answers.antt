@@ -1,4 +1,4 @@
-use Rattle.dom_base.proofs.Std.{◌≡◌, ℕ, ◌<◌, List, Some, length, refl, ap, sym, subst, ◌∙◌, arith, true≢false, slice_get, Contains}
+use Rattle.dom_base.proofs.Std.{◌≡◌, ℕ, ◌<◌, List, Some, length, refl, ap, sym, subst, ◌∙◌, arith, true≢false, slice_get, slice_get_within, Contains}
 use Rattle.dom_traversal.specs.Definitions.{AreListed, IsLeftIf, KeyedIterator, KeyedTables, Reference, reference_at}
 use Rattle.dom_traversal.proofs.Leaving.{may-items, have_left-more, have_left-all}
 use Rattle.dom_traversal.proofs.tables.OwnTables.leave_from.Goals as goal
@@ -7,8 +7,8 @@ use Rattle.dom_traversal.proofs.tables.OwnTables.leave_from.Goals as goal
 found_is : {is all : List KeyedIterator} {xs ys : List Reference} {key n : ℕ} → is ≡ all → AreListed is xs → ys ≡ xs → Contains ys (reference_at key n) →
     n < length all
 found_is {is} {all} {xs} {ys} {key} {n} items listed same w =
-    subst (λ (js : List KeyedIterator). n < length js) items
-    (listed.only (reference_at key n) (subst (λ (zs : List Reference). Contains zs (reference_at key n)) same w))
+    let i = listed.only (reference_at key n) (subst (λ (zs : List Reference). Contains zs (reference_at key n)) same w) in
+    subst (λ (js : List KeyedIterator). n < length js) items (slice_get_within is n i.0 i.1)
 
 -- an iterator at the key is listed
 listed_at : {is all : List KeyedIterator} {xs ys : List Reference} {key k : ℕ} {i : KeyedIterator} → is ≡ all → AreListed is xs → ys ≡ xs

@@ -1,7 +1,7 @@
 use Rattle.dom_base.proofs.Std.{◌≡◌, ℕ, ◌<◌, Bool, List, Some, length, get_or, ap, sym, subst, ◌∙◌, slice_get, slice_set, Contains, slice_get-get_or}
 use Rattle.dom_traversal.specs.Definitions.{IsLeftIf, KeyedIterator, KeyedTables, MayHaveLeft, reference_at}
 use Rattle.dom_traversal.proofs.Leaving.{left-set, may-set}
-use Rattle.dom_traversal.proofs.Listing.{AreListed-moved}
+use Rattle.dom_traversal.proofs.Listing.{AreListed-alone, AreListed-moved}
 use Rattle.dom_traversal.proofs.tables.OwnTables.leave_one.Goals as goal
 
 -- the iterator that is read
@@ -20,6 +20,12 @@ bring-requires-clause-there c =
     let items = ap (λ (t : KeyedTables). t.iterators) c.self.view_is in
     subst (λ (n : ℕ). Contains c.self.inside.references.items (reference_at n c.args.number)) (sym (ap (λ (p : ℕ × Bool). p.0) c.at-from.ensures))
     (c.self.invariant.1.all c.args.number c.index_mut-iterator.result.now (read items c.requires.there c.index_mut-iterator.ensures.value))
+
+pub bring-requires-clause-alone : goal.bring-requires-clause-alone
+bring-requires-clause-alone c =
+    let items = ap (λ (t : KeyedTables). t.iterators) c.self.view_is in
+    AreListed-alone c.self.invariant.1 (read items c.requires.there c.index_mut-iterator.ensures.value)
+    (ap (λ (p : ℕ × Bool). p.0) c.at-from.ensures)
 
 pub invariant_of-self : goal.invariant_of-self
 invariant_of-self c =

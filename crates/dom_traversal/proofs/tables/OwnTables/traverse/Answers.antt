@@ -3,7 +3,7 @@ use Rattle.dom_traversal.proofs.Trees.{name_at}
 use Rattle.dom_traversal.specs.Definitions.{IsIteratorOf, iterator_at, iterator_found, iterator_view, KeyedIterator, KeyedTables, KeyedWalker, reference_at}
 use Rattle.dom_traversal.specs.Definitions.{stands_before}
 use Rattle.dom_traversal.proofs.Items.{got, got_is}
-use Rattle.dom_traversal.proofs.Listing.{AreListed-moved, got_in}
+use Rattle.dom_traversal.proofs.Listing.{AreListed-alone, AreListed-moved, got_in}
 use Rattle.dom_traversal.proofs.tables.OwnTables.traverse.Goals as goal
 
 pub traverse-found-requires : goal.traverse-found-requires
@@ -18,6 +18,12 @@ bring-requires-clause-there c =
     let items = ap (λ (t : KeyedTables). t.iterators) c.self.view_is in
     subst (λ (n : ℕ). Contains c.self.inside.references.items (reference_at n c.args.number)) (sym (ap (λ (p : ℕ × Bool). p.0) c.at-from.ensures))
     (c.self.invariant.1.all c.args.number c.index_mut-iterator.result.now (got_in c.args.number items c.requires.there c.index_mut-iterator.ensures.value))
+
+pub bring-requires-clause-alone : goal.bring-requires-clause-alone
+bring-requires-clause-alone c =
+    let items = ap (λ (t : KeyedTables). t.iterators) c.self.view_is in
+    AreListed-alone c.self.invariant.1 (got_in c.args.number items c.requires.there c.index_mut-iterator.ensures.value)
+    (ap (λ (p : ℕ × Bool). p.0) c.at-from.ensures)
 
 pub invariant_of-self : goal.invariant_of-self
 invariant_of-self c =
