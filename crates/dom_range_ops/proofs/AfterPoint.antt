@@ -1,9 +1,8 @@
 -- The first node behind a boundary point of a tree, and those behind it.
-use Rattle.dom_base.proofs.Std.{◌≡◌, inl, ◌∷◌, ◌++◌, drop, take, Option, Some, None, refl, sym, ap, subst, ◌∙◌, take-append-drop, flat_map-cons}
-use Rattle.dom_model.proofs.Model.{NodeName, name_eq, first_of, items_after, Boundary, Trees, children_of, inclusive_descendants}
-use Rattle.dom_laws.proofs.Laws.{In, In-right, Single, Single-apart, first_split, no_first, after-split, IsWithin, all_single, joined, here, within-child}
-use Rattle.dom_laws.specs.Within.{beyond, from_node}
-use Rattle.dom_range_ops.specs.Definitions.{nodes_after}
+use Rattle.dom_range_ops.proofs.Cited.{◌≡◌, inl, ◌∷◌, ◌++◌, drop, take, Option, Some, None, refl, sym, ap, subst, ◌∙◌, take-append-drop, flat_map-cons}
+use Rattle.dom_range_ops.proofs.Cited.{NodeName, name_eq, first_of, items_after, Boundary, Trees, children_of, inclusive_descendants, In, In-right, Single}
+use Rattle.dom_range_ops.proofs.Cited.{Single-apart, first_split, no_first, after-split, IsWithin, all_single, joined, here, within-child, beyond, from_node}
+use Rattle.dom_range_ops.proofs.Cited.{nodes_after}
 use Rattle.dom_range_ops.proofs.Sides.{nodes_before, point-splits}
 
 module _ (ts : Trees) (top : NodeName) (b : Boundary NodeName) (w : IsWithin ts top b.node) where

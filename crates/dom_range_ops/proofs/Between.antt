@@ -1,15 +1,12 @@
 -- The text between two points of a tree, from node to node.
-use Rattle.dom_base.proofs.Std.{◌≡◌, ◌⊎◌, inl, inr, ◌≤◌, true, false, ◌&&◌, List, [], ◌∷◌, ◌++◌, refl, sym, ap, subst, ◌∙◌, arith, true≢false, filter, flat_map}
-use Rattle.dom_base.proofs.Std.{slice_range, if◌then◌else◌, AllByRecursion, cases_Bool, and_parts, false_from_ne_true, le-ltb, lt-ltb, leb-false, cond-true}
-use Rattle.dom_base.proofs.Std.{cond-false, flat_map-cons, filter-append}
-use Rattle.dom_model.proofs.Model.{NodeName, name_eq, boundary_place, is_before, Range, at, is_contained, text_part, cut_start, cut_end, Trees, node_in}
-use Rattle.dom_model.proofs.Model.{kind_of, is_text, children_of, inclusive_descendants, root_of, length_of, inclusive_ancestors, before-less, before-turned}
-use Rattle.dom_model.proofs.Model.{name_eq-true}
-use Rattle.dom_ranges.proofs.Before.{before-same, before-up, before-down, before-beside}
-use Rattle.dom_laws.proofs.Laws.{In-names, Has-names, In, In-left, In-right, In-parts, filter-none, filter-yes, filter-no, name_eq-from, IsWithin, joined, here}
-use Rattle.dom_laws.proofs.Laws.{splits, Has, Has-above, below-from_above}
-use Rattle.dom_laws.specs.Within.{ahead_of, beyond}
-use Rattle.dom_range_ops.specs.Definitions.{nodes_after, contained_text, nodes_around}
+use Rattle.dom_range_ops.proofs.Cited.{◌≡◌, ◌⊎◌, inl, inr, ◌≤◌, true, false, ◌&&◌, List, [], ◌∷◌, ◌++◌, refl, sym, ap, subst, ◌∙◌, arith, true≢false, filter}
+use Rattle.dom_range_ops.proofs.Cited.{flat_map, slice_range, if◌then◌else◌, AllByRecursion, cases_Bool, and_parts, false_from_ne_true, le-ltb, lt-ltb}
+use Rattle.dom_range_ops.proofs.Cited.{leb-false, cond-true, cond-false, flat_map-cons, filter-append, NodeName, name_eq, boundary_place, is_before, Range, at}
+use Rattle.dom_range_ops.proofs.Cited.{is_contained, text_part, cut_start, cut_end, Trees, node_in, kind_of, is_text, children_of, inclusive_descendants}
+use Rattle.dom_range_ops.proofs.Cited.{root_of, length_of, inclusive_ancestors, before-less, before-turned, name_eq-true, before-same, before-up, before-down}
+use Rattle.dom_range_ops.proofs.Cited.{before-beside, In-names, Has-names, In, In-left, In-right, In-parts, filter-none, filter-yes, filter-no, name_eq-from}
+use Rattle.dom_range_ops.proofs.Cited.{IsWithin, joined, here, splits, Has, Has-above, below-from_above, ahead_of, beyond, nodes_after, contained_text}
+use Rattle.dom_range_ops.proofs.Cited.{nodes_around}
 use Rattle.dom_range_ops.proofs.OneTree.{HasOneTree, root-above}
 use Rattle.dom_range_ops.proofs.Parting.{behind-apart, ahead-apart}
 use Rattle.dom_range_ops.proofs.Sides.{nodes_before, point-splits, before-no, after-yes}

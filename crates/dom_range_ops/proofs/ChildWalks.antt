@@ -1,7 +1,7 @@
 -- A walk along the children of a node.
-use Rattle.dom_base.proofs.Std.{◌≡◌, inl, ℕ, zero, suc, List, [], ◌∷◌, ◌++◌, drop, Option, Some, None, refl, sym, ap, subst, ◌∙◌, append_assoc, option_map_or}
-use Rattle.dom_model.proofs.Model.{NodeName, name_eq, first_of, items_after, Trees, children_of, next_sibling}
-use Rattle.dom_laws.proofs.Laws.{parent-of_child, children-single, In, In-right, Single, Single-apart, first_split, no_first, after-split, Has, Once}
+use Rattle.dom_range_ops.proofs.Cited.{◌≡◌, inl, ℕ, zero, suc, List, [], ◌∷◌, ◌++◌, drop, Option, Some, None, refl, sym, ap, subst, ◌∙◌, append_assoc}
+use Rattle.dom_range_ops.proofs.Cited.{option_map_or, NodeName, name_eq, first_of, items_after, Trees, children_of, next_sibling, parent-of_child}
+use Rattle.dom_range_ops.proofs.Cited.{children-single, In, In-right, Single, Single-apart, first_split, no_first, after-split, Has, Once}
 
 -- the walk has come to a child, behind which so many are left to pass
 pub record IsAtKid (ts : Trees) (p : NodeName) (index left : ℕ) (at : Option NodeName) : Type 0 where

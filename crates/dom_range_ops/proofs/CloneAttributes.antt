@@ -1,10 +1,7 @@
 -- The attributes of a node, copied one by one.
-use Rattle.dom_base.proofs.Std.{zero, suc, ◌≡◌, ◌<◌, ℕ, ◌-◌, Bool, false, List, [], ◌∷◌, length, take, Some, None, refl, sym, ap, ◌∙◌, arith, slice_get}
-use Rattle.dom_base.proofs.Std.{AllByRecursion, bytes_eq, cond-false, length-map, length-take-le}
-use Rattle.indexmap.specs.IndexMap.{insert_entry}
-use Rattle.dom_model.proofs.Model.{text_eq, Attribute, attributes_with}
-use Rattle.dom_attributes.specs.Attributes.{HaveOwnNames}
-use Rattle.dom_attributes.proofs.Attributes.{attributes_in, insert-attributes}
+use Rattle.dom_range_ops.proofs.Cited.{zero, suc, ◌≡◌, ◌<◌, ℕ, ◌-◌, Bool, false, List, [], ◌∷◌, length, take, Some, None, refl, sym, ap, ◌∙◌, arith, slice_get}
+use Rattle.dom_range_ops.proofs.Cited.{AllByRecursion, bytes_eq, cond-false, length-map, length-take-le, insert_entry, text_eq, Attribute, attributes_with}
+use Rattle.dom_range_ops.proofs.Cited.{HaveOwnNames, attributes_in, insert-attributes}
 
 -- the next attribute goes behind those that were copied
 pub attributes-next : (bs : List Attribute) → HaveOwnNames bs → (n : ℕ) (b : Attribute) → slice_get bs n ≡ Some b →

@@ -1,12 +1,9 @@
 -- Going up from keys' nodes, by how many nodes stand above them.
-use Rattle.dom_base.proofs.Std.{◌≡◌, ◌⊎◌, inl, inr, ℕ, ◌+◌, ◌<◌, ◌≤◌, true, false, List, [], ◌∷◌, ◌++◌, length, Option, Some, None, refl, sym, ap, ◌∙◌, arith}
-use Rattle.dom_base.proofs.Std.{length-append, option_map, unwrap_or, option_or, cases_Bool, false_from_ne_true}
-use Rattle.dom_model.proofs.Model.{NodeName, name_eq, items_before, place_from, Trees, none, tree, on_top, parent_of, inclusive_ancestors}
-use Rattle.dom_model.proofs.Model.{is_inclusive_ancestor}
-use Rattle.dom_tree.specs.Definitions.{NamedTrees, name_at}
-use Rattle.dom_laws.proofs.Laws.{above-split, above-chain, In, In-from, Once, Has, Has-above, above-parent, above-present, above-root}
-use Rattle.dom_tree.proofs.Standing.{StandOnce, StandAlone, Once-forest, Has-forest}
-use Rattle.dom_ranges.specs.Definitions.{depth_at}
+use Rattle.dom_range_ops.proofs.Cited.{◌≡◌, ◌⊎◌, inl, inr, ℕ, ◌+◌, ◌<◌, ◌≤◌, true, false, List, [], ◌∷◌, ◌++◌, length, Option, Some, None, refl, sym, ap, ◌∙◌}
+use Rattle.dom_range_ops.proofs.Cited.{arith, length-append, option_map, unwrap_or, option_or, cases_Bool, false_from_ne_true, NodeName, name_eq, items_before}
+use Rattle.dom_range_ops.proofs.Cited.{place_from, Trees, none, tree, on_top, parent_of, inclusive_ancestors, is_inclusive_ancestor, NamedTrees, name_at}
+use Rattle.dom_range_ops.proofs.Cited.{above-split, above-chain, In, In-from, Once, Has, Has-above, above-parent, above-present, above-root, StandOnce}
+use Rattle.dom_range_ops.proofs.Cited.{StandAlone, Once-forest, Has-forest, depth_at}
 
 -- how many nodes stand above a key's node, with that one
 abbrev pub height_at : NamedTrees → ℕ → ℕ

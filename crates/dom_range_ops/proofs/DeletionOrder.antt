@@ -1,13 +1,11 @@
 -- What a range contains, by how its nodes stand above and below one another.
-use Rattle.dom_base.proofs.Std.{◌≡◌, ◌⊎◌, inl, inr, ℕ, ◌<◌, Bool, true, false, not, ◌&&◌, List, [], ◌∷◌, ◌++◌, length, Option, Some, None, refl, sym, ap, subst}
-use Rattle.dom_base.proofs.Std.{◌∙◌, arith, true≢false, filter, option_map_or, cases_Bool, and_parts, false_from_ne_true, le-ltb, lt-ltb, lt-leb, cond-false}
-use Rattle.dom_base.proofs.Std.{append-nil}
-use Rattle.dom_model.proofs.Model.{NodeName, boundary_place, is_before, place_of, Range, at, is_contained, Trees, node_in, kind_of, has_data, children_of}
-use Rattle.dom_model.proofs.Model.{inclusive_descendants, inclusive_ancestors, is_inclusive_ancestor, root_of, length_of, parent_of, before-less, before-turned}
-use Rattle.dom_ranges.proofs.Before.{before-same, before-up, before-down}
-use Rattle.dom_laws.proofs.Laws.{In-names, Has-names, In, In-from, filter-none, Single, Single-apart, within-itself, IsWithin, stands_in, all_single, below}
-use Rattle.dom_laws.proofs.Laws.{here, Has-above, Has-subtree, above-parent, above-root, above-from_below, below-from_above}
-use Rattle.dom_range_ops.specs.Definitions.{nodes_around}
+use Rattle.dom_range_ops.proofs.Cited.{◌≡◌, ◌⊎◌, inl, inr, ℕ, ◌<◌, Bool, true, false, not, ◌&&◌, List, [], ◌∷◌, ◌++◌, length, Option, Some, None, refl, sym, ap}
+use Rattle.dom_range_ops.proofs.Cited.{subst, ◌∙◌, arith, true≢false, filter, option_map_or, cases_Bool, and_parts, false_from_ne_true, le-ltb, lt-ltb, lt-leb}
+use Rattle.dom_range_ops.proofs.Cited.{cond-false, append-nil, NodeName, boundary_place, is_before, place_of, Range, at, is_contained, Trees, node_in, kind_of}
+use Rattle.dom_range_ops.proofs.Cited.{has_data, children_of, inclusive_descendants, inclusive_ancestors, is_inclusive_ancestor, root_of, length_of, parent_of}
+use Rattle.dom_range_ops.proofs.Cited.{before-less, before-turned, before-same, before-up, before-down, In-names, Has-names, In, In-from, filter-none, Single}
+use Rattle.dom_range_ops.proofs.Cited.{Single-apart, within-itself, IsWithin, stands_in, all_single, below, here, Has-above, Has-subtree, above-parent}
+use Rattle.dom_range_ops.proofs.Cited.{above-root, above-from_below, below-from_above, nodes_around}
 use Rattle.dom_range_ops.proofs.OneTree.{root-above, root-path}
 use Rattle.dom_range_ops.proofs.OwnTexts.{around-root}
 use Rattle.dom_range_ops.proofs.Parting.{among-kids}

@@ -1,14 +1,11 @@
 -- What is deleted of an owner's range is the same among all trees and among the owner's own.
-use Rattle.dom_base.proofs.Std.{◌≡◌, ◌<◌, ℕ, suc, inl, inr, false, not, ◌&&◌, List, [], ◌∷◌, length, map, filter, Option, Some, None, refl, sym, ap, subst, ◌∙◌}
-use Rattle.dom_base.proofs.Std.{◌-◌, unwrap_or, if◌then◌else◌, AllByRecursion, option_map_or, cases_Bool, and_parts, cond-true, cond-false}
-use Rattle.dom_model.proofs.Model.{NodeName, Owner, steps_of, is_in_one_data, new_place, behind_node, cut_start, name_eq, is_in, last_of, Boundary, Range, at}
-use Rattle.dom_model.proofs.Model.{is_contained, cutting_data, outermost_contained, replacing_data, Trees, Node, has_data, kind_of, nodes, names_of, parent_of}
-use Rattle.dom_model.proofs.Model.{index_of, root_of, inclusive_ancestors, length_of}
-use Rattle.dom_ranges.proofs.OwnOrder.{has_owner}
-use Rattle.dom_tree.proofs.Owned.{own_trees, read_own, stays_own}
-use Rattle.dom_tree.specs.Definitions.{AreOwned, trees_of_owner}
-use Rattle.dom_laws.proofs.Laws.{Has-names, In, In-right, is_in-from, filter-same, last_split, Has-above, above-parent, above-present}
-use Rattle.dom_range_ops.specs.Definitions.{nodes_around}
+use Rattle.dom_range_ops.proofs.Cited.{◌≡◌, ◌<◌, ℕ, suc, inl, inr, false, not, ◌&&◌, List, [], ◌∷◌, length, map, filter, Option, Some, None, refl, sym, ap}
+use Rattle.dom_range_ops.proofs.Cited.{subst, ◌∙◌, ◌-◌, unwrap_or, if◌then◌else◌, AllByRecursion, option_map_or, cases_Bool, and_parts, cond-true, cond-false}
+use Rattle.dom_range_ops.proofs.Cited.{NodeName, Owner, steps_of, is_in_one_data, new_place, behind_node, cut_start, name_eq, is_in, last_of, Boundary, Range}
+use Rattle.dom_range_ops.proofs.Cited.{at, is_contained, cutting_data, outermost_contained, replacing_data, Trees, Node, has_data, kind_of, nodes, names_of}
+use Rattle.dom_range_ops.proofs.Cited.{parent_of, index_of, root_of, inclusive_ancestors, length_of, has_owner, own_trees, read_own, stays_own, AreOwned}
+use Rattle.dom_range_ops.proofs.Cited.{trees_of_owner, Has-names, In, In-right, is_in-from, filter-same, last_split, Has-above, above-parent, above-present}
+use Rattle.dom_range_ops.proofs.Cited.{nodes_around}
 use Rattle.dom_range_ops.proofs.OneTree.{HasOneTree, contained-root, filter-tree, root-above, root-path, root-root}
 use Rattle.dom_range_ops.proofs.OwnTexts.{contained-own, around-own, around-owner, around-root, ends-own, among-filtered}
 use Rattle.dom_range_ops.proofs.DeletionOrder.{is_outermost}

@@ -1,14 +1,12 @@
 -- Where a range stands after its contents were taken.
-use Rattle.dom_base.proofs.Std.{◌≡◌, ◌⊎◌, true≢false, inl, inr, suc, true, false, not, List, [], ◌∷◌, ◌++◌, length, Bool, Option, Some, None, refl, sym, ap}
-use Rattle.dom_base.proofs.Std.{subst, ◌∙◌, arith, append_assoc, length-append, filter, unwrap_or, option_map_or, cases_Bool, cond-false, false_from_ne_true}
-use Rattle.dom_base.proofs.Std.{filter-append}
-use Rattle.dom_model.proofs.Model.{NodeName, behind_node, name_eq, is_in, first_of, last_of, items_before, items_after, Range, at, Trees, node_in, kind_of}
-use Rattle.dom_model.proofs.Model.{has_data, children_of, parent_of, next_sibling, index_of, length_of, root_of, inclusive_ancestors, is_inclusive_ancestor}
-use Rattle.dom_model.proofs.Model.{inclusive_descendants}
-use Rattle.dom_laws.proofs.Laws.{above-split, above-along, first-passes, In-names, child-of_parent, parent-of_child, children-single, In, In-right, In-from}
-use Rattle.dom_laws.proofs.Laws.{is_in-from, Single, Single-apart, filter-none, filter-yes, first_split, no_first, split_at, before-split, last_of-end, Once}
-use Rattle.dom_laws.proofs.Laws.{Has, Has-above, above-parent, above-root, above-present, below-from_above}
-use Rattle.dom_range_ops.specs.Definitions.{nodes_around}
+use Rattle.dom_range_ops.proofs.Cited.{◌≡◌, ◌⊎◌, true≢false, inl, inr, suc, true, false, not, List, [], ◌∷◌, ◌++◌, length, Bool, Option, Some, None, refl, sym}
+use Rattle.dom_range_ops.proofs.Cited.{ap, subst, ◌∙◌, arith, append_assoc, length-append, filter, unwrap_or, option_map_or, cases_Bool, cond-false}
+use Rattle.dom_range_ops.proofs.Cited.{false_from_ne_true, filter-append, NodeName, behind_node, name_eq, is_in, first_of, last_of, items_before, items_after}
+use Rattle.dom_range_ops.proofs.Cited.{Range, at, Trees, node_in, kind_of, has_data, children_of, parent_of, next_sibling, index_of, length_of, root_of}
+use Rattle.dom_range_ops.proofs.Cited.{inclusive_ancestors, is_inclusive_ancestor, inclusive_descendants, above-split, above-along, first-passes, In-names}
+use Rattle.dom_range_ops.proofs.Cited.{child-of_parent, parent-of_child, children-single, In, In-right, In-from, is_in-from, Single, Single-apart, filter-none}
+use Rattle.dom_range_ops.proofs.Cited.{filter-yes, first_split, no_first, split_at, before-split, last_of-end, Once, Has, Has-above, above-parent, above-root}
+use Rattle.dom_range_ops.proofs.Cited.{above-present, below-from_above, nodes_around}
 use Rattle.dom_range_ops.proofs.OneTree.{root-above, root-path}
 
 -- what passes alone is not above the other node

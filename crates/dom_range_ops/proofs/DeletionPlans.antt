@@ -1,14 +1,10 @@
 -- The plan of a deletion, step by step.
-use Rattle.dom_base.proofs.Std.{◌≡◌, ℕ, Bool, true, false, List, [], ◌∷◌, map, Option, is_some, sym, ap, subst, ◌∙◌, ◌-◌, if◌then◌else◌, option_map_or}
-use Rattle.dom_base.proofs.Std.{cond-true, cond-false}
-use Rattle.dom_model.proofs.Model.{NodeName, Owner, Plan, ◌and_then◌, in_turn, doing, steps_of, remove_plan, observed, plan_of_range, is_in_one_data, cut_start}
-use Rattle.dom_model.proofs.Model.{cut_end, new_place, both_at, name_eq, range_at, Range, at, is_collapsed, cutting_data, outermost_contained}
-use Rattle.dom_model.proofs.Model.{deleting_contents, deleting, set_range, replacing_data, Trees, kind_of, has_data, part_of, world_after}
-use Rattle.dom_mutation.specs.Definitions.{DocState, made, planned, stepped, name_in, owner_in, trees_in, PlansOwn, IsAlone}
-use Rattle.dom_parts.proofs.Made.{made_then, planned_then}
-use Rattle.dom_parts.proofs.OwnPlans.{plans_then, plans_each, plans_data, plans_removing}
-use Rattle.dom_ranges.specs.declared.table.Points.{Points}
-use Rattle.dom_range_ops.specs.Definitions.{IsRangeIn, IsOfPoints, cutting, range_at_points}
+use Rattle.dom_range_ops.proofs.Cited.{◌≡◌, ℕ, Bool, true, false, List, [], ◌∷◌, map, Option, is_some, sym, ap, subst, ◌∙◌, ◌-◌, if◌then◌else◌, option_map_or}
+use Rattle.dom_range_ops.proofs.Cited.{cond-true, cond-false, NodeName, Owner, Plan, ◌and_then◌, in_turn, doing, steps_of, remove_plan, observed, plan_of_range}
+use Rattle.dom_range_ops.proofs.Cited.{is_in_one_data, cut_start, cut_end, new_place, both_at, name_eq, range_at, Range, at, is_collapsed, cutting_data}
+use Rattle.dom_range_ops.proofs.Cited.{outermost_contained, deleting_contents, deleting, set_range, replacing_data, Trees, kind_of, has_data, part_of}
+use Rattle.dom_range_ops.proofs.Cited.{world_after, DocState, made, planned, stepped, name_in, owner_in, trees_in, PlansOwn, IsAlone, made_then, planned_then}
+use Rattle.dom_range_ops.proofs.Cited.{plans_then, plans_each, plans_data, plans_removing, Points, IsRangeIn, IsOfPoints, cutting, range_at_points}
 use Rattle.dom_range_ops.proofs.InsertedRanges.{range-kept}
 
 -- ---- its steps are its owner's own

@@ -1,19 +1,13 @@
 -- A live range of a `Doc`: its points, and what the forest has of it.
-use Rattle.dom_base.proofs.Std.{◌≡◌, ◌<◌, ◌≤◌, ℕ, zero, suc, List, [], ◌∷◌, length, map, Option, Some, None, Result, Ok, Err, sym, ap, subst, ◌∙◌, IfOk}
-use Rattle.dom_base.proofs.Std.{slice_get, AllByRecursion, option_flatten, option_map_or}
-use Rattle.dom_model.proofs.Model.{NodeName, Owner, Command, effect, Effect, is_in_one_data, new_place, pieces_of, nothing, boundaries, Part, range_at}
-use Rattle.dom_model.proofs.Model.{Boundary, same_root, Range, from_to, cutting_data, outermost_contained, range_text_of, Trees, Node, kind_of, has_data}
-use Rattle.dom_model.proofs.Model.{children_of, root_of, length_of, part_of}
-use Rattle.dom_worlds.specs.Definitions.{IsWithin, EndsWithin, HasBounds}
-use Rattle.dom_worlds.proofs.RangeLemmas.{text-data}
-use Rattle.dom_mutation.specs.Definitions.{DocState, name_in, owner_in, trees_in}
-use Rattle.dom_ranges.proofs.OwnOrder.{same_root-own}
-use Rattle.dom_ranges.specs.declared.table.Points.{Points}
-use Rattle.dom_tree.proofs.Owned.{read_own, stays_own}
-use Rattle.dom_tree.proofs.Standing.{StandOnce, StandAlone, Once-forest, Has-forest}
-use Rattle.dom_tree.specs.Definitions.{NamedTrees, name_at, AreOwned, trees_of_owner}
-use Rattle.dom_laws.proofs.Laws.{In}
-use Rattle.dom_range_ops.specs.Definitions.{AreLeaves, IsRangeIn, cutting, AreSpanned, range_at_points, AreBounded, text_among, nodes_around}
+use Rattle.dom_range_ops.proofs.Cited.{◌≡◌, ◌<◌, ◌≤◌, ℕ, zero, suc, List, [], ◌∷◌, length, map, Option, Some, None, Result, Ok, Err, sym, ap, subst, ◌∙◌, IfOk}
+use Rattle.dom_range_ops.proofs.Cited.{slice_get, AllByRecursion, option_flatten, option_map_or, NodeName, Owner, Command, effect, Effect, is_in_one_data}
+use Rattle.dom_range_ops.proofs.Cited.{new_place, pieces_of, boundaries, Part, range_at, Boundary, same_root, Range, from_to, cutting_data, outermost_contained}
+use Rattle.dom_range_ops.proofs.Cited.{range_text_of, Trees, Node, kind_of, has_data, children_of, root_of, length_of, part_of, EndsWithin, HasBounds}
+use Rattle.dom_range_ops.proofs.Cited.{text-data, DocState, name_in, owner_in, trees_in, same_root-own, Points, read_own, stays_own, StandOnce, StandAlone}
+use Rattle.dom_range_ops.proofs.Cited.{Once-forest, Has-forest, NamedTrees, name_at, AreOwned, trees_of_owner, In, AreLeaves, IsRangeIn, cutting, AreSpanned}
+use Rattle.dom_range_ops.proofs.Cited.{range_at_points, AreBounded, text_among, nodes_around}
+use Rattle.dom_model.proofs.Model.{nothing}
+use Rattle.dom_worlds.specs.Definitions.{IsWithin}
 use Rattle.dom_range_ops.proofs.OneTree.{HasOneTree}
 use Rattle.dom_range_ops.proofs.OwnTexts.{text-is}
 use Rattle.dom_range_ops.proofs.DeletionOwn.{outermost-own, outermost-owner, one-own, cutting-own, place-own, place-owner, keys-own}

@@ -1,15 +1,10 @@
 -- The extraction of a live range of a `Doc`: what its pieces are, that they may be taken, and what is left.
-use Rattle.dom_base.proofs.Std.{◌≡◌, ◌≤◌, ◌+◌, ℕ, suc, true, false, List, [], ◌∷◌, ◌++◌, map, Option, Some, None, sym, ap, subst, ◌∙◌, refl, arith, ForSome}
-use Rattle.dom_base.proofs.Std.{option_map_or, ltb-false}
-use Rattle.dom_model.proofs.Model.{NodeName, Owner, Limit, limit_on, of_range, past_limit, plan_of_range, pieces_of, made_by_extracting, extracting}
-use Rattle.dom_model.proofs.Model.{new_fragment_node, own_document, new_place, Part, range_at, next_name, Boundary, Range, make, part_step, first_refusal}
-use Rattle.dom_model.proofs.Model.{World, part_of, world_after}
-use Rattle.dom_worlds.specs.Definitions.{HasBounds, HasEnds, IsPart}
-use Rattle.dom_mutation.specs.Definitions.{DocState, made, name_in, trees_in}
-use Rattle.dom_ranges.specs.declared.table.Points.{Points}
-use Rattle.dom_range_ops.specs.declared.pieces.Piece.{Piece}
-use Rattle.dom_range_ops.specs.Definitions.{IsOfPoints, ShadowRootsHaveNoParent, extracting_items, Item, item_in, items_of, made_by, new_names, MayTake}
-use Rattle.dom_range_ops.specs.Definitions.{range_at_points}
+use Rattle.dom_range_ops.proofs.Cited.{◌≡◌, ◌≤◌, ◌+◌, ℕ, suc, true, false, List, [], ◌∷◌, ◌++◌, map, Option, Some, None, sym, ap, subst, ◌∙◌, refl, arith}
+use Rattle.dom_range_ops.proofs.Cited.{ForSome, option_map_or, ltb-false, NodeName, Owner, Limit, limit_on, of_range, past_limit, plan_of_range, pieces_of}
+use Rattle.dom_range_ops.proofs.Cited.{made_by_extracting, extracting, new_fragment_node, own_document, new_place, Part, range_at, next_name, Boundary, Range}
+use Rattle.dom_range_ops.proofs.Cited.{make, part_step, first_refusal, World, part_of, world_after, HasBounds, HasEnds, IsPart, DocState, made, name_in}
+use Rattle.dom_range_ops.proofs.Cited.{trees_in, Points, Piece, IsOfPoints, ShadowRootsHaveNoParent, extracting_items, Item, item_in, items_of, made_by}
+use Rattle.dom_range_ops.proofs.Cited.{new_names, MayTake, range_at_points}
 use Rattle.dom_range_ops.proofs.PieceSteps.{made-pieces}
 use Rattle.dom_range_ops.proofs.TakingItems.{items-extracting}
 use Rattle.dom_range_ops.proofs.TakingRanges.{extract-may_take}

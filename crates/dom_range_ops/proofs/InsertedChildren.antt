@@ -1,13 +1,8 @@
 -- The child of a node at an index, in the trees of its owner.
-use Rattle.dom_base.proofs.Std.{◌≡◌, ◌<◌, ℕ, zero, suc, List, [], ◌∷◌, drop, length, Option, option_map, refl, sym, ap, subst, ◌∙◌, slice_get, ForSome}
-use Rattle.dom_model.proofs.Model.{NodeName, Owner, first_of, children_of, part_of, owner-part_of}
-use Rattle.dom_worlds.specs.Definitions.{IsPart}
-use Rattle.dom_worlds.proofs.TreeLemmas.{children-childs, IsChild as IsBelow, child-parent}
-use Rattle.dom_worlds.proofs.RangeLemmas.{child-there_in}
-use Rattle.dom_worlds.proofs.PlanLemmas.{IfSome, all-get}
-use Rattle.dom_mutation.specs.Definitions.{DocState, name_in, owner_in, trees_in, IsChild}
-use Rattle.dom_tree.proofs.Owned.{read_own}
-use Rattle.dom_tree.specs.Definitions.{NamedTrees, name_at, AreOwned, trees_of_owner}
+use Rattle.dom_range_ops.proofs.Cited.{◌≡◌, ◌<◌, ℕ, zero, suc, List, [], ◌∷◌, drop, length, Option, option_map, refl, sym, ap, subst, ◌∙◌, slice_get, ForSome}
+use Rattle.dom_range_ops.proofs.Cited.{NodeName, Owner, first_of, children_of, part_of, owner-part_of, IsPart, children-childs, child-parent, child-there_in}
+use Rattle.dom_range_ops.proofs.Cited.{IfSome, all-get, DocState, name_in, owner_in, trees_in, IsChild, read_own, NamedTrees, name_at, AreOwned, trees_of_owner}
+use Rattle.dom_worlds.proofs.TreeLemmas.{IsChild as IsBelow}
 
 -- the first item from an index on
 first-drop : {X : Type 0} (xs : List X) (k : ℕ) → first_of (drop k xs) ≡ slice_get xs k

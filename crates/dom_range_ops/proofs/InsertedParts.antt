@@ -1,10 +1,7 @@
 -- What an owner's plan keeps of the nodes that it does not name, in the state that it leaves.
-use Rattle.dom_base.proofs.Std.{◌≡◌, ℕ, Bool, true, false, Option, sym, ap, subst, ◌∙◌}
-use Rattle.dom_model.proofs.Model.{Kind, NodeName, Owner, Plan, Part, after, Trees, kind_of, has_node, World, part_of}
-use Rattle.dom_worlds.proofs.CommandLemmas.{has_node-times}
-use Rattle.dom_worlds.proofs.PlanLemmas.{Changed}
-use Rattle.dom_mutation.specs.Definitions.{DocState, made, name_in, owner_in, trees_in, PlansOwn, IsAlone}
-use Rattle.dom_parts.proofs.Made.{plan_alone}
+use Rattle.dom_range_ops.proofs.Cited.{◌≡◌, ℕ, Bool, true, false, Option, sym, ap, subst, ◌∙◌, Kind, NodeName, Owner, Plan, Part, after, Trees, kind_of}
+use Rattle.dom_range_ops.proofs.Cited.{has_node, World, part_of, has_node-times, Changed, DocState, made, name_in, owner_in, trees_in, PlansOwn, IsAlone}
+use Rattle.dom_range_ops.proofs.Cited.{plan_alone}
 
 module _ (d e : DocState) (o : Owner) (f : Plan) (alone : IsAlone d.world o) (own : PlansOwn o f) (world : e.world ≡ made o f d.world) where
   abbrev p : Part

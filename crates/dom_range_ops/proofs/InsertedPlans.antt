@@ -1,15 +1,9 @@
 -- The steps of an insertion into a live range, put together to its plan.
-use Rattle.dom_base.proofs.Std.{◌≡◌, ℕ, false, List, Option, Some, None, option_map, refl, sym, ap, subst, ◌∙◌, ForSome, cond-false}
-use Rattle.dom_model.proofs.Model.{NodeName, Owner, Plan, ◌and_then◌, observed, remove_plan, insert_plan, reference_child, name_eq, at, ending_at}
-use Rattle.dom_model.proofs.Model.{inserting_before, inserting_at, Trees, next_sibling, inclusive_ancestors, is_inclusive_ancestor, part_of, name_eq-turned}
-use Rattle.dom_tree.specs.Definitions.{name_at}
-use Rattle.dom_mutation.specs.Definitions.{DocState, made, planned, name_in, owner_in, trees_in, IsChild, IsAlone}
-use Rattle.dom_parts.proofs.Made.{planned_then}
-use Rattle.dom_laws.proofs.Laws.{parent_path, Lacks, lacks_from, lacks_to}
-use Rattle.dom_parts.proofs.OwnPlans.{plans_removing, plans_inserting}
-use Rattle.dom_mutation.proofs.Placed.{Counted, once_in, removal_keeps}
-use Rattle.dom_mutation.proofs.Turns.{Stays}
-use Rattle.dom_range_ops.specs.Definitions.{offset_behind}
+use Rattle.dom_range_ops.proofs.Cited.{◌≡◌, ℕ, false, List, Option, Some, None, option_map, refl, sym, ap, subst, ◌∙◌, ForSome, cond-false, NodeName, Owner}
+use Rattle.dom_range_ops.proofs.Cited.{Plan, ◌and_then◌, observed, remove_plan, insert_plan, reference_child, name_eq, at, ending_at, inserting_before}
+use Rattle.dom_range_ops.proofs.Cited.{inserting_at, Trees, next_sibling, inclusive_ancestors, is_inclusive_ancestor, part_of, name_eq-turned, name_at}
+use Rattle.dom_range_ops.proofs.Cited.{DocState, made, planned, name_in, owner_in, trees_in, IsChild, IsAlone, planned_then, parent_path, Lacks, lacks_from}
+use Rattle.dom_range_ops.proofs.Cited.{lacks_to, plans_removing, plans_inserting, Counted, once_in, removal_keeps, Stays, offset_behind}
 
 -- a state by its names and its world
 pub state-is : (d e : DocState) (o : Owner) (f : Plan) → e.names ≡ d.names → e.world ≡ made o f d.world → e ≡ planned o f d

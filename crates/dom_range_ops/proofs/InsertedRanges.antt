@@ -1,13 +1,7 @@
 -- A live range is there after any steps that it was there before, and a range's owner's nodes are few.
-use Rattle.dom_base.proofs.Std.{◌≡◌, ◌≤◌, ◌<◌, ℕ, ◌+◌, true, false, List, length, is_some, sym, subst, arith, ltb-false}
-use Rattle.dom_model.proofs.Model.{NodeName, Owner, Plan, past_limit, Part, range_at, Step, after, has_data, kind_of, length_of, World, part_of}
-use Rattle.dom_worlds.specs.Definitions.{IsPart}
-use Rattle.dom_mutation.specs.Definitions.{DocState, made, owner_in, PlansOwn, IsAlone}
-use Rattle.dom_mutation.proofs.ReadyCalls.{HasLaws, part-planned}
-use Rattle.dom_mutation.proofs.ReadyPlans.{KeepReady}
-use Rattle.dom_mutation.proofs.StillParts.{keeps-steps}
-use Rattle.dom_parts.proofs.BoundedPlans.{length_few}
-use Rattle.dom_parts.proofs.Made.{plan_alone}
+use Rattle.dom_range_ops.proofs.Cited.{◌≡◌, ◌≤◌, ◌<◌, ℕ, ◌+◌, true, false, List, length, is_some, sym, subst, arith, ltb-false, NodeName, Owner, Plan}
+use Rattle.dom_range_ops.proofs.Cited.{past_limit, Part, range_at, Step, after, has_data, kind_of, length_of, World, part_of, IsPart, DocState, made, owner_in}
+use Rattle.dom_range_ops.proofs.Cited.{PlansOwn, IsAlone, HasLaws, part-planned, KeepReady, keeps-steps, length_few, plan_alone}
 
 -- after some steps
 steps_there : (p : Part) (steps : List Step) (k : ℕ) → is_some (range_at p k) ≡ true → is_some (range_at (after p steps) k) ≡ true

@@ -1,16 +1,9 @@
 -- After a Text was split that is a child of a parent: what is kept, and the tail.
-use Rattle.dom_base.proofs.Std.{◌≡◌, ◌<◌, ℕ, Bool, true, false, [], ◌∷◌, ◌++◌, length, Some, is_some, sym, ap, subst, ◌∙◌, arith, false_from_ne_true}
-use Rattle.dom_model.proofs.Model.{Kind, NodeName, Owner, Plan, ◌and_then◌, Part, next_name, range_at, Range, inserting_at, after, splitting, kind_of, has_node}
-use Rattle.dom_model.proofs.Model.{parent_of, is_inclusive_ancestor, part_of, owner-part_of}
-use Rattle.dom_worlds.specs.Definitions.{IsPart}
-use Rattle.dom_worlds.proofs.TreeLemmas.{ancestor-inside, inside-no_ancestor, child-parent}
-use Rattle.dom_worlds.proofs.CommandLemmas.{has_node-times}
-use Rattle.dom_worlds.proofs.PlanLemmas.{Changed, leads-splitting}
-use Rattle.dom_worlds.proofs.RangeLemmas.{tail-child}
-use Rattle.dom_mutation.specs.Definitions.{DocState, made, planned, name_in, owner_in, trees_in, IsChild, IsAlone}
-use Rattle.dom_parts.proofs.Made.{made_then}
-use Rattle.dom_parts.proofs.OwnPlans.{plans_splitting}
-use Rattle.dom_range_ops.specs.Definitions.{inserting_before_tail}
+use Rattle.dom_range_ops.proofs.Cited.{◌≡◌, ◌<◌, ℕ, Bool, true, false, [], ◌∷◌, ◌++◌, length, Some, is_some, sym, ap, subst, ◌∙◌, arith, false_from_ne_true}
+use Rattle.dom_range_ops.proofs.Cited.{Kind, NodeName, Owner, Plan, ◌and_then◌, Part, next_name, range_at, Range, inserting_at, after, splitting, kind_of}
+use Rattle.dom_range_ops.proofs.Cited.{has_node, parent_of, is_inclusive_ancestor, part_of, owner-part_of, IsPart, ancestor-inside, inside-no_ancestor}
+use Rattle.dom_range_ops.proofs.Cited.{child-parent, has_node-times, Changed, leads-splitting, tail-child, DocState, made, planned, name_in, owner_in, trees_in}
+use Rattle.dom_range_ops.proofs.Cited.{IsChild, IsAlone, made_then, plans_splitting, inserting_before_tail}
 use Rattle.dom_range_ops.proofs.InsertedParts.{part-now, now-at, kind-kept}
 use Rattle.dom_range_ops.proofs.InsertedRanges.{range-kept}
 use Rattle.dom_range_ops.proofs.TakingDocs.{name-kept, new-name, new-node}

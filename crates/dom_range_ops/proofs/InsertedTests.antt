@@ -1,14 +1,10 @@
 -- What the tests of an insertion into a live range say, and its steps and its refusal for a range that is there.
-use Rattle.dom_base.proofs.Std.{◌≡◌, ℕ, Bool, true, false, not, [], Option, Some, None, drop, refl, sym, ap, subst, ◌∙◌, true≢false, option_or, option_map_or}
-use Rattle.dom_base.proofs.Std.{cond-true, cond-false}
-use Rattle.dom_model.proofs.Model.{NodeName, Owner, Hierarchy, NotFound, ◌and_then◌, limit_on, made_by_insert_node, name_eq, Part, next_name, range_at, Range}
-use Rattle.dom_model.proofs.Model.{start_reference, insertion_parent, cannot_take_node, insert_node_refusal, inserting_at, inserting_into_range, splitting}
-use Rattle.dom_model.proofs.Model.{Trees, kind_of, is_text, parent_of, is_inclusive_ancestor, child_nodes, may_be_parent, has_parent, placing_tests}
-use Rattle.dom_model.proofs.Model.{pre_insert_refusal, World, part_of, world_after, name_eq-true}
-use Rattle.dom_worlds.proofs.CommandLemmas.{next-test}
-use Rattle.dom_worlds.proofs.ShadowTreeLemmas.{not_taken}
-use Rattle.dom_mutation.specs.Definitions.{made}
-use Rattle.dom_range_ops.specs.Definitions.{inserting_node, inserting_before_tail, node_refusal, inserting_refusal}
+use Rattle.dom_range_ops.proofs.Cited.{◌≡◌, ℕ, Bool, true, false, not, [], Option, Some, None, drop, refl, sym, ap, subst, ◌∙◌, true≢false, option_or}
+use Rattle.dom_range_ops.proofs.Cited.{option_map_or, cond-true, cond-false, NodeName, Owner, Hierarchy, NotFound, ◌and_then◌, limit_on, made_by_insert_node}
+use Rattle.dom_range_ops.proofs.Cited.{name_eq, Part, next_name, range_at, Range, start_reference, insertion_parent, cannot_take_node, insert_node_refusal}
+use Rattle.dom_range_ops.proofs.Cited.{inserting_at, inserting_into_range, splitting, Trees, kind_of, is_text, parent_of, is_inclusive_ancestor, child_nodes}
+use Rattle.dom_range_ops.proofs.Cited.{may_be_parent, has_parent, placing_tests, pre_insert_refusal, World, part_of, world_after, name_eq-true, next-test}
+use Rattle.dom_range_ops.proofs.Cited.{not_taken, made, inserting_node, inserting_before_tail, node_refusal, inserting_refusal}
 
 -- a child before which a node may be put is a child
 pub valid-child : (ts : Trees) (parent node c : NodeName) → pre_insert_refusal ts parent node (Some c) ≡ None → parent_of ts c ≡ Some parent

@@ -1,13 +1,8 @@
 -- The walk from the first of two points of a tree to the second, by keys.
-use Rattle.dom_base.proofs.Std.{◌≡◌, inl, ℕ, ◌<◌, false, true≢false, List, [], ◌∷◌, ◌++◌, length, Option, Some, None, refl, sym, ap, subst, ◌∙◌, AllByRecursion}
-use Rattle.dom_base.proofs.Std.{option_map, ForSome, same_Some}
-use Rattle.dom_model.proofs.Model.{NodeName, first_of, is_before, Range, Trees, root_of}
-use Rattle.dom_tree.specs.Definitions.{NamedTrees, name_at, TellApart, StandsIn}
-use Rattle.dom_ranges.specs.declared.table.Points.{Points}
-use Rattle.dom_tree.proofs.Standing.{StandOnce, StandAlone, Once-forest, Has-forest}
-use Rattle.dom_laws.proofs.Laws.{above-within, IsWithin, In, is_in-from, first_split}
-use Rattle.dom_laws.specs.Within.{from_node}
-use Rattle.dom_range_ops.specs.Definitions.{nodes_after, range_at_points, AreBounded, contained_text, nodes_around}
+use Rattle.dom_range_ops.proofs.Cited.{◌≡◌, inl, ℕ, ◌<◌, false, true≢false, List, [], ◌∷◌, ◌++◌, length, Option, Some, None, refl, sym, ap, subst, ◌∙◌}
+use Rattle.dom_range_ops.proofs.Cited.{AllByRecursion, option_map, ForSome, same_Some, NodeName, first_of, is_before, Range, Trees, root_of, NamedTrees}
+use Rattle.dom_range_ops.proofs.Cited.{name_at, TellApart, StandsIn, Points, StandOnce, StandAlone, Once-forest, Has-forest, above-within, IsWithin, In}
+use Rattle.dom_range_ops.proofs.Cited.{is_in-from, first_split, from_node, nodes_after, range_at_points, AreBounded, contained_text, nodes_around}
 use Rattle.dom_range_ops.proofs.AfterPoint.{after-from}
 use Rattle.dom_range_ops.proofs.Between.{IsBounded, IsBetween, Leads, start-within, end-within, leads-start, text-start, text-end}
 use Rattle.dom_range_ops.proofs.Sides.{after-yes}

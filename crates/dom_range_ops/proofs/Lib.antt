@@ -1,4 +1,5 @@
 -- Lemmas of the operations on live ranges.
+mod Cited
 mod OneTree
 mod OwnTexts
 mod Parting

@@ -1,14 +1,11 @@
 -- The nodes that a range contains stand in the tree of its ends.
-use Rattle.dom_base.proofs.Std.{◌≡◌, inl, inr, ℕ, Bool, true, false, ◌&&◌, List, [], ◌∷◌, ◌++◌, Option, Some, refl, sym, ap, subst, ◌∙◌, arith, eqb, true≢false}
-use Rattle.dom_base.proofs.Std.{filter, unwrap_or, if◌then◌else◌, last_or, flat_map, cases_Bool, and_parts, eqb-true, ltb-true, eq-eqb, append-nil}
-use Rattle.dom_base.proofs.Std.{filter-append, same_Some}
-use Rattle.dom_model.proofs.Model.{NodeName, name_eq, first_of, last_of, is_before, same_root, Range, at, is_contained, range_text_of, text_part, Trees, none}
-use Rattle.dom_model.proofs.Model.{tree, Node, kind_of, is_text, nodes, names_of, inclusive_ancestors, inclusive_descendants, root_of, length_of}
-use Rattle.dom_ranges.proofs.Before.{before-beside}
-use Rattle.dom_ranges.proofs.Places.{place-at_root, place-same, known, path-tree}
-use Rattle.dom_laws.proofs.Laws.{names-tree, Has-names, In, In-parts, last_of-end, filter-none, once_apart, Has, subtree-here, subtree-beside, above-here}
-use Rattle.dom_laws.proofs.Laws.{above-below, above-beside, above-present, Has-above, Once}
-use Rattle.dom_range_ops.specs.Definitions.{text_among, nodes_around}
+use Rattle.dom_range_ops.proofs.Cited.{◌≡◌, inl, inr, ℕ, Bool, true, false, ◌&&◌, List, [], ◌∷◌, ◌++◌, Option, Some, refl, sym, ap, subst, ◌∙◌, arith, eqb}
+use Rattle.dom_range_ops.proofs.Cited.{true≢false, filter, unwrap_or, if◌then◌else◌, last_or, flat_map, cases_Bool, and_parts, eqb-true, ltb-true, eq-eqb}
+use Rattle.dom_range_ops.proofs.Cited.{append-nil, filter-append, same_Some, NodeName, name_eq, first_of, last_of, is_before, same_root, Range, at}
+use Rattle.dom_range_ops.proofs.Cited.{is_contained, range_text_of, text_part, Trees, none, tree, Node, kind_of, is_text, nodes, names_of, inclusive_ancestors}
+use Rattle.dom_range_ops.proofs.Cited.{inclusive_descendants, root_of, length_of, before-beside, place-at_root, place-same, known, path-tree, names-tree}
+use Rattle.dom_range_ops.proofs.Cited.{Has-names, In, In-parts, last_of-end, filter-none, once_apart, Has, subtree-here, subtree-beside, above-here}
+use Rattle.dom_range_ops.proofs.Cited.{above-below, above-beside, above-present, Has-above, Once, text_among, nodes_around}
 
 -- ---- roots
 

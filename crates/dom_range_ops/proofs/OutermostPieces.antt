@@ -1,20 +1,11 @@
 -- The nodes that an extraction takes as they are are the outermost contained ones.
-use Rattle.dom_base.proofs.Std.{◌≡◌, ◌⊎◌, inl, inr, ℕ, suc, ◌<◌, Bool, true, false, ◌&&◌, List, [], ◌∷◌, ◌++◌, length, map, refl, sym, ap, subst, ◌∙◌}
-use Rattle.dom_base.proofs.Std.{append_assoc, arith, filter, AllByRecursion, flat_map, le-ltb, lt-ltb, append-nil, flat_map-cons, filter-append}
-use Rattle.dom_base.proofs.Std.{flat_map-append, same_Some}
-use Rattle.dom_model.proofs.Model.{NodeName, common_ancestor, pieces_apart, last_of, Boundary, place_of, is_before, Range, at, is_contained}
-use Rattle.dom_model.proofs.Model.{outermost_contained, Trees, kind_of, children_of, root_of, inclusive_ancestors, inclusive_descendants, length_of}
-use Rattle.dom_worlds.proofs.RangeLemmas.{text-data}
-use Rattle.dom_ranges.specs.declared.table.Points.{Points}
-use Rattle.dom_ranges.proofs.Before.{before-up, before-beside}
-use Rattle.dom_laws.proofs.Laws.{Once, In, In-left, In-right, is_in-from, filter-none, splits, Has}
-use Rattle.dom_laws.specs.Within.{ahead_of, beyond}
-use Rattle.dom_tree.proofs.Standing.{StandOnce, StandAlone}
-use Rattle.dom_tree.specs.Definitions.{NamedTrees, name_at}
-use Rattle.dom_range_ops.specs.declared.pieces.Piece.{Piece}
-use Rattle.dom_range_ops.specs.declared.pieces.Piece.TheVariants.{Whole, Cut, Clone, End}
-use Rattle.dom_range_ops.specs.Definitions.{whole_item, item_in, items_of, wholes, whole_key, whole_keys, side_items, AreSpanned, HasPaths, IsPieceIn}
-use Rattle.dom_range_ops.specs.Definitions.{range_at_points, nodes_around}
+use Rattle.dom_range_ops.proofs.Cited.{◌≡◌, ◌⊎◌, inl, inr, ℕ, suc, ◌<◌, Bool, true, false, ◌&&◌, List, [], ◌∷◌, ◌++◌, length, map, refl, sym, ap, subst, ◌∙◌}
+use Rattle.dom_range_ops.proofs.Cited.{append_assoc, arith, filter, AllByRecursion, flat_map, le-ltb, lt-ltb, append-nil, flat_map-cons, filter-append}
+use Rattle.dom_range_ops.proofs.Cited.{flat_map-append, same_Some, NodeName, common_ancestor, pieces_apart, last_of, Boundary, place_of, is_before, Range, at}
+use Rattle.dom_range_ops.proofs.Cited.{is_contained, outermost_contained, Trees, kind_of, children_of, root_of, inclusive_ancestors, inclusive_descendants}
+use Rattle.dom_range_ops.proofs.Cited.{length_of, text-data, Points, before-up, before-beside, Once, In, In-left, In-right, is_in-from, filter-none, splits}
+use Rattle.dom_range_ops.proofs.Cited.{Has, ahead_of, beyond, StandOnce, StandAlone, NamedTrees, name_at, Piece, Whole, Cut, Clone, End, whole_item, item_in}
+use Rattle.dom_range_ops.proofs.Cited.{items_of, wholes, whole_key, whole_keys, side_items, AreSpanned, HasPaths, IsPieceIn, range_at_points, nodes_around}
 use Rattle.dom_range_ops.proofs.Between.{IsBounded, member-within, start-out, end-out}
 use Rattle.dom_range_ops.proofs.DeletionOrder.{HasLeaves, IsClear, is_outermost, above-in, start-in, end-in, start-above-out, outermost-not}
 use Rattle.dom_range_ops.proofs.DeletionOwn.{outermost-tree}

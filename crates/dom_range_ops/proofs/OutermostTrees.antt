@@ -1,18 +1,16 @@
 -- The outermost contained nodes of a node's tree, and what an extraction takes of it as it is.
-use Rattle.dom_base.proofs.Std.{◌≡◌, ◌⊎◌, inl, inr, ℕ, zero, suc, ◌+◌, ◌<◌, Bool, true, false, ◌&&◌, List, [], ◌∷◌, ◌++◌, length, map, Some, refl, sym, ap}
-use Rattle.dom_base.proofs.Std.{subst, ◌∙◌, append_assoc, arith, true≢false, filter, if◌then◌else◌, flat_map, cases_Bool, cases_lt, le-ltb, lt-ltb, le-leb}
-use Rattle.dom_base.proofs.Std.{lt-leb, append-nil, same_Some, flat_map-cons, filter-append}
-use Rattle.dom_model.proofs.Model.{NodeName, Boundary, place_of, is_before, Range, at, is_contained, Trees, kind_of, has_data, children_of, parent_of, root_of}
-use Rattle.dom_model.proofs.Model.{inclusive_ancestors, inclusive_descendants, is_inclusive_ancestor, length_of, subtree}
-use Rattle.dom_ranges.proofs.Before.{before-up, before-down, before-beside}
-use Rattle.dom_laws.proofs.Laws.{In-names, Has-names, parent-of_child, In, In-from, In-left, In-right, In-parts, filter-none, filter-yes, filter-no, stands_in}
-use Rattle.dom_laws.proofs.Laws.{joined, below, here, splits, inside-test, above-along, Has, above-parent, above-present, above-from_below, below-from_above}
-use Rattle.dom_laws.specs.Within.{ahead_of, beyond}
-use Rattle.dom_range_ops.specs.Definitions.{Item, whole_item, cut_item, clone_item, end_item, wholes, wholes_if, nodes_around}
+use Rattle.dom_range_ops.proofs.Cited.{◌≡◌, ◌⊎◌, inl, inr, ℕ, zero, suc, ◌+◌, ◌<◌, Bool, true, false, ◌&&◌, List, [], ◌∷◌, ◌++◌, length, map, Some, refl, sym}
+use Rattle.dom_range_ops.proofs.Cited.{ap, subst, ◌∙◌, append_assoc, arith, true≢false, filter, if◌then◌else◌, flat_map, cases_Bool, cases_lt, le-ltb, lt-ltb}
+use Rattle.dom_range_ops.proofs.Cited.{le-leb, lt-leb, append-nil, same_Some, flat_map-cons, filter-append, NodeName, Boundary, place_of, is_before, Range, at}
+use Rattle.dom_range_ops.proofs.Cited.{is_contained, Trees, kind_of, has_data, children_of, parent_of, root_of, inclusive_ancestors, inclusive_descendants}
+use Rattle.dom_range_ops.proofs.Cited.{is_inclusive_ancestor, length_of, subtree, before-up, before-down, before-beside, In-names, Has-names, parent-of_child}
+use Rattle.dom_range_ops.proofs.Cited.{In, In-from, In-left, In-right, In-parts, filter-none, filter-yes, filter-no, stands_in, joined, below, here, splits}
+use Rattle.dom_range_ops.proofs.Cited.{inside-test, above-along, Has, above-parent, above-present, above-from_below, below-from_above, ahead_of, beyond, Item}
+use Rattle.dom_range_ops.proofs.Cited.{whole_item, cut_item, clone_item, end_item, wholes, wholes_if, nodes_around}
 use Rattle.dom_range_ops.proofs.Between.{IsBounded, member-within, start-out}
 use Rattle.dom_range_ops.proofs.DeletionHeights.{above-less}
-use Rattle.dom_range_ops.proofs.DeletionOrder.{HasLeaves, IsClear, is_outermost, start-in, end-in, start-above-out, end-above-out, outermost-not}
-use Rattle.dom_range_ops.proofs.DeletionOrder.{outermost-yes, none-below}
+use Rattle.dom_range_ops.proofs.DeletionOrder.{HasLeaves, IsClear, is_outermost, start-in, end-in, start-above-out, end-above-out, outermost-not, outermost-yes}
+use Rattle.dom_range_ops.proofs.DeletionOrder.{none-below}
 use Rattle.dom_range_ops.proofs.Parting.{behind-apart, ahead-apart}
 use Rattle.dom_range_ops.proofs.PieceItems.{items-beside, items-on}
 use Rattle.dom_range_ops.proofs.PieceLevels.{IsBehind, IsAhead, descend, self-in}

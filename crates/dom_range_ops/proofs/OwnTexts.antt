@@ -1,14 +1,9 @@
 -- The text of an owner's range is the same among all trees and among the owner's own.
-use Rattle.dom_base.proofs.Std.{◌≡◌, inl, inr, ℕ, Bool, true, false, ◌&&◌, List, [], ◌∷◌, ◌++◌, refl, sym, ap, ◌∙◌, filter, slice_range, if◌then◌else◌}
-use Rattle.dom_base.proofs.Std.{flat_map, flat_map-cons}
-use Rattle.dom_model.proofs.Model.{NodeName, Owner, name_eq, is_before, Range, at, is_contained, cut_start, cut_end, range_text_of, text_part, Trees, Node}
-use Rattle.dom_model.proofs.Model.{node_in, kind_of, is_text, inclusive_descendants, root_of, length_of}
-use Rattle.dom_tree.proofs.Standing.{once_own}
-use Rattle.dom_ranges.proofs.OwnOrder.{is_before-own, same_root-own, has_own}
-use Rattle.dom_tree.proofs.Owned.{read_own, stays_own}
-use Rattle.dom_tree.specs.Definitions.{AreOwned, trees_of_owner}
-use Rattle.dom_laws.proofs.Laws.{Has-names, In, is_in-from, filter-same, name_eq-from, Has, Has-subtree, Has-above, above-from_below}
-use Rattle.dom_range_ops.specs.Definitions.{text_among, contained_text, nodes_around}
+use Rattle.dom_range_ops.proofs.Cited.{◌≡◌, inl, inr, ℕ, Bool, true, false, ◌&&◌, List, [], ◌∷◌, ◌++◌, refl, sym, ap, ◌∙◌, filter, slice_range, if◌then◌else◌}
+use Rattle.dom_range_ops.proofs.Cited.{flat_map, flat_map-cons, NodeName, Owner, name_eq, is_before, Range, at, is_contained, cut_start, cut_end, range_text_of}
+use Rattle.dom_range_ops.proofs.Cited.{text_part, Trees, Node, node_in, kind_of, is_text, inclusive_descendants, root_of, length_of, once_own, is_before-own}
+use Rattle.dom_range_ops.proofs.Cited.{same_root-own, has_own, read_own, stays_own, AreOwned, trees_of_owner, Has-names, In, is_in-from, filter-same}
+use Rattle.dom_range_ops.proofs.Cited.{name_eq-from, Has, Has-subtree, Has-above, above-from_below, text_among, contained_text, nodes_around}
 use Rattle.dom_range_ops.proofs.OneTree.{HasOneTree, text-tree, root-above, root-path, root-root}
 
 -- parts that are the same, one by one

@@ -1,13 +1,10 @@
 -- Where the places of two nodes of a tree part: by which stands before the other in tree order.
-use Rattle.dom_base.proofs.Std.{◌≡◌, ◌⊎◌, inl, inr, ℕ, zero, suc, ◌+◌, ◌<◌, ◌≤◌, List, [], ◌∷◌, ◌++◌, length, Option, Some, None, refl, sym, ap, subst, ◌∙◌}
-use Rattle.dom_base.proofs.Std.{arith, append_assoc, length-append, option_map_or, append-nil, flat_map-cons}
-use Rattle.dom_model.proofs.Model.{NodeName, name_eq, items_before, items_after, place_of, Trees, subtree, inclusive_ancestors, inclusive_descendants}
-use Rattle.dom_model.proofs.Model.{parent_of, children_of, index_of}
-use Rattle.dom_ranges.proofs.Places.{path-child}
-use Rattle.dom_laws.proofs.Laws.{parent-of_child, child-of_parent, Has-names, children-single, In, In-right, In-parts, Single, Single-apart, same_or_not}
-use Rattle.dom_laws.proofs.Laws.{split_at, before-split, IsWithin, stands_in, joined, Has, above-parent, above-present, Once, child_places, top_places}
-use Rattle.dom_laws.proofs.Laws.{within-parent, within-root}
-use Rattle.dom_laws.specs.Within.{ahead_of, beyond}
+use Rattle.dom_range_ops.proofs.Cited.{◌≡◌, ◌⊎◌, inl, inr, ℕ, zero, suc, ◌+◌, ◌<◌, ◌≤◌, List, [], ◌∷◌, ◌++◌, length, Option, Some, None, refl, sym, ap, subst}
+use Rattle.dom_range_ops.proofs.Cited.{◌∙◌, arith, append_assoc, length-append, option_map_or, append-nil, flat_map-cons, NodeName, name_eq, items_before}
+use Rattle.dom_range_ops.proofs.Cited.{items_after, place_of, Trees, subtree, inclusive_ancestors, inclusive_descendants, parent_of, children_of, index_of}
+use Rattle.dom_range_ops.proofs.Cited.{path-child, parent-of_child, child-of_parent, Has-names, children-single, In, In-right, In-parts, Single, Single-apart}
+use Rattle.dom_range_ops.proofs.Cited.{same_or_not, split_at, before-split, IsWithin, stands_in, joined, Has, above-parent, above-present, Once, child_places}
+use Rattle.dom_range_ops.proofs.Cited.{top_places, within-parent, within-root, ahead_of, beyond}
 
 -- the places of x and y part, and that of x is first
 pub record Parted (ts : Trees) (x y : NodeName) : Type 0 where

@@ -1,13 +1,10 @@
 -- The items of the pieces of trees, node by node.
-use Rattle.dom_base.proofs.Std.{◌≡◌, inl, inr, ℕ, Bool, true, false, List, [], ◌∷◌, ◌++◌, map, refl, sym, ap, subst, ◌∙◌, append_assoc, if◌then◌else◌, flat_map}
-use Rattle.dom_base.proofs.Std.{append-nil, flat_map-cons}
-use Rattle.dom_model.proofs.Model.{NodeName, Pieces, whole, cut, clone, pieces_along, all_whole, ◌followed_by◌, Trees, none, tree, Node, nodes, names_of, roots}
-use Rattle.dom_model.proofs.Model.{subtree, trees_below, children_of, is_inclusive_ancestor, kind_of, has_data}
-use Rattle.dom_model.specs.Extract.{nothing}
+use Rattle.dom_range_ops.proofs.Cited.{◌≡◌, inl, inr, ℕ, Bool, true, false, List, [], ◌∷◌, ◌++◌, map, refl, sym, ap, subst, ◌∙◌, append_assoc, if◌then◌else◌}
+use Rattle.dom_range_ops.proofs.Cited.{flat_map, append-nil, flat_map-cons, NodeName, Pieces, whole, cut, clone, pieces_along, all_whole, ◌followed_by◌, Trees}
+use Rattle.dom_range_ops.proofs.Cited.{none, tree, Node, nodes, names_of, roots, subtree, trees_below, children_of, is_inclusive_ancestor, kind_of, has_data}
+use Rattle.dom_range_ops.proofs.Cited.{nothing, In, once_apart, Has, subtree-here, subtree-below, subtree-beside, subtree-present, subtree-within, once_below}
+use Rattle.dom_range_ops.proofs.Cited.{Once, once_subtree, Has-root, Item, whole_item, cut_item, clone_item, end_item, items_of, wholes_if}
 use Rattle.dom_slots.proofs.NamesOfNodes.{InNodes, node_in-self, in_left, in_right}
-use Rattle.dom_laws.proofs.Laws.{In, once_apart, Has, subtree-here, subtree-below, subtree-beside, subtree-present, subtree-within, once_below, Once}
-use Rattle.dom_laws.proofs.Laws.{once_subtree, Has-root}
-use Rattle.dom_range_ops.specs.Definitions.{Item, whole_item, cut_item, clone_item, end_item, items_of, wholes_if}
 
 -- the items of some pieces and then others
 pub items-followed : (a b : Pieces) → items_of (a followed_by b) ≡ items_of a ++ items_of b

@@ -1,16 +1,11 @@
 -- The items of the pieces of a range, by the paths from its ends.
-use Rattle.dom_base.proofs.Std.{◌≡◌, inl, inr, ℕ, Bool, true, false, List, [], ◌∷◌, ◌++◌, map, drop, Some, refl, sym, ap, subst, ◌∙◌, append_assoc, filter}
-use Rattle.dom_base.proofs.Std.{find, unwrap_or}
-use Rattle.dom_model.proofs.Model.{NodeName, common_ancestor, tree_holding, all_whole, ◌followed_by◌, pieces_behind, pieces_in_front, pieces_apart, first_of}
-use Rattle.dom_model.proofs.Model.{last_of, is_before, Range, is_contained, Trees, children_of, inclusive_ancestors, is_inclusive_ancestor, trees_below}
-use Rattle.dom_model.proofs.Model.{subtree}
-use Rattle.dom_ranges.specs.declared.table.Points.{Points}
-use Rattle.dom_laws.proofs.Laws.{above-along, In, In-left, In-right, In-not, Single, Single-right, is_in-from, is_in-not, Has, Has-above, above-parent}
-use Rattle.dom_laws.proofs.Laws.{children-single}
-use Rattle.dom_tree.proofs.Standing.{StandOnce, StandAlone, Once-forest, Has-forest}
-use Rattle.dom_tree.specs.Definitions.{NamedTrees, name_at}
-use Rattle.dom_range_ops.specs.Definitions.{items_of, whole_item, AreSpanned, ArePaths, side_items, from_sibling, up_to, first_behind, first_from}
-use Rattle.dom_range_ops.specs.Definitions.{range_at_points, nodes_around}
+use Rattle.dom_range_ops.proofs.Cited.{◌≡◌, inl, inr, ℕ, Bool, true, false, List, [], ◌∷◌, ◌++◌, map, drop, Some, refl, sym, ap, subst, ◌∙◌, append_assoc}
+use Rattle.dom_range_ops.proofs.Cited.{filter, find, unwrap_or, NodeName, common_ancestor, tree_holding, all_whole, ◌followed_by◌, pieces_behind}
+use Rattle.dom_range_ops.proofs.Cited.{pieces_in_front, pieces_apart, first_of, last_of, is_before, Range, is_contained, Trees, children_of}
+use Rattle.dom_range_ops.proofs.Cited.{inclusive_ancestors, is_inclusive_ancestor, trees_below, subtree, Points, above-along, In, In-left, In-right, In-not}
+use Rattle.dom_range_ops.proofs.Cited.{Single, Single-right, is_in-from, is_in-not, Has, Has-above, above-parent, children-single, StandOnce, StandAlone}
+use Rattle.dom_range_ops.proofs.Cited.{Once-forest, Has-forest, NamedTrees, name_at, items_of, whole_item, AreSpanned, ArePaths, side_items, from_sibling}
+use Rattle.dom_range_ops.proofs.Cited.{up_to, first_behind, first_from, range_at_points, nodes_around}
 use Rattle.dom_range_ops.proofs.PieceItems.{items-followed, items-whole}
 use Rattle.dom_range_ops.proofs.PieceMiddle.{IsRange, PartAt, start_course, end_course, at_start, at_end, below-leaves, follows, between-contained}
 use Rattle.dom_range_ops.proofs.PieceParts.{Course, at_top, inside, kid-off, begins, stops, side-held}

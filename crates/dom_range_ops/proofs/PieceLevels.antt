@@ -1,10 +1,10 @@
 -- How a boundary point stands to the trees of the children of a node above it.
-use Rattle.dom_base.proofs.Std.{◌≡◌, ◌⊎◌, inl, inr, ℕ, ◌<◌, ◌≤◌, suc, true, false, List, [], ◌∷◌, ◌++◌, length, take, drop, refl, sym, ap, subst, ◌∙◌, arith}
-use Rattle.dom_base.proofs.Std.{append_assoc, length-append, length-take, true≢false, cases_Bool, cond-false, lt-ltb, le-ltb, le-leb, lt-leb, append-nil}
-use Rattle.dom_model.proofs.Model.{NodeName, name_eq, items_before, items_after, Boundary, place_of, is_before, at, Trees, node_in, kind_of, has_data}
-use Rattle.dom_model.proofs.Model.{children_of, inclusive_ancestors, inclusive_descendants, is_inclusive_ancestor, length_of, subtree}
-use Rattle.dom_ranges.proofs.Before.{before-same, before-up, before-down, before-beside}
-use Rattle.dom_laws.proofs.Laws.{In-names, In, is_in-not, split_at, IsWithin, here, Has, above-present, below-from_above, Once}
+use Rattle.dom_range_ops.proofs.Cited.{◌≡◌, ◌⊎◌, inl, inr, ℕ, ◌<◌, ◌≤◌, suc, true, false, List, [], ◌∷◌, ◌++◌, length, take, drop, refl, sym, ap, subst, ◌∙◌}
+use Rattle.dom_range_ops.proofs.Cited.{arith, append_assoc, length-append, length-take, true≢false, cases_Bool, cond-false, lt-ltb, le-ltb, le-leb, lt-leb}
+use Rattle.dom_range_ops.proofs.Cited.{append-nil, NodeName, name_eq, items_before, items_after, Boundary, place_of, is_before, at, Trees, node_in, kind_of}
+use Rattle.dom_range_ops.proofs.Cited.{has_data, children_of, inclusive_ancestors, inclusive_descendants, is_inclusive_ancestor, length_of, subtree}
+use Rattle.dom_range_ops.proofs.Cited.{before-same, before-up, before-down, before-beside, In-names, In, is_in-not, split_at, IsWithin, here, Has}
+use Rattle.dom_range_ops.proofs.Cited.{above-present, below-from_above, Once}
 use Rattle.dom_range_ops.proofs.Parting.{under-kid, among-kids}
 
 module _ (ts : Trees) (once : Once ts) where

@@ -1,12 +1,10 @@
 -- What lies between the ends of a range among the children of their lowest common ancestor.
-use Rattle.dom_base.proofs.Std.{◌≡◌, ◌⊎◌, inl, inr, ◌≤◌, Bool, true, false, ◌&&◌, List, ◌∷◌, [], ◌++◌, Some, refl, sym, ap, subst, ◌∙◌, append_assoc, arith}
-use Rattle.dom_base.proofs.Std.{true≢false, filter, and_parts, false_from_ne_true, le-ltb, append-nil, filter-append}
-use Rattle.dom_model.proofs.Model.{NodeName, last_of, boundary_place, is_before, Range, at, is_contained, Trees, kind_of, has_data, children_of}
-use Rattle.dom_model.proofs.Model.{inclusive_ancestors, inclusive_descendants, length_of, root_of, subtree, before-less, before-turned}
-use Rattle.dom_ranges.proofs.Before.{before-same}
-use Rattle.dom_laws.proofs.Laws.{above-along, In-names, Has-names, parent-of_child, In, In-left, In-right, In-parts, filter-none, filter-all, Has, Has-subtree}
-use Rattle.dom_laws.proofs.Laws.{above-parent, above-present, above-from_below, below-from_above, Once}
-use Rattle.dom_range_ops.specs.Definitions.{nodes_around}
+use Rattle.dom_range_ops.proofs.Cited.{◌≡◌, ◌⊎◌, inl, inr, ◌≤◌, Bool, true, false, ◌&&◌, List, ◌∷◌, [], ◌++◌, Some, refl, sym, ap, subst, ◌∙◌, append_assoc}
+use Rattle.dom_range_ops.proofs.Cited.{arith, true≢false, filter, and_parts, false_from_ne_true, le-ltb, append-nil, filter-append, NodeName, last_of}
+use Rattle.dom_range_ops.proofs.Cited.{boundary_place, is_before, Range, at, is_contained, Trees, kind_of, has_data, children_of, inclusive_ancestors}
+use Rattle.dom_range_ops.proofs.Cited.{inclusive_descendants, length_of, root_of, subtree, before-less, before-turned, before-same, above-along, In-names}
+use Rattle.dom_range_ops.proofs.Cited.{Has-names, parent-of_child, In, In-left, In-right, In-parts, filter-none, filter-all, Has, Has-subtree, above-parent}
+use Rattle.dom_range_ops.proofs.Cited.{above-present, above-from_below, below-from_above, Once, nodes_around}
 use Rattle.dom_range_ops.proofs.OneTree.{root-above, root-path}
 use Rattle.dom_range_ops.proofs.Between.{Splits, two-splits}
 use Rattle.dom_range_ops.proofs.PieceLevels.{Level, above-start, above-end, in-front, in-back, self-in}

@@ -1,14 +1,11 @@
 -- The pieces of an owner's range are the same among all trees and among the owner's own.
-use Rattle.dom_base.proofs.Std.{◌≡◌, inl, inr, ℕ, Bool, true, false, not, ◌&&◌, List, [], ◌∷◌, refl, sym, ap, subst, ◌∙◌, filter, find, unwrap_or}
-use Rattle.dom_base.proofs.Std.{if◌then◌else◌, cases_Bool}
-use Rattle.dom_model.proofs.Model.{NodeName, Owner, Pieces, whole, cut, clone, pieces_along, pieces_behind, pieces_in_front, tree_holding, all_whole}
-use Rattle.dom_model.proofs.Model.{◌followed_by◌, common_ancestor, is_in_one_data, pieces_apart, pieces_of, name_eq, is_in, is_before, Range, at, is_collapsed}
-use Rattle.dom_model.proofs.Model.{is_contained, Trees, none, tree, Node, names_of, roots, has_data, inclusive_ancestors, is_inclusive_ancestor}
-use Rattle.dom_model.proofs.Model.{inclusive_descendants, length_of, root_of, subtree, trees_below}
-use Rattle.dom_model.specs.Extract.{nothing}
-use Rattle.dom_tree.proofs.Owned.{read_own, stays_own}
-use Rattle.dom_tree.specs.Definitions.{AreOwned, trees_of_owner}
-use Rattle.dom_laws.proofs.Laws.{In-names, Has-root, In, filter-same, is_in-from, Has, Has-subtree, Has-above, above-present, above-from_below, subtree-present}
+use Rattle.dom_range_ops.proofs.Cited.{◌≡◌, inl, inr, ℕ, Bool, true, false, not, ◌&&◌, List, [], ◌∷◌, refl, sym, ap, subst, ◌∙◌, filter, find, unwrap_or}
+use Rattle.dom_range_ops.proofs.Cited.{if◌then◌else◌, cases_Bool, NodeName, Owner, Pieces, whole, cut, clone, pieces_along, pieces_behind, pieces_in_front}
+use Rattle.dom_range_ops.proofs.Cited.{tree_holding, all_whole, ◌followed_by◌, common_ancestor, is_in_one_data, pieces_apart, pieces_of, name_eq, is_in}
+use Rattle.dom_range_ops.proofs.Cited.{is_before, Range, at, is_collapsed, is_contained, Trees, none, tree, Node, names_of, roots, has_data}
+use Rattle.dom_range_ops.proofs.Cited.{inclusive_ancestors, is_inclusive_ancestor, inclusive_descendants, length_of, root_of, subtree, trees_below, nothing}
+use Rattle.dom_range_ops.proofs.Cited.{read_own, stays_own, AreOwned, trees_of_owner, In-names, Has-root, In, filter-same, is_in-from, Has, Has-subtree}
+use Rattle.dom_range_ops.proofs.Cited.{Has-above, above-present, above-from_below, subtree-present}
 use Rattle.dom_range_ops.proofs.OneTree.{HasOneTree, root-path}
 use Rattle.dom_range_ops.proofs.OwnTexts.{behind-own, in_front-own, contained-own}
 

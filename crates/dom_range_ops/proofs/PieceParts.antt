@@ -1,13 +1,12 @@
 -- What is taken of the child of the ends' lowest common ancestor in whose tree one of them is.
-use Rattle.dom_base.proofs.Std.{◌≡◌, inl, inr, Bool, true, false, true≢false, not, ◌&&◌, List, [], ◌∷◌, ◌++◌, take, drop, Option, Some, None, refl, sym, ap}
-use Rattle.dom_base.proofs.Std.{subst, ◌∙◌, option_map_or, cases_Bool, cond-true, cond-false, take-append-drop, same_Some, none-some}
-use Rattle.dom_model.proofs.Model.{NodeName, pieces_along, tree_holding, name_eq, first_of, last_of, items_before, items_after, Boundary, Trees, none, tree}
-use Rattle.dom_model.proofs.Model.{kind_of, has_data, names_of, roots, children_of, inclusive_ancestors, is_inclusive_ancestor, inclusive_descendants, siblings}
-use Rattle.dom_model.proofs.Model.{next_sibling, subtree, trees_below}
-use Rattle.dom_laws.proofs.Laws.{In-names, Has-names, child-of_parent, parent-of_child, Has-root, In, In-left, In-right, In-parts, is_in-from, no_last}
-use Rattle.dom_laws.proofs.Laws.{same_or_not, split_at, once_apart, Has, subtree-here, subtree-beside, above-parent, above-present, above-from_below}
-use Rattle.dom_laws.proofs.Laws.{below-from_above, Once}
-use Rattle.dom_range_ops.specs.Definitions.{Item, items_of, first_behind, first_from, side_items}
+use Rattle.dom_range_ops.proofs.Cited.{◌≡◌, inl, inr, Bool, true, false, true≢false, not, ◌&&◌, List, [], ◌∷◌, ◌++◌, take, drop, Option, Some, None, refl, sym}
+use Rattle.dom_range_ops.proofs.Cited.{ap, subst, ◌∙◌, option_map_or, cases_Bool, cond-true, cond-false, take-append-drop, same_Some, none-some, NodeName}
+use Rattle.dom_range_ops.proofs.Cited.{pieces_along, tree_holding, name_eq, first_of, last_of, items_before, items_after, Boundary, Trees, none, tree, kind_of}
+use Rattle.dom_range_ops.proofs.Cited.{has_data, names_of, roots, children_of, inclusive_ancestors, is_inclusive_ancestor, inclusive_descendants, siblings}
+use Rattle.dom_range_ops.proofs.Cited.{next_sibling, subtree, trees_below, In-names, Has-names, child-of_parent, parent-of_child, Has-root, In, In-left}
+use Rattle.dom_range_ops.proofs.Cited.{In-right, In-parts, is_in-from, no_last, same_or_not, split_at, once_apart, Has, subtree-here, subtree-beside}
+use Rattle.dom_range_ops.proofs.Cited.{above-parent, above-present, above-from_below, below-from_above, Once, Item, items_of, first_behind, first_from}
+use Rattle.dom_range_ops.proofs.Cited.{side_items}
 use Rattle.dom_range_ops.proofs.PieceItems.{once-below, child-tree}
 use Rattle.dom_range_ops.proofs.PieceLevels.{IsBehind, IsAhead, Level, behind-off, ahead-off, in-front, in-back, self-in}
 use Rattle.dom_range_ops.proofs.PieceSides.{taken, from, to, side-is, last-member, tail-same}

@@ -1,12 +1,8 @@
 -- The paths from the ends of a range up to the children of their lowest common inclusive ancestor, by keys.
-use Rattle.dom_base.proofs.Std.{◌≡◌, ℕ, zero, suc, ◌<◌, ◌≤◌, ◌-◌, List, [], ◌∷◌, ◌++◌, length, map, take, drop, get_or, Some, refl, sym, ap, subst, ◌∙◌, arith}
-use Rattle.dom_base.proofs.Std.{length-drop, unwrap_or, AllByRecursion, take-suc, map-append, map_push, take-append-drop, same_Some, none-some}
-use Rattle.dom_model.proofs.Model.{NodeName, last_of, inclusive_ancestors, root_of, name_eq-true}
-use Rattle.dom_ranges.specs.declared.table.Points.{Points}
-use Rattle.dom_tree.proofs.Standing.{StandOnce, StandAlone, Has-forest}
-use Rattle.dom_laws.proofs.Laws.{last_of-end, above-present}
-use Rattle.dom_tree.specs.Definitions.{NamedTrees, name_at, TellApart}
-use Rattle.dom_range_ops.specs.Definitions.{EndAlike, ArePaths, AreEnds}
+use Rattle.dom_range_ops.proofs.Cited.{◌≡◌, ℕ, zero, suc, ◌<◌, ◌≤◌, ◌-◌, List, [], ◌∷◌, ◌++◌, length, map, take, drop, get_or, Some, refl, sym, ap, subst, ◌∙◌}
+use Rattle.dom_range_ops.proofs.Cited.{arith, length-drop, unwrap_or, AllByRecursion, take-suc, map-append, map_push, take-append-drop, same_Some, none-some}
+use Rattle.dom_range_ops.proofs.Cited.{NodeName, last_of, inclusive_ancestors, root_of, name_eq-true, Points, StandOnce, StandAlone, Has-forest, last_of-end}
+use Rattle.dom_range_ops.proofs.Cited.{above-present, NamedTrees, name_at, TellApart, EndAlike, ArePaths, AreEnds}
 
 -- ---- what holds of all keys of a list
 

@@ -1,15 +1,10 @@
 -- Pieces that are added one by one, and runs of siblings.
-use Rattle.dom_base.proofs.Std.{◌≡◌, inl, ℕ, ◌<◌, suc, List, [], ◌∷◌, ◌++◌, length, map, take, drop, Option, Some, None, refl, sym, ap, subst, ◌∙◌}
-use Rattle.dom_base.proofs.Std.{append_assoc, arith, AllByRecursion, option_map, option_map_or, ForSome, append-nil, map_push, take-append-drop}
-use Rattle.dom_model.proofs.Model.{NodeName, name_eq, first_of, items_after, Trees, parent_of, children_of, siblings, next_sibling, name_eq-other}
-use Rattle.dom_range_ops.specs.Definitions.{Item, whole_item, item_in, IsPieceIn, AreItems, Adds, from_sibling, up_to}
-use Rattle.dom_range_ops.specs.declared.pieces.Piece.{Piece}
-use Rattle.dom_range_ops.specs.declared.pieces.Piece.TheVariants.{Whole}
-use Rattle.dom_slots.proofs.Siblings.{from_item, from-next}
-use Rattle.dom_laws.proofs.Laws.{parent-of_child, child-of_parent, children-single, In, In-right, Single, Single-apart, first_split, after-in, after-split}
-use Rattle.dom_laws.proofs.Laws.{before-split, name_eq-from, Has, Once}
-use Rattle.dom_tree.proofs.Standing.{StandOnce, StandAlone, Once-forest, Has-forest}
-use Rattle.dom_tree.specs.Definitions.{NamedTrees, name_at, TellApart}
+use Rattle.dom_range_ops.proofs.Cited.{◌≡◌, inl, ℕ, ◌<◌, suc, List, [], ◌∷◌, ◌++◌, length, map, take, drop, Option, Some, None, refl, sym, ap, subst, ◌∙◌}
+use Rattle.dom_range_ops.proofs.Cited.{append_assoc, arith, AllByRecursion, option_map, option_map_or, ForSome, append-nil, map_push, take-append-drop}
+use Rattle.dom_range_ops.proofs.Cited.{NodeName, name_eq, first_of, items_after, Trees, parent_of, children_of, siblings, next_sibling, name_eq-other, Item}
+use Rattle.dom_range_ops.proofs.Cited.{whole_item, item_in, IsPieceIn, AreItems, Adds, from_sibling, up_to, Piece, Whole, from_item, from-next, parent-of_child}
+use Rattle.dom_range_ops.proofs.Cited.{child-of_parent, children-single, In, In-right, Single, Single-apart, first_split, after-in, after-split, before-split}
+use Rattle.dom_range_ops.proofs.Cited.{name_eq-from, Has, Once, StandOnce, StandAlone, Once-forest, Has-forest, NamedTrees, name_at, TellApart}
 use Rattle.dom_range_ops.proofs.KeyedWalks.{key-found}
 
 -- ---- adding

@@ -1,12 +1,11 @@
 -- What is taken of a tree along the path down to a boundary point in it: what is behind the point, or what is in front of it.
-use Rattle.dom_base.proofs.Std.{◌≡◌, inl, inr, ℕ, Bool, true, false, not, List, [], ◌∷◌, ◌++◌, map, take, drop, refl, sym, ap, subst, Some, ◌∙◌, append_assoc}
-use Rattle.dom_base.proofs.Std.{if◌then◌else◌, flat_map, option_map_or, cases_Bool, cond-false, append-nil, take-append-drop, flat_map-cons, flat_map-append}
-use Rattle.dom_base.proofs.Std.{same_Some}
-use Rattle.dom_model.proofs.Model.{NodeName, name_eq, first_of, last_of, items_before, items_after, Boundary, is_before, at, Trees, kind_of, has_data}
-use Rattle.dom_model.proofs.Model.{children_of, inclusive_ancestors, inclusive_descendants, length_of, subtree}
-use Rattle.dom_laws.proofs.Laws.{above-along, In-names, Has-names, child-of_parent, In, In-left, In-right, is_in-from, split_at, IsWithin, stands_in, Has}
-use Rattle.dom_laws.proofs.Laws.{Has-subtree, above-parent, above-from_below, below-from_above, Once, within-child}
-use Rattle.dom_range_ops.specs.Definitions.{Item, whole_item, cut_item, clone_item, end_item, wholes_if, heads, tails, end_items, side_items}
+use Rattle.dom_range_ops.proofs.Cited.{◌≡◌, inl, inr, ℕ, Bool, true, false, not, List, [], ◌∷◌, ◌++◌, map, take, drop, refl, sym, ap, subst, Some, ◌∙◌}
+use Rattle.dom_range_ops.proofs.Cited.{append_assoc, if◌then◌else◌, flat_map, option_map_or, cases_Bool, cond-false, append-nil, take-append-drop}
+use Rattle.dom_range_ops.proofs.Cited.{flat_map-cons, flat_map-append, same_Some, NodeName, name_eq, first_of, last_of, items_before, items_after, Boundary}
+use Rattle.dom_range_ops.proofs.Cited.{is_before, at, Trees, kind_of, has_data, children_of, inclusive_ancestors, inclusive_descendants, length_of, subtree}
+use Rattle.dom_range_ops.proofs.Cited.{above-along, In-names, Has-names, child-of_parent, In, In-left, In-right, is_in-from, split_at, IsWithin, stands_in, Has}
+use Rattle.dom_range_ops.proofs.Cited.{Has-subtree, above-parent, above-from_below, below-from_above, Once, within-child, Item, whole_item, cut_item}
+use Rattle.dom_range_ops.proofs.Cited.{clone_item, end_item, wholes_if, heads, tails, end_items, side_items}
 use Rattle.dom_range_ops.proofs.PieceItems.{node_items, items-beside, items-on}
 use Rattle.dom_range_ops.proofs.PieceLevels.{IsBehind, IsAhead, Level, behind-off, ahead-off, in-front, in-back, self-in}
 

@@ -1,11 +1,8 @@
 -- Steps along a path, and counts of pieces.
-use Rattle.dom_base.proofs.Std.{◌≡◌, ℕ, suc, ◌+◌, ◌-◌, ◌<◌, ◌≤◌, Bool, not, List, [], ◌∷◌, ◌++◌, length, map, drop, get_or, Some, refl, sym, ap, ◌∙◌}
-use Rattle.dom_base.proofs.Std.{append_assoc, arith, length-drop, slice_get, drop-cons}
-use Rattle.dom_model.proofs.Model.{NodeName, Pieces, whole, cut, clone, clone_count, name_eq, last_of, items_before, items_after, Boundary, Trees, children_of}
-use Rattle.dom_model.proofs.Model.{siblings}
-use Rattle.dom_model.specs.Extract.{nothing}
-use Rattle.dom_tree.specs.Definitions.{name_at}
-use Rattle.dom_range_ops.specs.Definitions.{Item, whole_item, cut_item, clone_item, end_item, items_of, made_by, wholes_if, heads, tails, end_items, side_items}
+use Rattle.dom_range_ops.proofs.Cited.{◌≡◌, ℕ, suc, ◌+◌, ◌-◌, ◌<◌, ◌≤◌, Bool, not, List, [], ◌∷◌, ◌++◌, length, map, drop, get_or, Some, refl, sym, ap, ◌∙◌}
+use Rattle.dom_range_ops.proofs.Cited.{append_assoc, arith, length-drop, slice_get, drop-cons, NodeName, Pieces, whole, cut, clone, clone_count, name_eq}
+use Rattle.dom_range_ops.proofs.Cited.{last_of, items_before, items_after, Boundary, Trees, children_of, siblings, nothing, name_at, Item, whole_item, cut_item}
+use Rattle.dom_range_ops.proofs.Cited.{clone_item, end_item, items_of, made_by, wholes_if, heads, tails, end_items, side_items}
 
 -- ---- along a path
 

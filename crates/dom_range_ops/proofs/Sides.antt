@@ -1,11 +1,8 @@
 -- Which nodes of a tree stand before a boundary point of it, and which behind.
-use Rattle.dom_base.proofs.Std.{◌≡◌, inl, inr, true, false, List, [], ◌∷◌, ◌++◌, take, drop, sym, ap, ◌∙◌, arith, append_assoc, length-take, length-drop}
-use Rattle.dom_base.proofs.Std.{lt-ltb, le-ltb, le-leb, lt-leb, flat_map-append, append-nil, take-append-drop}
-use Rattle.dom_model.proofs.Model.{NodeName, Boundary, is_before, at, Trees, children_of, inclusive_descendants}
-use Rattle.dom_ranges.proofs.Before.{before-same, before-up, before-down, before-beside}
-use Rattle.dom_laws.proofs.Laws.{In, In-parts, IsWithin, stands_in, joined, here, splits}
-use Rattle.dom_laws.specs.Within.{ahead_of, beyond}
-use Rattle.dom_range_ops.specs.Definitions.{nodes_after}
+use Rattle.dom_range_ops.proofs.Cited.{◌≡◌, inl, inr, true, false, List, [], ◌∷◌, ◌++◌, take, drop, sym, ap, ◌∙◌, arith, append_assoc, length-take, length-drop}
+use Rattle.dom_range_ops.proofs.Cited.{lt-ltb, le-ltb, le-leb, lt-leb, flat_map-append, append-nil, take-append-drop, NodeName, Boundary, is_before, at, Trees}
+use Rattle.dom_range_ops.proofs.Cited.{children_of, inclusive_descendants, before-same, before-up, before-down, before-beside, In, In-parts, IsWithin}
+use Rattle.dom_range_ops.proofs.Cited.{stands_in, joined, here, splits, ahead_of, beyond, nodes_after}
 use Rattle.dom_range_ops.proofs.Parting.{among-kids, behind-apart, ahead-apart}
 
 -- ---- a point of a tree

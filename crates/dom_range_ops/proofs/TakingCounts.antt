@@ -1,12 +1,10 @@
 -- How many nodes there are after the steps of some plans: insertions and changes of data make none.
-use Rattle.dom_base.proofs.Std.{suc, ◌≡◌, Bool, true, false, not, List, [], ◌∷◌, length, Option, Some, None, refl, ◌∙◌, ⊤, if◌then◌else◌, AllByRecursion}
-use Rattle.dom_base.proofs.Std.{option_map_or}
-use Rattle.dom_model.proofs.Model.{NodeName, Plan, ◌and_then◌, in_turn, doing, steps_of, Observing, observed, suppressed, telling, remove_plan, removing_from}
-use Rattle.dom_model.proofs.Model.{has_document, changing_document, adopt_plan, document_below, placed_nodes, emptying, making_room, placing, sibling_before}
-use Rattle.dom_model.proofs.Model.{inserting_nodes, insert_plan, making_below, is_empty, Change, child_list, Part, Step, make, make_room, place, take_out}
-use Rattle.dom_model.proofs.Model.{set_document, queue_record, part_step, after, Node, is_fragment, kind_of, parent_of, index_of}
-use Rattle.dom_worlds.proofs.ListLemmas.{all-append}
-use Rattle.dom_worlds.proofs.PlanLemmas.{count-step}
+use Rattle.dom_range_ops.proofs.Cited.{suc, ◌≡◌, Bool, true, false, not, List, [], ◌∷◌, length, Option, Some, None, refl, ◌∙◌, ⊤, if◌then◌else◌, AllByRecursion}
+use Rattle.dom_range_ops.proofs.Cited.{option_map_or, NodeName, Plan, ◌and_then◌, in_turn, doing, steps_of, Observing, observed, suppressed, telling}
+use Rattle.dom_range_ops.proofs.Cited.{remove_plan, removing_from, has_document, changing_document, adopt_plan, document_below, placed_nodes, emptying}
+use Rattle.dom_range_ops.proofs.Cited.{making_room, placing, sibling_before, inserting_nodes, insert_plan, making_below, is_empty, Change, child_list, Part}
+use Rattle.dom_range_ops.proofs.Cited.{Step, make, make_room, place, take_out, set_document, queue_record, part_step, after, Node, is_fragment, kind_of}
+use Rattle.dom_range_ops.proofs.Cited.{parent_of, index_of, all-append, count-step}
 
 -- the step makes no node
 abbrev MakesNone : Step → Type 0

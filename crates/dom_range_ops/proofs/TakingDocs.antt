@@ -1,21 +1,11 @@
 -- A new node of a `Doc` below another one.
-use Rattle.dom_base.proofs.Std.{◌≡◌, ◌<◌, ℕ, true, false, List, [], ◌∷◌, ◌++◌, length, None, refl, sym, ap, ◌∙◌, arith, length-append, subst, get_or-append}
-use Rattle.dom_base.proofs.Std.{get_or-append_seam, ForSome}
-use Rattle.dom_model.proofs.Model.{NodeName, Owner, Page, owner-part_of, Plan, ◌and_then◌, doing, observed, insert_plan, making_below, node_of, Part, next_name}
-use Rattle.dom_model.proofs.Model.{make, part_step, replacing_data, Node, node_in, kind_of, has_data, is_shadow, has_node, is_inclusive_ancestor, with_name}
-use Rattle.dom_model.proofs.Model.{World, part_of}
-use Rattle.dom_worlds.proofs.TreeLemmas.{ancestor-inside, node-new}
-use Rattle.dom_worlds.proofs.CommandLemmas.{has_node-times}
-use Rattle.dom_worlds.proofs.PlanLemmas.{next-absent, leads-one, new-may}
-use Rattle.dom_worlds.proofs.ListLemmas.{by_cases}
-use Rattle.dom_mutation.specs.Definitions.{DocState, made, planned, name_in, owner_in, trees_in, MayMove, IsAlone, PlansOwn}
-use Rattle.dom_mutation.proofs.BoundedDocs.{HasBoundedPart}
-use Rattle.dom_parts.proofs.Made.{plan_alone, made_then}
-use Rattle.dom_parts.proofs.OwnPlans.{plans_then, plans_inserting}
-use Rattle.dom_tree.proofs.Owned.{read_own}
-use Rattle.dom_tree.specs.Definitions.{NamedTrees, name_at, node_from, AreOwned, trees_of_owner}
-use Rattle.dom_tree.specs.declared.data.NodeData.{NodeData}
-use Rattle.dom_range_ops.specs.Definitions.{IsCopyOf}
+use Rattle.dom_range_ops.proofs.Cited.{◌≡◌, ◌<◌, ℕ, true, false, List, [], ◌∷◌, ◌++◌, length, None, refl, sym, ap, ◌∙◌, arith, length-append, subst}
+use Rattle.dom_range_ops.proofs.Cited.{get_or-append, get_or-append_seam, ForSome, NodeName, Owner, Page, owner-part_of, Plan, ◌and_then◌, doing, observed}
+use Rattle.dom_range_ops.proofs.Cited.{insert_plan, making_below, node_of, Part, next_name, make, part_step, replacing_data, Node, node_in, kind_of, has_data}
+use Rattle.dom_range_ops.proofs.Cited.{is_shadow, has_node, is_inclusive_ancestor, with_name, World, part_of, ancestor-inside, node-new, has_node-times}
+use Rattle.dom_range_ops.proofs.Cited.{next-absent, leads-one, new-may, by_cases, DocState, made, planned, name_in, owner_in, trees_in, MayMove, IsAlone}
+use Rattle.dom_range_ops.proofs.Cited.{PlansOwn, HasBoundedPart, plan_alone, made_then, plans_then, plans_inserting, read_own, NamedTrees, name_at, node_from}
+use Rattle.dom_range_ops.proofs.Cited.{AreOwned, trees_of_owner, NodeData, IsCopyOf}
 
 -- a node keeps its name where others come
 pub name-kept : (d e : DocState) (more : List NodeName) (k : ℕ) → e.names ≡ d.names ++ more → k < length d.names → name_in e k ≡ name_in d k

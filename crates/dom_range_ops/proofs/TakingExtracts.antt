@@ -1,18 +1,13 @@
 -- The steps of an extraction, one after another.
-use Rattle.dom_base.proofs.Std.{suc, ◌≡◌, ◌<◌, ◌+◌, ℕ, false, List, [], ◌∷◌, ◌++◌, length, map, is_some, true, Result, Ok, Err, Some, None, refl, sym, ap, ◌∙◌}
-use Rattle.dom_base.proofs.Std.{subst, arith, append_assoc, ◌↔◌, IfErr, AllByRecursion, false_from_ne_true, ltb-true}
-use Rattle.dom_model.proofs.Model.{NodeName, Fault, Refused, Memory, Refusal, Limit, Owner, owner-part_of, past_limit, limit_on, first_refusal, Plan}
-use Rattle.dom_model.proofs.Model.{◌and_then◌, doing, both_at, node_of, Part, next_name, range_at, at, make, set_range, part_step, Node, World, part_of}
-use Rattle.dom_worlds.specs.Definitions.{IsPart}
-use Rattle.dom_worlds.proofs.ListLemmas.{all-then}
-use Rattle.dom_mutation.specs.Definitions.{DocState, made, stepped, name_in, owner_in, IsAlone, PlansOwn}
-use Rattle.dom_parts.proofs.Made.{plan_alone, made_then}
-use Rattle.dom_parts.proofs.OwnPlans.{plans_then}
+use Rattle.dom_range_ops.proofs.Cited.{suc, ◌≡◌, ◌<◌, ◌+◌, ℕ, false, List, [], ◌∷◌, ◌++◌, length, map, is_some, true, Result, Ok, Err, Some, None, refl, sym}
+use Rattle.dom_range_ops.proofs.Cited.{ap, ◌∙◌, subst, arith, append_assoc, ◌↔◌, IfErr, AllByRecursion, false_from_ne_true, ltb-true, NodeName, Fault, Refused}
+use Rattle.dom_range_ops.proofs.Cited.{Memory, Refusal, Limit, Owner, owner-part_of, past_limit, limit_on, first_refusal, Plan, ◌and_then◌, doing, both_at}
+use Rattle.dom_range_ops.proofs.Cited.{node_of, Part, next_name, range_at, at, make, set_range, part_step, Node, World, part_of, IsPart, all-then, DocState}
+use Rattle.dom_range_ops.proofs.Cited.{made, stepped, name_in, owner_in, IsAlone, PlansOwn, plan_alone, made_then, plans_then, Item, item_in, made_by, top_of}
+use Rattle.dom_range_ops.proofs.Cited.{taking_item, taking_items, clones_after, new_names, MayBeTaken, MayTake, IsPieceOf, Piece}
 use Rattle.dom_range_ops.proofs.InsertedRanges.{range-kept}
 use Rattle.dom_range_ops.proofs.TakingDocs.{name-kept, node-kept, new-name, new-node}
 use Rattle.dom_range_ops.proofs.TakingLoops.{plans-item, item-same, piece-kept}
-use Rattle.dom_range_ops.specs.Definitions.{Item, item_in, made_by, top_of, taking_item, taking_items, clones_after, new_names, MayBeTaken, MayTake, IsPieceOf}
-use Rattle.dom_range_ops.specs.declared.pieces.Piece.{Piece}
 
 -- the steps for items that may be taken are in their owner's part
 pub plans-items : {o : Owner} (into : NodeName) {p : Part} → IsPart p → p.owner ≡ o → (items : List Item) →

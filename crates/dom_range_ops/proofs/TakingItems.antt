@@ -1,11 +1,8 @@
 -- The steps that take pieces are those that take their items, one after another.
-use Rattle.dom_base.proofs.Std.{◌≡◌, [], ◌∷◌, ◌++◌, List, refl, sym, ap, ◌∙◌, append_assoc, ℕ, ◌-◌, None, append-nil}
-use Rattle.dom_model.proofs.Model.{NodeName, Plan, ◌and_then◌, doing, observed, insert_plan, Pieces, whole, cut, clone, clone_part, making_below, taking}
-use Rattle.dom_model.proofs.Model.{pieces_of, new_fragment_node, own_document, both_at, new_place, extracting, Part, next_name, Range, after, make, set_range}
-use Rattle.dom_model.proofs.Model.{replacing_data, node_in, with_name}
-use Rattle.dom_worlds.proofs.PlanLemmas.{after-append}
-use Rattle.dom_model.specs.Extract.{nothing}
-use Rattle.dom_range_ops.specs.Definitions.{Item, end_item, items_of, extracting_items, top_of, taking_items}
+use Rattle.dom_range_ops.proofs.Cited.{◌≡◌, [], ◌∷◌, ◌++◌, List, refl, sym, ap, ◌∙◌, append_assoc, ℕ, ◌-◌, None, append-nil, NodeName, Plan, ◌and_then◌, doing}
+use Rattle.dom_range_ops.proofs.Cited.{observed, insert_plan, Pieces, whole, cut, clone, clone_part, making_below, taking, pieces_of, new_fragment_node}
+use Rattle.dom_range_ops.proofs.Cited.{own_document, both_at, new_place, extracting, Part, next_name, Range, after, make, set_range, replacing_data, node_in}
+use Rattle.dom_range_ops.proofs.Cited.{with_name, after-append, nothing, Item, end_item, items_of, extracting_items, top_of, taking_items}
 
 -- three plans in turn
 pub then-assoc : (f g h : Plan) (p : Part) → ((f and_then g) and_then h) p ≡ (f and_then (g and_then h)) p

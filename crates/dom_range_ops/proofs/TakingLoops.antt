@@ -1,19 +1,12 @@
 -- Pieces that are taken one after another.
-use Rattle.dom_base.proofs.Std.{zero, suc, ◌≡◌, ◌<◌, ◌≤◌, ℕ, ◌+◌, ◌-◌, List, [], ◌∷◌, ◌++◌, length, map, drop, None, refl, sym, ap, ◌∙◌, subst, arith}
-use Rattle.dom_base.proofs.Std.{append_assoc, get_or, drop-cons, add-one, AllByRecursion}
-use Rattle.dom_model.proofs.Model.{NodeName, Owner, owner-part_of, observed, clone_part, making_below, node_of, Part, next_name, after, replacing_data, node_in}
-use Rattle.dom_model.proofs.Model.{with_name, World, part_of}
-use Rattle.dom_worlds.specs.Definitions.{IsPart}
-use Rattle.dom_worlds.proofs.CommandLemmas.{has_node-times}
-use Rattle.dom_mutation.specs.Definitions.{DocState, made, name_in, owner_in, IsOwnNode, IsAlone, PlansOwn}
-use Rattle.dom_parts.proofs.Made.{plan_alone, made_then}
-use Rattle.dom_parts.proofs.OwnPlans.{plans_then, plans_inserting, plans_data}
+use Rattle.dom_range_ops.proofs.Cited.{zero, suc, ◌≡◌, ◌<◌, ◌≤◌, ℕ, ◌+◌, ◌-◌, List, [], ◌∷◌, ◌++◌, length, map, drop, None, refl, sym, ap, ◌∙◌, subst, arith}
+use Rattle.dom_range_ops.proofs.Cited.{append_assoc, get_or, drop-cons, add-one, AllByRecursion, NodeName, Owner, owner-part_of, observed, clone_part}
+use Rattle.dom_range_ops.proofs.Cited.{making_below, node_of, Part, next_name, after, replacing_data, node_in, with_name, World, part_of, IsPart}
+use Rattle.dom_range_ops.proofs.Cited.{has_node-times, DocState, made, name_in, owner_in, IsOwnNode, IsAlone, PlansOwn, plan_alone, made_then, plans_then}
+use Rattle.dom_range_ops.proofs.Cited.{plans_inserting, plans_data, Item, whole_item, cut_item, clone_item, end_item, item_in, made_by, top_of, taking_item}
+use Rattle.dom_range_ops.proofs.Cited.{taking_items, clones_after, new_names, names_in, MayBeTaken, MayTake, IsPieceOf, Piece, Whole, Cut, Clone, End}
 use Rattle.dom_range_ops.proofs.TakingDocs.{name-kept, node-kept, plans-below}
 use Rattle.dom_range_ops.proofs.TakingParts.{takes-on, count-item, made-more}
-use Rattle.dom_range_ops.specs.Definitions.{Item, whole_item, cut_item, clone_item, end_item, item_in, made_by, top_of, taking_item, taking_items, clones_after}
-use Rattle.dom_range_ops.specs.Definitions.{new_names, names_in, MayBeTaken, MayTake, IsPieceOf}
-use Rattle.dom_range_ops.specs.declared.pieces.Piece.{Piece}
-use Rattle.dom_range_ops.specs.declared.pieces.Piece.TheVariants.{Whole, Cut, Clone, End}
 
 -- the steps for an item that may be taken are in its owner's part
 pub plans-item : {o : Owner} (into top : NodeName) {p : Part} (item : Item) → IsPart p → p.owner ≡ o → MayBeTaken into p.trees item →

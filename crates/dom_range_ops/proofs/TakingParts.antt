@@ -1,19 +1,13 @@
 -- What may be taken item by item may be so still after each of them.
-use Rattle.dom_base.proofs.Std.{◌≡◌, ◌≤◌, ◌+◌, ◌-◌, true, false, List, [], ◌∷◌, ◌++◌, drop, Option, Some, None, refl, sym, ap, ◌∙◌, subst, arith}
-use Rattle.dom_base.proofs.Std.{AllByRecursion}
-use Rattle.dom_model.proofs.Model.{Kind, Document, Fragment, Shadow, Element, Text, Comment, NodeName, observed, insert_plan, clone_part, making_below, Part}
-use Rattle.dom_model.proofs.Model.{next_name, Step, make, part_step, after, replacing_data, Trees, Node, node_in, kind_of, has_data, is_shadow}
-use Rattle.dom_model.proofs.Model.{is_inclusive_ancestor, with_name}
-use Rattle.dom_worlds.specs.Definitions.{HasBounds, IsPart}
-use Rattle.dom_worlds.proofs.TreeLemmas.{ancestor-inside, inside-no_ancestor, times-has_node, node-new}
-use Rattle.dom_worlds.proofs.RangeLemmas.{insertion-keeps, make-keeps, data-keeps}
-use Rattle.dom_worlds.proofs.CommandLemmas.{has_node-times}
-use Rattle.dom_worlds.proofs.ListLemmas.{all-then, by_cases}
-use Rattle.dom_worlds.proofs.PlanLemmas.{next-absent, OldIn, old-may, old-still, leads-making_below, Changed, MayGo, Leads, still, after-append, leads-then}
-use Rattle.dom_worlds.proofs.PlanLemmas.{leads-eased, leads-nothing, leads-one, leads-inserting, new-there, new-may, leads-replacing_data, HasNode}
+use Rattle.dom_range_ops.proofs.Cited.{◌≡◌, ◌≤◌, ◌+◌, ◌-◌, true, false, List, [], ◌∷◌, ◌++◌, drop, Option, Some, None, refl, sym, ap, ◌∙◌, subst, arith}
+use Rattle.dom_range_ops.proofs.Cited.{AllByRecursion, Kind, Document, Fragment, Shadow, Element, Text, Comment, NodeName, observed, insert_plan, clone_part}
+use Rattle.dom_range_ops.proofs.Cited.{making_below, Part, next_name, Step, make, part_step, after, replacing_data, Trees, Node, node_in, kind_of, has_data}
+use Rattle.dom_range_ops.proofs.Cited.{is_shadow, is_inclusive_ancestor, with_name, HasBounds, IsPart, ancestor-inside, inside-no_ancestor, times-has_node}
+use Rattle.dom_range_ops.proofs.Cited.{node-new, insertion-keeps, make-keeps, data-keeps, has_node-times, all-then, by_cases, next-absent, OldIn, old-may}
+use Rattle.dom_range_ops.proofs.Cited.{old-still, leads-making_below, Changed, MayGo, Leads, still, after-append, leads-then, leads-eased, leads-nothing}
+use Rattle.dom_range_ops.proofs.Cited.{leads-one, leads-inserting, new-there, new-may, leads-replacing_data, HasNode, Item, whole_item, cut_item, clone_item}
+use Rattle.dom_range_ops.proofs.Cited.{end_item, made_by, top_of, taking_item, clones_after, IsTaker, IsTaken, MayBeTaken, MayTake}
 use Rattle.dom_range_ops.proofs.TakingCounts.{count-inserting, count-making_below}
-use Rattle.dom_range_ops.specs.Definitions.{Item, whole_item, cut_item, clone_item, end_item, made_by, top_of, taking_item, clones_after, IsTaker, IsTaken}
-use Rattle.dom_range_ops.specs.Definitions.{MayBeTaken, MayTake}
 
 -- a node that is taken is an old one
 pub old-of : (into : NodeName) (p : Part) (x : NodeName) → IsPart p → IsTaken into p.trees x → OldIn into.number p x

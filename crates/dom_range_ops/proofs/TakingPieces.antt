@@ -1,17 +1,12 @@
 -- A piece that may be taken, by its key.
-use Rattle.dom_base.proofs.Std.{zero, suc, ◌≡◌, ◌<◌, ℕ, ◌-◌, false, List, [], ◌∷◌, ◌++◌, length, map, reverse, None, refl, sym, ap, ◌∙◌, subst, arith}
-use Rattle.dom_base.proofs.Std.{slice_get, unwrap_or, AllByRecursion}
-use Rattle.dom_model.proofs.Model.{NodeName, Owner, owner-part_of, node_of, Part, next_name, kind_of, has_data, is_shadow, is_inclusive_ancestor, part_of}
-use Rattle.dom_worlds.specs.Definitions.{HasBounds, IsPart}
-use Rattle.dom_worlds.proofs.CommandLemmas.{has_node-times}
-use Rattle.dom_worlds.proofs.ListLemmas.{all-append, all-then}
-use Rattle.dom_mutation.specs.Definitions.{DocState, made, name_in, owner_in, trees_in, IsOwnNode, MayMove}
+use Rattle.dom_range_ops.proofs.Cited.{zero, suc, ◌≡◌, ◌<◌, ℕ, ◌-◌, false, List, [], ◌∷◌, ◌++◌, length, map, reverse, None, refl, sym, ap, ◌∙◌, subst, arith}
+use Rattle.dom_range_ops.proofs.Cited.{slice_get, unwrap_or, AllByRecursion, NodeName, Owner, owner-part_of, node_of, Part, next_name, kind_of, has_data}
+use Rattle.dom_range_ops.proofs.Cited.{is_shadow, is_inclusive_ancestor, part_of, HasBounds, IsPart, has_node-times, all-append, all-then, DocState, made}
+use Rattle.dom_range_ops.proofs.Cited.{name_in, owner_in, trees_in, IsOwnNode, MayMove, Item, whole_item, item_in, made_by, top_of, taking_item, new_names}
+use Rattle.dom_range_ops.proofs.Cited.{names_in, IsTaker, IsTaken, MayBeTaken, MayTake, TakesNew, Piece}
 use Rattle.dom_range_ops.proofs.TakingDocs.{name-kept, node-kept, new-name, new-node}
 use Rattle.dom_range_ops.proofs.TakingParts.{top-takes}
 use Rattle.dom_range_ops.proofs.TakingStacks.{stack-push, stack-top}
-use Rattle.dom_range_ops.specs.Definitions.{Item, whole_item, item_in, made_by, top_of, taking_item, new_names, names_in, IsTaker, IsTaken, MayBeTaken, MayTake}
-use Rattle.dom_range_ops.specs.Definitions.{TakesNew}
-use Rattle.dom_range_ops.specs.declared.pieces.Piece.{Piece}
 
 -- one of some, or another one
 or-one : (P : ℕ → Type 0) (ks : List ℕ) (i k : ℕ) → AllByRecursion P ks → P k → P (unwrap_or (slice_get ks i) k)

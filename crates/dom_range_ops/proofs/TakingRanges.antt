@@ -1,19 +1,13 @@
 -- What an extraction takes of a live range may be taken into its fragment.
-use Rattle.dom_base.proofs.Std.{suc, ◌≡◌, ◌≤◌, ◌+◌, true, false, true≢false, [], ◌∷◌, None, sym, ap, ◌∙◌, arith, AllByRecursion, and_parts}
-use Rattle.dom_model.proofs.Model.{NodeName, Pieces, whole, cut, clone, tree_holding, pieces_of, common_ancestor, is_in_one_data, name_eq, Part, next_name}
-use Rattle.dom_model.proofs.Model.{is_before, Range, at, make, part_step, Node, node_in, kind_of, has_data, is_shadow, subtree, trees_below}
-use Rattle.dom_model.proofs.Model.{is_inclusive_ancestor, times_in, with_name}
-use Rattle.dom_worlds.specs.Definitions.{HasBounds, HasEnds, IsPart}
-use Rattle.dom_worlds.proofs.PlanLemmas.{IsClonable, common_below, fit-apart, fit-pieces, whole-pieces, next-absent, OldIn, old-there, Changed, still}
-use Rattle.dom_worlds.proofs.PlanLemmas.{leads-one, new-there, AreFit, AllWhole, HasNode}
-use Rattle.dom_worlds.proofs.TreeLemmas.{no_parent-root, times-has_node, node-new, nodes-named, nodes-then, root-below_none, times-below}
-use Rattle.dom_worlds.proofs.RangeLemmas.{make-keeps, common-read}
-use Rattle.dom_worlds.proofs.CommandLemmas.{has_node-times}
-use Rattle.dom_worlds.proofs.ListLemmas.{all-append, all-then, by_cases}
-use Rattle.dom_laws.proofs.Laws.{times_subtree}
-use Rattle.dom_model.specs.Extract.{nothing}
+use Rattle.dom_range_ops.proofs.Cited.{suc, ◌≡◌, ◌≤◌, ◌+◌, true, false, true≢false, [], ◌∷◌, None, sym, ap, ◌∙◌, arith, AllByRecursion, and_parts, NodeName}
+use Rattle.dom_range_ops.proofs.Cited.{Pieces, whole, cut, clone, tree_holding, pieces_of, common_ancestor, is_in_one_data, name_eq, Part, next_name, is_before}
+use Rattle.dom_range_ops.proofs.Cited.{Range, at, make, part_step, Node, node_in, kind_of, has_data, is_shadow, subtree, trees_below, is_inclusive_ancestor}
+use Rattle.dom_range_ops.proofs.Cited.{times_in, with_name, HasBounds, HasEnds, IsPart, IsClonable, common_below, fit-apart, fit-pieces, whole-pieces}
+use Rattle.dom_range_ops.proofs.Cited.{next-absent, OldIn, old-there, Changed, still, leads-one, new-there, AreFit, AllWhole, HasNode, no_parent-root}
+use Rattle.dom_range_ops.proofs.Cited.{times-has_node, node-new, nodes-named, nodes-then, root-below_none, times-below, make-keeps, common-read, has_node-times}
+use Rattle.dom_range_ops.proofs.Cited.{all-append, all-then, by_cases, times_subtree, nothing, Item, whole_item, cut_item, clone_item, end_item, items_of}
+use Rattle.dom_range_ops.proofs.Cited.{made_by, ShadowRootsHaveNoParent, MayBeTaken, MayTake}
 use Rattle.dom_range_ops.proofs.TakingParts.{data-no_shadow, taken-of}
-use Rattle.dom_range_ops.specs.Definitions.{Item, whole_item, cut_item, clone_item, end_item, items_of, made_by, ShadowRootsHaveNoParent, MayBeTaken, MayTake}
 
 -- What is known of an item before the fragment is made.
 abbrev pub IsItemIn : Part → Item → Type 0

@@ -1,9 +1,6 @@
 -- The clones that are not ended, by their keys and by their names.
-use Rattle.dom_base.proofs.Std.{◌≡◌, ℕ, ◌-◌, List, [], ◌∷◌, ◌++◌, length, map, reverse, refl, sym, ap, ◌∙◌, inl, inr, ◌⊎◌, arith, length-append, slice_get}
-use Rattle.dom_base.proofs.Std.{unwrap_or, reverse-append, map-append}
-use Rattle.dom_model.proofs.Model.{NodeName}
-use Rattle.dom_range_ops.specs.Definitions.{top_of}
-use Rattle.dom_tree.proofs.Changes.{slice_get-pushed}
+use Rattle.dom_range_ops.proofs.Cited.{◌≡◌, ℕ, ◌-◌, List, [], ◌∷◌, ◌++◌, length, map, reverse, refl, sym, ap, ◌∙◌, inl, inr, ◌⊎◌, arith, length-append}
+use Rattle.dom_range_ops.proofs.Cited.{slice_get, unwrap_or, reverse-append, map-append, NodeName, top_of, slice_get-pushed}
 
 -- a list is empty or has a last item
 last-or : (ks : List ℕ) → (ks ≡ []) ⊎ ((front : List ℕ) × (k : ℕ) × (ks ≡ front ++ k ∷ []))

@@ -1,10 +1,7 @@
-use Rattle.dom_base.proofs.Std.{Some, length, refl, sym, ap, ◌∙◌, slice_get, option_map, string_bytes, string_eq}
-use Rattle.dom_model.proofs.Model.{node_in}
-use Rattle.dom_attributes.specs.Attributes.{attribute_from}
-use Rattle.dom_tree.specs.Definitions.{name_at}
+use Rattle.dom_range_ops.proofs.Cited.{Some, length, refl, sym, ap, ◌∙◌, slice_get, option_map, string_bytes, string_eq, node_in, attribute_from, name_at}
 use Rattle.dom_range_ops.proofs.CloneAttributes.{IsNext, attributes-all, attributes-put}
-use Rattle.dom_range_ops.proofs.cloning.attributes.Goals as goal
 use Rattle.dom_range_ops.proofs.cloning.attributes.Goals.{After-insert}
+use Rattle.dom_range_ops.proofs.cloning.attributes.Goals as goal
 
 -- what is put in is the attribute that stands where the copied ones end
 next : (c : After-insert) → IsNext string_bytes (λ v. v.items) string_eq (λ x y. refl) c.loop-name.copied.entries

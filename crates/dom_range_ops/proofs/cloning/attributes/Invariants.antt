@@ -1,7 +1,4 @@
-use Rattle.dom_base.proofs.Std.{◌≡◌, ◌-◌, length, map, take, string_bytes}
-use Rattle.dom_model.proofs.Model.{node_in}
-use Rattle.dom_attributes.specs.Attributes.{attribute_from}
-use Rattle.dom_tree.specs.Definitions.{name_at}
+use Rattle.dom_range_ops.proofs.Cited.{◌≡◌, ◌-◌, length, map, take, string_bytes, node_in, attribute_from, name_at}
 use Rattle.dom_range_ops.proofs.cloning.attributes.Given as goal
 
 abbrev pub invariant-loop-name : goal.invariant-loop-name

@@ -1,6 +1,4 @@
-use Rattle.dom_base.proofs.Std.{List, ℕ, ap, ◌∙◌}
-use Rattle.dom_model.proofs.Model.{node_in}
-use Rattle.dom_tree.specs.Definitions.{name_at}
+use Rattle.dom_range_ops.proofs.Cited.{List, ℕ, ap, ◌∙◌, node_in, name_at}
 use Rattle.dom_range_ops.proofs.DocRanges.{if-ok}
 use Rattle.dom_range_ops.proofs.cloning.clone_node.Goals as goal
 

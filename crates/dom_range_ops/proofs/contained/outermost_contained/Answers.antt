@@ -1,8 +1,5 @@
-use Rattle.dom_base.proofs.Std.{◌<◌, ◌&&◌, false, not, length, map, sym, ap, subst, ◌∙◌, AllByRecursion, option_map_or}
-use Rattle.dom_model.proofs.Model.{is_contained, nodes, names_of, parent_of}
-use Rattle.dom_laws.proofs.Laws.{filter-none}
-use Rattle.dom_tree.specs.Definitions.{name_at}
-use Rattle.dom_range_ops.specs.Definitions.{item_in, wholes, IsPieceIn, range_at_points}
+use Rattle.dom_range_ops.proofs.Cited.{◌<◌, ◌&&◌, false, not, length, map, sym, ap, subst, ◌∙◌, AllByRecursion, option_map_or, is_contained, nodes, names_of}
+use Rattle.dom_range_ops.proofs.Cited.{parent_of, filter-none, name_at, item_in, wholes, IsPieceIn, range_at_points}
 use Rattle.dom_range_ops.proofs.DocRanges.{if-ok}
 use Rattle.dom_range_ops.proofs.OutermostPieces.{keys-named, keys-in, outermost-found}
 use Rattle.dom_range_ops.proofs.PieceMiddle.{none-contained}

@@ -1,9 +1,8 @@
-use Rattle.dom_base.proofs.Std.{◌≡◌, ◌+◌, ◌∷◌, ◌++◌, [], take, get_or, sym, ap, ◌∙◌, option_to_list, append-nil, take_more}
-use Rattle.dom_range_ops.specs.Definitions.{whole_keys}
+use Rattle.dom_range_ops.proofs.Cited.{◌≡◌, ◌+◌, ◌∷◌, ◌++◌, [], take, get_or, sym, ap, ◌∙◌, option_to_list, append-nil, take_more, whole_keys}
 use Rattle.dom_range_ops.proofs.OutermostPieces.{keys-append}
 use Rattle.dom_range_ops.proofs.PiecePaths.{all-taken}
-use Rattle.dom_range_ops.proofs.contained.whole_nodes.Goals as goal
 use Rattle.dom_range_ops.proofs.contained.whole_nodes.Goals.{in-Some+in_ok-push, in_default}
+use Rattle.dom_range_ops.proofs.contained.whole_nodes.Goals as goal
 
 pub loop-piece-preserved : goal.loop-piece-preserved
 loop-piece-preserved c =

@@ -1,5 +1,4 @@
-use Rattle.dom_base.proofs.Std.{◌≡◌, take}
-use Rattle.dom_range_ops.specs.Definitions.{whole_keys}
+use Rattle.dom_range_ops.proofs.Cited.{◌≡◌, take, whole_keys}
 use Rattle.dom_range_ops.proofs.contained.whole_nodes.Given as goal
 
 abbrev pub invariant-loop-piece : goal.invariant-loop-piece

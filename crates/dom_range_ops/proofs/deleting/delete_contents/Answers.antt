@@ -1,9 +1,8 @@
-use Rattle.dom_base.proofs.Std.{◌≡◌, ℕ, map, refl, sym, ap, subst, ◌∙◌, AllByRecursion, on_ok_weaker}
-use Rattle.dom_mutation.specs.Definitions.{DocState, HoldsNode, name_in, owner_in}
+use Rattle.dom_range_ops.proofs.Cited.{◌≡◌, ℕ, map, refl, sym, ap, subst, ◌∙◌, AllByRecursion, on_ok_weaker, DocState, HoldsNode, name_in, owner_in}
 use Rattle.dom_range_ops.proofs.DeletionPlans.{with_cut, without_nodes, contents-cut, contents-made}
 use Rattle.dom_range_ops.proofs.DocRanges.{RangeRead, range-read, bounded-in, spanned-in, one-in, cut-in, found-in, found-own}
-use Rattle.dom_range_ops.proofs.deleting.delete_contents.Goals as goal
 use Rattle.dom_range_ops.proofs.deleting.delete_contents.Goals.{After-law_nodes_stand_once}
+use Rattle.dom_range_ops.proofs.deleting.delete_contents.Goals as goal
 
 abbrev read : After-law_nodes_stand_once → RangeRead
 read c =

@@ -1,9 +1,7 @@
-use Rattle.dom_base.proofs.Std.{List, sym, ap, ◌∙◌}
-use Rattle.dom_model.proofs.Model.{NodeName, Boundary, at}
-use Rattle.dom_tree.specs.Definitions.{name_at}
+use Rattle.dom_range_ops.proofs.Cited.{List, sym, ap, ◌∙◌, NodeName, Boundary, at, name_at}
 use Rattle.dom_range_ops.proofs.DocRanges.{RangeRead, range-read, bounded-in, leaves-in, place-in, place-there}
-use Rattle.dom_range_ops.proofs.deleting.place_after.Goals as goal
 use Rattle.dom_range_ops.proofs.deleting.place_after.Goals.{After-law_nodes_stand_once}
+use Rattle.dom_range_ops.proofs.deleting.place_after.Goals as goal
 
 abbrev read : After-law_nodes_stand_once → RangeRead
 read c =

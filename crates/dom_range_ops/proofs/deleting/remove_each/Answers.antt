@@ -1,6 +1,4 @@
-use Rattle.dom_model.proofs.Model.{remove_plan, observed}
-use Rattle.dom_mutation.specs.Definitions.{name_in, owner_in}
-use Rattle.dom_mutation.proofs.Turns.{empties_on}
+use Rattle.dom_range_ops.proofs.Cited.{remove_plan, observed, name_in, owner_in, empties_on}
 use Rattle.dom_range_ops.proofs.InsertedPlans.{state-is}
 use Rattle.dom_range_ops.proofs.deleting.remove_each.Goals as goal
 

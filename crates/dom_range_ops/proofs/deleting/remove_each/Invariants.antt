@@ -1,6 +1,4 @@
-use Rattle.dom_base.proofs.Std.{drop}
-use Rattle.dom_model.proofs.Model.{observed}
-use Rattle.dom_mutation.proofs.Turns.{Empties}
+use Rattle.dom_range_ops.proofs.Cited.{drop, observed, Empties}
 use Rattle.dom_range_ops.proofs.deleting.remove_each.Given as goal
 
 abbrev pub invariant-loop-key : goal.invariant-loop-key

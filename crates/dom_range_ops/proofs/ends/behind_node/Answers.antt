@@ -1,7 +1,4 @@
-use Rattle.dom_base.proofs.Std.{sym, ap, ◌∙◌}
-use Rattle.dom_model.proofs.Model.{at}
-use Rattle.dom_tree.specs.Definitions.{name_at}
-use Rattle.dom_tree.proofs.Standing.{Once-forest, Has-forest}
+use Rattle.dom_range_ops.proofs.Cited.{sym, ap, ◌∙◌, at, name_at, Once-forest, Has-forest}
 use Rattle.dom_range_ops.proofs.DeletionPlaces.{place-next, place-last}
 use Rattle.dom_range_ops.proofs.ends.behind_node.Goals as goal
 

@@ -1,10 +1,6 @@
-use Rattle.dom_base.proofs.Std.{◌≡◌, Some, sym, ap, subst, ◌∙◌, [], IsTrue}
-use Rattle.dom_model.proofs.Model.{NodeName, range_at, kind_of, has_data, children_of, part_of}
-use Rattle.dom_worlds.specs.Definitions.{IsWithin, EndsIn, HasEnds}
-use Rattle.dom_worlds.proofs.PlanLemmas.{ends-at}
-use Rattle.dom_laws.proofs.Laws.{was_some}
-use Rattle.dom_mutation.proofs.ReadyEnds.{bare, bare-tables}
-use Rattle.dom_range_ops.specs.Definitions.{range_at_points}
+use Rattle.dom_range_ops.proofs.Cited.{◌≡◌, Some, sym, ap, subst, ◌∙◌, [], IsTrue, NodeName, range_at, kind_of, has_data, children_of, part_of, EndsIn, HasEnds}
+use Rattle.dom_range_ops.proofs.Cited.{ends-at, was_some, bare, bare-tables, range_at_points}
+use Rattle.dom_worlds.specs.Definitions.{IsWithin}
 use Rattle.dom_range_ops.proofs.DocRanges.{read-points, within-at}
 use Rattle.dom_range_ops.proofs.ends.live_points.Goals as goal
 

@@ -1,8 +1,5 @@
-use Rattle.dom_base.proofs.Std.{not, filter, unwrap_or, sym, ap, ◌∙◌, cond-false}
-use Rattle.dom_model.proofs.Model.{behind_node, last_of, inclusive_ancestors, is_inclusive_ancestor}
-use Rattle.dom_tree.specs.Definitions.{name_at}
-use Rattle.dom_tree.proofs.Standing.{Once-forest, Has-forest}
-use Rattle.dom_range_ops.specs.Definitions.{range_at_points}
+use Rattle.dom_range_ops.proofs.Cited.{not, filter, unwrap_or, sym, ap, ◌∙◌, cond-false, behind_node, last_of, inclusive_ancestors, is_inclusive_ancestor}
+use Rattle.dom_range_ops.proofs.Cited.{name_at, Once-forest, Has-forest, range_at_points}
 use Rattle.dom_range_ops.proofs.DeletionPlaces.{parent-holds, outermost-is}
 use Rattle.dom_range_ops.proofs.ends.new_place.Goals as goal
 

@@ -1,9 +1,5 @@
-use Rattle.dom_base.proofs.Std.{inl, inr, refl, sym, ap, ◌∙◌, arith, eqb-true}
-use Rattle.dom_model.proofs.Model.{is_inclusive_ancestor}
-use Rattle.dom_tree.specs.Definitions.{name_at}
-use Rattle.dom_tree.proofs.Standing.{other_key, Once-forest, Has-forest}
-use Rattle.dom_laws.proofs.Laws.{above-itself}
-use Rattle.dom_ranges.proofs.Climbing.{above-up}
+use Rattle.dom_range_ops.proofs.Cited.{inl, inr, refl, sym, ap, ◌∙◌, arith, eqb-true, is_inclusive_ancestor, name_at, other_key, Once-forest, Has-forest}
+use Rattle.dom_range_ops.proofs.Cited.{above-itself, above-up}
 use Rattle.dom_range_ops.proofs.DeletionHeights.{depth-height, height-up, height-root, root-alone, level-apart, first-apart}
 use Rattle.dom_range_ops.proofs.DeletionPlaces.{alone-is}
 use Rattle.dom_range_ops.proofs.ends.outermost_apart.Goals as goal

@@ -1,6 +1,4 @@
-use Rattle.dom_base.proofs.Std.{◌≡◌, ◌<◌, ◌+◌, length, true, false}
-use Rattle.dom_model.proofs.Model.{is_inclusive_ancestor}
-use Rattle.dom_tree.specs.Definitions.{name_at}
+use Rattle.dom_range_ops.proofs.Cited.{◌≡◌, ◌<◌, ◌+◌, length, true, false, is_inclusive_ancestor, name_at}
 use Rattle.dom_range_ops.proofs.DeletionHeights.{height_at}
 use Rattle.dom_range_ops.proofs.ends.outermost_apart.Given as goal
 

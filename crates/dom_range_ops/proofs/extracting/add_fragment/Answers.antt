@@ -1,4 +1,4 @@
-use Rattle.dom_model.proofs.Model.{part_of}
+use Rattle.dom_range_ops.proofs.Cited.{part_of}
 use Rattle.dom_range_ops.proofs.TakingExtracts.{room-faults}
 use Rattle.dom_range_ops.proofs.extracting.add_fragment.Goals as goal
 

@@ -1,13 +1,9 @@
-use Rattle.dom_base.proofs.Std.{◌≡◌, suc, true, map, Some, None, refl, sym, subst, ap, ◌∙◌, on_ok_weaker}
-use Rattle.dom_model.proofs.Model.{Owner, Limit, past_limit, plan_of_range, extracting, at, part_of, is_there}
-use Rattle.dom_mutation.specs.Definitions.{name_in}
-use Rattle.dom_mutation.proofs.ReadyCalls.{ready-planned}
-use Rattle.dom_mutation.proofs.ReadyPlans.{ready-extracting}
-use Rattle.dom_range_ops.specs.Definitions.{item_in}
+use Rattle.dom_range_ops.proofs.Cited.{◌≡◌, suc, true, map, Some, None, refl, sym, subst, ap, ◌∙◌, on_ok_weaker, Owner, Limit, past_limit, plan_of_range}
+use Rattle.dom_range_ops.proofs.Cited.{extracting, at, part_of, is_there, name_in, ready-planned, ready-extracting, item_in}
 use Rattle.dom_range_ops.proofs.ExtractedRanges.{RangePieces, own-may_take, names-own, world-own, limit-refused, limit-kept}
 use Rattle.dom_range_ops.proofs.InsertedRanges.{range-there}
-use Rattle.dom_range_ops.proofs.extracting.extract.Goals as goal
 use Rattle.dom_range_ops.proofs.extracting.extract.Goals.{After-as_slice-pieces}
+use Rattle.dom_range_ops.proofs.extracting.extract.Goals as goal
 
 -- the pieces that were found
 abbrev found : After-as_slice-pieces → RangePieces

@@ -1,7 +1,5 @@
-use Rattle.dom_base.proofs.Std.{List, Some, option_map, refl, sym, ap, ◌∙◌, cond-true, cond-false}
-use Rattle.dom_model.proofs.Model.{NodeName, Node, node_in, kind_of, is_document}
-use Rattle.dom_mutation.specs.Definitions.{name_in, owner_in, trees_in}
-use Rattle.dom_tree.specs.Definitions.{name_at}
+use Rattle.dom_range_ops.proofs.Cited.{List, Some, option_map, refl, sym, ap, ◌∙◌, cond-true, cond-false, NodeName, Node, node_in, kind_of, is_document}
+use Rattle.dom_range_ops.proofs.Cited.{name_in, owner_in, trees_in, name_at}
 use Rattle.dom_range_ops.proofs.TakingDocs.{node-read}
 use Rattle.dom_range_ops.proofs.extracting.own_document.Goals as goal
 

@@ -1,9 +1,7 @@
-use Rattle.dom_base.proofs.Std.{List, map, sym, ap, subst, ◌∙◌, AllByRecursion}
-use Rattle.dom_model.proofs.Model.{NodeName}
-use Rattle.dom_range_ops.specs.Definitions.{item_in, items_of, IsPieceOf}
+use Rattle.dom_range_ops.proofs.Cited.{List, map, sym, ap, subst, ◌∙◌, AllByRecursion, NodeName, item_in, items_of, IsPieceOf}
 use Rattle.dom_range_ops.proofs.DocRanges.{RangeRead, range-read, spanned-in, pieces-in, if-ok}
-use Rattle.dom_range_ops.proofs.extracting.pieces_in.Goals as goal
 use Rattle.dom_range_ops.proofs.extracting.pieces_in.Goals.{After-law_nodes_stand_once}
+use Rattle.dom_range_ops.proofs.extracting.pieces_in.Goals as goal
 
 abbrev read : After-law_nodes_stand_once → RangeRead
 read c =

@@ -1,11 +1,6 @@
-use Rattle.dom_base.proofs.Std.{◌≡◌, ◌∷◌, [], List, true, Some, if◌then◌else◌, ◌&&◌, ◌==◌, refl, sym, ap, subst, ◌∙◌, option_map_or, cond-true, eq-eqb}
-use Rattle.dom_base.proofs.Std.{eqb-true}
-use Rattle.dom_model.proofs.Model.{NodeName, name_eq-same, name_eq, range_at, ending_at, Range, at, from_to, is_collapsed, Step, set_range, part_of}
-use Rattle.dom_model.proofs.Model.{world_after}
-use Rattle.dom_mutation.specs.Definitions.{name_in, AreReady}
-use Rattle.dom_mutation.proofs.ReadyCalls.{stands-then}
-use Rattle.dom_laws.proofs.Laws.{was_some}
-use Rattle.dom_range_ops.specs.Definitions.{range_at_points}
+use Rattle.dom_range_ops.proofs.Cited.{◌≡◌, ◌∷◌, [], List, true, Some, if◌then◌else◌, ◌&&◌, ◌==◌, refl, sym, ap, subst, ◌∙◌, option_map_or, cond-true, eq-eqb}
+use Rattle.dom_range_ops.proofs.Cited.{eqb-true, NodeName, name_eq-same, name_eq, range_at, ending_at, Range, at, from_to, is_collapsed, Step, set_range}
+use Rattle.dom_range_ops.proofs.Cited.{part_of, world_after, name_in, AreReady, stands-then, was_some, range_at_points}
 use Rattle.dom_range_ops.proofs.DocRanges.{read-points}
 use Rattle.dom_range_ops.proofs.inserting.end_at.Goals as goal
 

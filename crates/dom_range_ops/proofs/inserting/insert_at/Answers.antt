@@ -1,14 +1,10 @@
-use Rattle.dom_base.proofs.Std.{◌≡◌, ◌<◌, ℕ, Bool, false, List, length, refl, sym, ap, subst, ◌∙◌, on_ok_weaker}
-use Rattle.dom_model.proofs.Model.{Kind, NodeName, observed, remove_plan, has_node, has_data, is_shadow, kind_of, part_of}
-use Rattle.dom_worlds.proofs.PlanLemmas.{leads-removing}
-use Rattle.dom_mutation.specs.Definitions.{DocState, name_in, owner_in, planned, trees_in, IsAlone, AreReady}
-use Rattle.dom_mutation.proofs.Turns.{Stays, may_now, child_now}
-use Rattle.dom_parts.proofs.OwnPlans.{plans_removing}
-use Rattle.dom_tree.specs.Definitions.{name_at}
+use Rattle.dom_range_ops.proofs.Cited.{◌≡◌, ◌<◌, ℕ, Bool, false, List, length, refl, sym, ap, subst, ◌∙◌, on_ok_weaker, Kind, NodeName, observed, remove_plan}
+use Rattle.dom_range_ops.proofs.Cited.{has_node, has_data, is_shadow, kind_of, part_of, leads-removing, DocState, name_in, owner_in, planned, trees_in, IsAlone}
+use Rattle.dom_range_ops.proofs.Cited.{AreReady, Stays, may_now, child_now, plans_removing, name_at}
 use Rattle.dom_range_ops.proofs.InsertedParts.{kind-kept}
 use Rattle.dom_range_ops.proofs.InsertedPlans.{state-is, stays-left, inserted-at}
-use Rattle.dom_range_ops.proofs.inserting.insert_at.Goals as goal
 use Rattle.dom_range_ops.proofs.inserting.insert_at.Goals.{In_ok-remove}
+use Rattle.dom_range_ops.proofs.inserting.insert_at.Goals as goal
 
 -- the owner is alone in its part
 alone : (c : In_ok-remove) → IsAlone c.args.doc.now.world c.args.owner

@@ -1,7 +1,5 @@
-use Rattle.dom_base.proofs.Std.{option_map, refl, sym, ap, subst, ◌∙◌}
-use Rattle.dom_model.proofs.Model.{observed, insert_plan}
-use Rattle.dom_mutation.specs.Definitions.{DocState, made, name_in, IsAlone, AreReady}
-use Rattle.dom_parts.proofs.OwnPlans.{plans_inserting}
+use Rattle.dom_range_ops.proofs.Cited.{option_map, refl, sym, ap, subst, ◌∙◌, observed, insert_plan, DocState, made, name_in, IsAlone, AreReady}
+use Rattle.dom_range_ops.proofs.Cited.{plans_inserting}
 use Rattle.dom_range_ops.proofs.InsertedPlans.{inserted-before}
 use Rattle.dom_range_ops.proofs.InsertedRanges.{range-kept}
 use Rattle.dom_range_ops.proofs.inserting.insert_before.Goals as goal

@@ -1,10 +1,8 @@
-use Rattle.dom_base.proofs.Std.{◌≡◌, ◌++◌, ◌∷◌, [], refl, sym, ap, subst, ◌∙◌}
-use Rattle.dom_model.proofs.Model.{next_name, splitting, has_data, has_node, is_shadow, is_text, kind_of, part_of}
-use Rattle.dom_mutation.specs.Definitions.{IsChild, made, name_in, IsAlone, AreReady}
-use Rattle.dom_range_ops.specs.Definitions.{range_at_points}
+use Rattle.dom_range_ops.proofs.Cited.{◌≡◌, ◌++◌, ◌∷◌, [], refl, sym, ap, subst, ◌∙◌, next_name, splitting, has_data, has_node, is_shadow, is_text, kind_of}
+use Rattle.dom_range_ops.proofs.Cited.{part_of, IsChild, made, name_in, IsAlone, AreReady, range_at_points}
 use Rattle.dom_range_ops.proofs.InsertedTails.{TailSplit, split-kind, split-apart, split-child, split-there, split-whole}
-use Rattle.dom_range_ops.proofs.inserting.insert_before_tail.Goals as goal
 use Rattle.dom_range_ops.proofs.inserting.insert_before_tail.Goals.{In_ok-tail}
+use Rattle.dom_range_ops.proofs.inserting.insert_before_tail.Goals as goal
 
 -- the Text at the start was split
 abbrev split : In_ok-tail → TailSplit

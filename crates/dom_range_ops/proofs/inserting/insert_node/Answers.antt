@@ -1,18 +1,12 @@
-use Rattle.dom_base.proofs.Std.{◌≡◌, inl, Some, None, Err, sym, ap, ◌∙◌, subst, option_or, on_ok_weaker}
-use Rattle.dom_model.proofs.Model.{Refused, NodeName, Refusal, limit_on, made_by_insert_node, range_at, insert_node_refusal, inserting_into_range, Range}
-use Rattle.dom_model.proofs.Model.{part_of}
-use Rattle.dom_worlds.specs.Definitions.{IsPart}
-use Rattle.dom_mutation.specs.Definitions.{made, name_in, IsReadyPart}
-use Rattle.dom_mutation.proofs.ReadyCalls.{HasLaws, stands-in, ready-planned}
-use Rattle.dom_mutation.proofs.ReadyPlans.{KeepReady, ready-inserting_into_range}
-use Rattle.dom_tree.specs.Definitions.{err_of}
-use Rattle.dom_laws.proofs.Laws.{was_some}
-use Rattle.dom_range_ops.specs.Definitions.{inserting_node, range_at_points}
+use Rattle.dom_range_ops.proofs.Cited.{◌≡◌, inl, Some, None, Err, sym, ap, ◌∙◌, subst, option_or, on_ok_weaker, Refused, NodeName, Refusal, limit_on}
+use Rattle.dom_range_ops.proofs.Cited.{made_by_insert_node, range_at, insert_node_refusal, inserting_into_range, Range, part_of, IsPart, made, name_in}
+use Rattle.dom_range_ops.proofs.Cited.{IsReadyPart, HasLaws, stands-in, ready-planned, KeepReady, ready-inserting_into_range, err_of, was_some, inserting_node}
+use Rattle.dom_range_ops.proofs.Cited.{range_at_points}
 use Rattle.dom_range_ops.proofs.DocRanges.{read-points, within-at}
 use Rattle.dom_range_ops.proofs.InsertedRanges.{range-there}
 use Rattle.dom_range_ops.proofs.InsertedTests.{steps-at, tests-at, refusal-at}
-use Rattle.dom_range_ops.proofs.inserting.insert_node.Goals as goal
 use Rattle.dom_range_ops.proofs.inserting.insert_node.Goals.{After-check, After-laws, After-range_points-points}
+use Rattle.dom_range_ops.proofs.inserting.insert_node.Goals as goal
 
 -- the range of the number has the points that were read
 found : (c : After-range_points-points) →

@@ -1,14 +1,11 @@
-use Rattle.dom_base.proofs.Std.{◌≡◌, ◌++◌, ◌∷◌, [], false, List, Some, None, option_map, refl, sym, ap, subst, ◌∙◌, cond-true, on_ok_weaker}
-use Rattle.dom_model.proofs.Model.{NodeName, Owner as OwnerOf, limit_on, next_name, inserting_into_range, kind_of, is_text, has_data, is_shadow, parent_of}
-use Rattle.dom_model.proofs.Model.{is_inclusive_ancestor, pre_insert_refusal, part_of}
-use Rattle.dom_worlds.proofs.RangeLemmas.{insertion-open}
-use Rattle.dom_worlds.proofs.CommandLemmas.{insertion-apart}
-use Rattle.dom_mutation.specs.Definitions.{DocState, made, name_in, AreReady}
-use Rattle.dom_mutation.proofs.ReadyPlans.{insertion-tested}
-use Rattle.dom_range_ops.specs.Definitions.{inserting_before_tail, range_at_points}
+use Rattle.dom_range_ops.proofs.Cited.{◌≡◌, ◌++◌, ◌∷◌, [], false, List, Some, None, option_map, refl, sym, ap, subst, ◌∙◌, cond-true, on_ok_weaker, NodeName}
+use Rattle.dom_range_ops.proofs.Cited.{limit_on, next_name, inserting_into_range, kind_of, is_text, has_data, is_shadow, parent_of, is_inclusive_ancestor}
+use Rattle.dom_range_ops.proofs.Cited.{pre_insert_refusal, part_of, insertion-open, insertion-apart, DocState, made, name_in, AreReady, insertion-tested}
+use Rattle.dom_range_ops.proofs.Cited.{inserting_before_tail, range_at_points}
+use Rattle.dom_model.proofs.Model.{Owner as OwnerOf}
 use Rattle.dom_range_ops.proofs.InsertedTests.{place-valid, text-child, valid-child, steps-tail, steps-plain}
-use Rattle.dom_range_ops.proofs.inserting.insert_tested.Goals as goal
 use Rattle.dom_range_ops.proofs.inserting.insert_tested.Goals.{After-is_text, After-laws}
+use Rattle.dom_range_ops.proofs.inserting.insert_tested.Goals as goal
 
 -- the tests of the place let the node pass
 valid : (c : After-laws) → pre_insert_refusal (part_of c.args.doc.now.world c.args.owner).trees (name_in c.args.doc.now c.args.parent)

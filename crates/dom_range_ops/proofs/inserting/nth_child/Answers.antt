@@ -1,4 +1,4 @@
-use Rattle.dom_mutation.specs.Definitions.{owner_in}
+use Rattle.dom_range_ops.proofs.Cited.{owner_in}
 use Rattle.dom_range_ops.proofs.InsertedChildren.{nth-value, nth-child}
 use Rattle.dom_range_ops.proofs.inserting.nth_child.Goals as goal
 

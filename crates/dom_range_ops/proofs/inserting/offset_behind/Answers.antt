@@ -1,7 +1,4 @@
-use Rattle.dom_base.proofs.Std.{◌≡◌, ◌≤◌, false, sym, ap, ◌∙◌, arith}
-use Rattle.dom_model.proofs.Model.{kind_of, has_data, index_of, part_of}
-use Rattle.dom_mutation.specs.Definitions.{name_in, owner_in, trees_in}
-use Rattle.dom_mutation.proofs.BoundedDocs.{index_limited}
+use Rattle.dom_range_ops.proofs.Cited.{◌≡◌, ◌≤◌, false, sym, ap, ◌∙◌, arith, kind_of, has_data, index_of, part_of, name_in, owner_in, trees_in, index_limited}
 use Rattle.dom_range_ops.proofs.InsertedRanges.{length-limited}
 use Rattle.dom_range_ops.proofs.inserting.offset_behind.Goals.{in-Some, in-None, in-Fragment, in_default}
 use Rattle.dom_range_ops.proofs.inserting.offset_behind.Goals as goal

@@ -1,10 +1,9 @@
-use Rattle.dom_base.proofs.Std.{◌≡◌, ◌≤◌, ℕ, ◌+◌, List, [], ◌∷◌, map, take, get_or, sym, ap, ◌∙◌, arith, if◌then◌else◌, take_more, map_push}
-use Rattle.dom_model.proofs.Model.{NodeName}
-use Rattle.dom_range_ops.specs.Definitions.{item_in, made_by}
+use Rattle.dom_range_ops.proofs.Cited.{◌≡◌, ◌≤◌, ℕ, ◌+◌, List, [], ◌∷◌, map, take, get_or, sym, ap, ◌∙◌, arith, if◌then◌else◌, take_more, map_push, NodeName}
+use Rattle.dom_range_ops.proofs.Cited.{item_in, made_by}
 use Rattle.dom_range_ops.proofs.PiecePaths.{all-taken}
 use Rattle.dom_range_ops.proofs.PieceSteps.{made-append}
-use Rattle.dom_range_ops.proofs.pieces.count_made.Goals as goal
 use Rattle.dom_range_ops.proofs.pieces.count_made.Goals.{then-is_made, else-is_made}
+use Rattle.dom_range_ops.proofs.pieces.count_made.Goals as goal
 
 pub loop-piece-preserved : goal.loop-piece-preserved
 loop-piece-preserved c =

@@ -1,6 +1,4 @@
-use Rattle.dom_base.proofs.Std.{◌≡◌, ◌≤◌, List, map, take}
-use Rattle.dom_model.proofs.Model.{NodeName}
-use Rattle.dom_range_ops.specs.Definitions.{item_in, made_by}
+use Rattle.dom_range_ops.proofs.Cited.{◌≡◌, ◌≤◌, List, map, take, NodeName, item_in, made_by}
 use Rattle.dom_range_ops.proofs.pieces.count_made.Given as goal
 
 abbrev pub invariant-loop-piece : goal.invariant-loop-piece

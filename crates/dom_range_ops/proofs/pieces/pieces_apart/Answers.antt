@@ -1,10 +1,7 @@
-use Rattle.dom_base.proofs.Std.{ℕ, ◌<◌, List, [], length, map, take, sym, ap, subst, ◌∙◌, refl, AllByRecursion}
-use Rattle.dom_tree.specs.Definitions.{name_at}
-use Rattle.dom_range_ops.specs.Definitions.{AreItems, ArePaths}
-use Rattle.dom_range_ops.specs.declared.pieces.Piece.{Piece}
+use Rattle.dom_range_ops.proofs.Cited.{ℕ, ◌<◌, List, [], length, map, take, sym, ap, subst, ◌∙◌, refl, AllByRecursion, name_at, AreItems, ArePaths, Piece}
 use Rattle.dom_range_ops.proofs.PiecePaths.{paths-part, alike}
-use Rattle.dom_range_ops.proofs.pieces.pieces_apart.Goals as goal
 use Rattle.dom_range_ops.proofs.pieces.pieces_apart.Goals.{After-deref-4}
+use Rattle.dom_range_ops.proofs.pieces.pieces_apart.Goals as goal
 
 -- the paths up to where they part
 paths : (c : After-deref-4) → ArePaths c.args.forest.now c.args.points.now (take c.parting-first.result.0 c.deref-3.result.now)

@@ -1,7 +1,4 @@
-use Rattle.dom_base.proofs.Std.{◌≡◌, ◌-◌, suc, Option, Some, ap, subst, ◌∙◌, arith, option_map}
-use Rattle.dom_model.proofs.Model.{NodeName}
-use Rattle.dom_tree.specs.Definitions.{name_at}
-use Rattle.dom_tree.proofs.Standing.{Once-forest, Has-forest}
+use Rattle.dom_range_ops.proofs.Cited.{◌≡◌, ◌-◌, suc, Option, Some, ap, subst, ◌∙◌, arith, option_map, NodeName, name_at, Once-forest, Has-forest}
 use Rattle.dom_range_ops.proofs.ChildWalks.{IsAtKid, kid-first, kid-next, kid-there, kid-none}
 use Rattle.dom_range_ops.proofs.points.child_at.Goals as goal
 

@@ -1,5 +1,4 @@
-use Rattle.dom_base.proofs.Std.{◌<◌, length, option_map, ForSome}
-use Rattle.dom_tree.specs.Definitions.{name_at}
+use Rattle.dom_range_ops.proofs.Cited.{◌<◌, length, option_map, ForSome, name_at}
 use Rattle.dom_range_ops.proofs.ChildWalks.{IsAtKid}
 use Rattle.dom_range_ops.proofs.points.child_at.Given as goal
 

@@ -1,8 +1,4 @@
-use Rattle.dom_base.proofs.Std.{sym, ap, ◌∙◌, option_map}
-use Rattle.dom_model.proofs.Model.{at}
-use Rattle.dom_tree.specs.Definitions.{name_at}
-use Rattle.dom_laws.proofs.Laws.{was_none, was_some, above-within}
-use Rattle.dom_tree.proofs.Searching.{IsWithin-key}
+use Rattle.dom_range_ops.proofs.Cited.{sym, ap, ◌∙◌, option_map, at, name_at, was_none, was_some, above-within, IsWithin-key}
 use Rattle.dom_range_ops.proofs.AfterPoint.{after-child, after-tree}
 use Rattle.dom_range_ops.proofs.points.node_after.Goals as goal
 

@@ -1,8 +1,4 @@
-use Rattle.dom_base.proofs.Std.{Some, subst}
-use Rattle.dom_worlds.specs.Definitions.{EndsIn}
-use Rattle.dom_worlds.proofs.PlanLemmas.{ends-at}
-use Rattle.dom_model.proofs.Model.{part_of}
-use Rattle.dom_mutation.proofs.ReadyEnds.{bare, bare-tables}
+use Rattle.dom_range_ops.proofs.Cited.{Some, subst, EndsIn, ends-at, part_of, bare, bare-tables}
 use Rattle.dom_range_ops.proofs.ready.law_ready.Goals as goal
 
 pub returns-clause-bounds : goal.returns-clause-bounds

@@ -1,10 +1,8 @@
-use Rattle.dom_base.proofs.Std.{◌∷◌, ◌++◌, [], ◌≡◌, false, None, refl, ap, ◌∙◌, sym, subst}
-use Rattle.dom_model.proofs.Model.{Owner, doing, observed, insert_plan, next_name, make, kind_of, is_shadow, part_of}
-use Rattle.dom_mutation.specs.Definitions.{MayMove, made, planned, name_in, owner_in, trees_in}
-use Rattle.dom_tree.specs.Definitions.{node_from}
+use Rattle.dom_range_ops.proofs.Cited.{◌∷◌, ◌++◌, [], ◌≡◌, false, None, refl, ap, ◌∙◌, sym, subst, Owner, doing, observed, insert_plan, next_name, make}
+use Rattle.dom_range_ops.proofs.Cited.{kind_of, is_shadow, part_of, MayMove, made, planned, name_in, owner_in, trees_in, node_from}
 use Rattle.dom_range_ops.proofs.TakingDocs.{NewNode, new-moves, new-open, new-plain, below-made}
-use Rattle.dom_range_ops.proofs.taking.add_below.Goals as goal
 use Rattle.dom_range_ops.proofs.taking.add_below.Goals.{In_ok-new}
+use Rattle.dom_range_ops.proofs.taking.add_below.Goals as goal
 
 -- the node that was made
 abbrev new_node : In_ok-new → NewNode

@@ -1,7 +1,5 @@
-use Rattle.dom_base.proofs.Std.{◌≡◌, List, refl, sym, ap, ◌∙◌, on_ok_weaker}
-use Rattle.dom_model.proofs.Model.{NodeName, making_below, next_name, node_in, with_name, part_of}
-use Rattle.dom_mutation.specs.Definitions.{made, name_in, owner_in, trees_in}
-use Rattle.dom_tree.specs.Definitions.{node_from}
+use Rattle.dom_range_ops.proofs.Cited.{◌≡◌, List, refl, sym, ap, ◌∙◌, on_ok_weaker, NodeName, making_below, next_name, node_in, with_name, part_of, made}
+use Rattle.dom_range_ops.proofs.Cited.{name_in, owner_in, trees_in, node_from}
 use Rattle.dom_range_ops.proofs.TakingDocs.{node-read, copy-read}
 use Rattle.dom_range_ops.proofs.taking.take_clone.Goals as goal
 

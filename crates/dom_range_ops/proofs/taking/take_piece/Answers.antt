@@ -1,11 +1,10 @@
-use Rattle.dom_base.proofs.Std.{◌∷◌, ◌-◌, [], ℕ, List, length, sym, ap, ◌∙◌, subst, slice_get, unwrap_or, AllByRecursion, append-nil}
-use Rattle.dom_model.proofs.Model.{next_name, has_data, is_shadow, kind_of, part_of}
-use Rattle.dom_mutation.specs.Definitions.{DocState, name_in, owner_in, IsOwnNode}
-use Rattle.dom_range_ops.specs.Definitions.{whole_item, cut_item, clone_item, item_in, made_by, clones_after, names_in, IsPieceOf}
-use Rattle.dom_range_ops.proofs.TakingPieces.{Taking, own-kept, own-pushed, names-same, names-pushed, top-own, top-open, top-new, taken-as}
-use Rattle.dom_range_ops.proofs.TakingPieces.{taken-owner, taken-plain, taken-moves, at-top, one-name, next-owner}
-use Rattle.dom_range_ops.proofs.taking.take_piece.Goals as goal
+use Rattle.dom_range_ops.proofs.Cited.{◌∷◌, ◌-◌, [], ℕ, List, length, sym, ap, ◌∙◌, subst, slice_get, unwrap_or, AllByRecursion, append-nil, next_name}
+use Rattle.dom_range_ops.proofs.Cited.{has_data, is_shadow, kind_of, part_of, DocState, name_in, owner_in, IsOwnNode, whole_item, cut_item, clone_item, item_in}
+use Rattle.dom_range_ops.proofs.Cited.{made_by, clones_after, names_in, IsPieceOf}
+use Rattle.dom_range_ops.proofs.TakingPieces.{Taking, own-kept, own-pushed, names-same, names-pushed, top-own, top-open, top-new, taken-as, taken-owner}
+use Rattle.dom_range_ops.proofs.TakingPieces.{taken-plain, taken-moves, at-top, one-name, next-owner}
 use Rattle.dom_range_ops.proofs.taking.take_piece.Goals.{After-top_of-top}
+use Rattle.dom_range_ops.proofs.taking.take_piece.Goals as goal
 
 -- the piece, and the node into which it goes
 abbrev taking : After-top_of-top → Taking

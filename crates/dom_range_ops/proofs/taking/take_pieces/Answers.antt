@@ -1,9 +1,7 @@
-use Rattle.dom_base.proofs.Std.{◌∷◌, ◌+◌, drop, subst}
-use Rattle.dom_model.proofs.Model.{NodeName}
-use Rattle.dom_mutation.specs.Definitions.{owner_in, IsAlone}
+use Rattle.dom_range_ops.proofs.Cited.{◌∷◌, ◌+◌, drop, subst, NodeName, owner_in, IsAlone}
 use Rattle.dom_range_ops.proofs.TakingLoops.{Progress, left-now, same-into, into-kept, next-may, next-node, progress-next}
-use Rattle.dom_range_ops.proofs.taking.take_pieces.Goals as goal
 use Rattle.dom_range_ops.proofs.taking.take_pieces.Goals.{After-piece-item}
+use Rattle.dom_range_ops.proofs.taking.take_pieces.Goals as goal
 
 -- how far the taking has come where a piece is next
 progress : (c : After-piece-item) → Progress c.args.doc.now c.args.into c.args.pieces.now

@@ -1,4 +1,4 @@
-use Rattle.dom_base.proofs.Std.{drop}
+use Rattle.dom_range_ops.proofs.Cited.{drop}
 use Rattle.dom_range_ops.proofs.TakingLoops.{Progress}
 use Rattle.dom_range_ops.proofs.taking.take_pieces.Given as goal
 

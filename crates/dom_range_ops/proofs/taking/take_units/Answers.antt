@@ -1,7 +1,5 @@
-use Rattle.dom_base.proofs.Std.{◌≡◌, ◌∷◌, [], List, refl, sym, ap, ◌∙◌}
-use Rattle.dom_model.proofs.Model.{NodeName, owner-part_of, ◌and_then◌, clone_part, making_below, next_name, replacing_data, Node, kind_of, node_in, part_of}
-use Rattle.dom_mutation.specs.Definitions.{made, name_in, owner_in, trees_in}
-use Rattle.dom_tree.specs.Definitions.{node_from}
+use Rattle.dom_range_ops.proofs.Cited.{◌≡◌, ◌∷◌, [], List, refl, sym, ap, ◌∙◌, NodeName, owner-part_of, ◌and_then◌, clone_part, making_below, next_name}
+use Rattle.dom_range_ops.proofs.Cited.{replacing_data, Node, kind_of, node_in, part_of, made, name_in, owner_in, trees_in, node_from}
 use Rattle.dom_range_ops.proofs.TakingDocs.{name-kept, node-read, copy-read, units-made}
 use Rattle.dom_range_ops.proofs.TakingParts.{data-no_shadow}
 use Rattle.dom_range_ops.proofs.taking.take_units.Goals as goal

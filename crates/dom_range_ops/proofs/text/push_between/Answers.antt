@@ -1,16 +1,11 @@
-use Rattle.dom_base.proofs.Std.{◌≡◌, ◌∷◌, ◌++◌, [], true≢false, List, ℕ, Some, sym, ap, subst, ◌∙◌, append_assoc, if◌then◌else◌, option_map, cond-true}
-use Rattle.dom_base.proofs.Std.{cond-false, not-false, eqb-true, append-nil}
-use Rattle.dom_model.proofs.Model.{NodeName, name_eq, first_of, text_part, root_of, name_eq-other}
-use Rattle.dom_tree.specs.Definitions.{name_at}
-use Rattle.dom_laws.specs.Within.{from_node, behind}
-use Rattle.dom_tree.proofs.Standing.{other_name}
-use Rattle.dom_laws.proofs.Laws.{name_eq-from}
-use Rattle.dom_tree.proofs.Searching.{following_step, length-behind}
-use Rattle.dom_range_ops.specs.Definitions.{nodes_after, range_at_points, contained_text, nodes_around}
+use Rattle.dom_range_ops.proofs.Cited.{◌≡◌, ◌∷◌, ◌++◌, [], true≢false, List, ℕ, Some, sym, ap, subst, ◌∙◌, append_assoc, if◌then◌else◌, option_map, cond-true}
+use Rattle.dom_range_ops.proofs.Cited.{cond-false, not-false, eqb-true, append-nil, NodeName, name_eq, first_of, text_part, root_of, name_eq-other, name_at}
+use Rattle.dom_range_ops.proofs.Cited.{from_node, behind, other_name, name_eq-from, following_step, length-behind, nodes_after, range_at_points, contained_text}
+use Rattle.dom_range_ops.proofs.Cited.{nodes_around}
 use Rattle.dom_range_ops.proofs.Between.{Leads, text-step}
 use Rattle.dom_range_ops.proofs.KeyedWalks.{key-found, is-bounded, stands-start, stands-end, leads-from, text-from, stop-is, stop-here, go-on}
-use Rattle.dom_range_ops.proofs.text.push_between.Goals as goal
 use Rattle.dom_range_ops.proofs.text.push_between.Goals.{then-ne+in_ok-extend_from_slice, else-ne}
+use Rattle.dom_range_ops.proofs.text.push_between.Goals as goal
 
 pub node_after-stop-requires-clause-stands : goal.node_after-stop-requires-clause-stands
 node_after-stop-requires-clause-stands c =

@@ -1,7 +1,4 @@
-use Rattle.dom_base.proofs.Std.{◌≡◌, ◌++◌, length, option_map, ForSome}
-use Rattle.dom_tree.specs.Definitions.{name_at, StandsIn}
-use Rattle.dom_laws.specs.Within.{from_node}
-use Rattle.dom_range_ops.specs.Definitions.{range_at_points, contained_text, nodes_around}
+use Rattle.dom_range_ops.proofs.Cited.{◌≡◌, ◌++◌, length, option_map, ForSome, name_at, StandsIn, from_node, range_at_points, contained_text, nodes_around}
 use Rattle.dom_range_ops.proofs.Between.{Leads}
 use Rattle.dom_range_ops.proofs.text.push_between.Given as goal
 

@@ -1,5 +1,4 @@
-use Rattle.dom_base.proofs.Std.{◌++◌, sym, ap, ◌∙◌, append-nil}
-use Rattle.dom_range_ops.specs.Definitions.{range_at_points}
+use Rattle.dom_range_ops.proofs.Cited.{◌++◌, sym, ap, ◌∙◌, append-nil, range_at_points}
 use Rattle.dom_range_ops.proofs.Between.{text-reversed}
 use Rattle.dom_range_ops.proofs.KeyedWalks.{is-bounded}
 use Rattle.dom_range_ops.proofs.text.push_contained.Goals as goal

@@ -1,9 +1,7 @@
-use Rattle.dom_base.proofs.Std.{◌≡◌, Some, sym, ap, ◌∙◌}
-use Rattle.dom_model.proofs.Model.{range_text_of, part_of}
-use Rattle.dom_range_ops.specs.Definitions.{range_at_points}
+use Rattle.dom_range_ops.proofs.Cited.{◌≡◌, Some, sym, ap, ◌∙◌, range_text_of, part_of, range_at_points}
 use Rattle.dom_range_ops.proofs.DocRanges.{RangeRead, range-read, bounded-in, text-in, if-ok}
-use Rattle.dom_range_ops.proofs.text.range_text.Goals as goal
 use Rattle.dom_range_ops.proofs.text.range_text.Goals.{After-law_nodes_stand_once}
+use Rattle.dom_range_ops.proofs.text.range_text.Goals as goal
 
 abbrev read : After-law_nodes_stand_once → RangeRead
 read c =

@@ -1,4 +1,4 @@
-use Rattle.dom_base.proofs.Std.{◌≡◌, ◌≤◌, length, drop}
+use Rattle.dom_range_ops.proofs.Cited.{◌≡◌, ◌≤◌, length, drop}
 use Rattle.dom_range_ops.proofs.pieces.paths.parting.Given as goal
 
 abbrev pub invariant-loop-left : goal.invariant-loop-left

@@ -1,8 +1,5 @@
-use Rattle.dom_base.proofs.Std.{map, take, drop, sym, ap, subst, ◌∙◌, if◌then◌else◌, option_map, on_ok_weaker}
-use Rattle.dom_model.proofs.Model.{children_of}
-use Rattle.dom_tree.specs.Definitions.{name_at}
-use Rattle.dom_tree.proofs.Standing.{Once-forest, Has-forest}
-use Rattle.dom_range_ops.specs.Definitions.{Adds, whole_item}
+use Rattle.dom_range_ops.proofs.Cited.{map, take, drop, sym, ap, subst, ◌∙◌, if◌then◌else◌, option_map, on_ok_weaker, children_of, name_at, Once-forest}
+use Rattle.dom_range_ops.proofs.Cited.{Has-forest, Adds, whole_item}
 use Rattle.dom_range_ops.proofs.PieceRuns.{run-before, run-behind}
 use Rattle.dom_range_ops.proofs.pieces.runs.push_children.Goals as goal
 

@@ -1,7 +1,4 @@
-use Rattle.dom_base.proofs.Std.{true≢false, sym, ap, ◌∙◌, option_map}
-use Rattle.dom_model.proofs.Model.{name_eq, items_after, siblings}
-use Rattle.dom_tree.specs.Definitions.{name_at}
-use Rattle.dom_range_ops.specs.Definitions.{from_sibling, up_to}
+use Rattle.dom_range_ops.proofs.Cited.{true≢false, sym, ap, ◌∙◌, option_map, name_eq, items_after, siblings, name_at, from_sibling, up_to}
 use Rattle.dom_range_ops.proofs.PieceRuns.{passes-first, passes-more, passes-fewer, passes-all, up-to-here, up-to-none}
 use Rattle.dom_range_ops.proofs.pieces.runs.push_siblings.Goals as goal
 

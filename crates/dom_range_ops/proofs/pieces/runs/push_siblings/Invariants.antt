@@ -1,7 +1,5 @@
-use Rattle.dom_base.proofs.Std.{length, option_map}
-use Rattle.dom_range_ops.specs.Definitions.{from_sibling}
+use Rattle.dom_range_ops.proofs.Cited.{length, option_map, from_sibling, name_at}
 use Rattle.dom_range_ops.proofs.PieceRuns.{Passes}
-use Rattle.dom_tree.specs.Definitions.{name_at}
 use Rattle.dom_range_ops.proofs.pieces.runs.push_siblings.Given as goal
 
 abbrev pub invariant-loop-at : goal.invariant-loop-at

@@ -1,6 +1,4 @@
-use Rattle.dom_base.proofs.Std.{drop, sym, ap, ◌∙◌, option_map_or, option_copied}
-use Rattle.dom_model.proofs.Model.{first_of, children_of, next_sibling}
-use Rattle.dom_tree.specs.Definitions.{name_at}
+use Rattle.dom_range_ops.proofs.Cited.{drop, sym, ap, ◌∙◌, option_map_or, option_copied, first_of, children_of, next_sibling, name_at}
 use Rattle.dom_range_ops.proofs.PieceSteps.{last-named}
 use Rattle.dom_range_ops.proofs.pieces.sides.first_behind.Goals as goal
 

@@ -1,8 +1,5 @@
-use Rattle.dom_base.proofs.Std.{map, sym, ap, subst, ◌∙◌, option_map, on_ok_weaker}
-use Rattle.dom_model.proofs.Model.{common_ancestor, is_contained, children_of}
-use Rattle.dom_laws.proofs.Laws.{filter-none}
-use Rattle.dom_tree.specs.Definitions.{name_at}
-use Rattle.dom_range_ops.specs.Definitions.{Adds, whole_item, from_sibling, up_to, first_from, range_at_points}
+use Rattle.dom_range_ops.proofs.Cited.{map, sym, ap, subst, ◌∙◌, option_map, on_ok_weaker, common_ancestor, is_contained, children_of, filter-none, name_at}
+use Rattle.dom_range_ops.proofs.Cited.{Adds, whole_item, from_sibling, up_to, first_from, range_at_points}
 use Rattle.dom_range_ops.proofs.PieceLaws.{run-between}
 use Rattle.dom_range_ops.proofs.PieceMiddle.{none-contained}
 use Rattle.dom_range_ops.proofs.PieceRuns.{adds-none}

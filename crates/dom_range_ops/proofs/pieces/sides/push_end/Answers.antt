@@ -1,8 +1,5 @@
-use Rattle.dom_base.proofs.Std.{[], ◌∷◌, ◌++◌, map, take, drop, sym, subst, if◌then◌else◌, cond-false}
-use Rattle.dom_model.proofs.Model.{children_of, kind_of, has_data, length_of}
-use Rattle.dom_tree.specs.Definitions.{name_at}
-use Rattle.dom_range_ops.specs.declared.pieces.Piece.TheVariants.{Clone, End}
-use Rattle.dom_range_ops.specs.Definitions.{Adds, whole_item, cut_item, clone_item, end_item}
+use Rattle.dom_range_ops.proofs.Cited.{[], ◌∷◌, ◌++◌, map, take, drop, sym, subst, if◌then◌else◌, cond-false, children_of, kind_of, has_data, length_of}
+use Rattle.dom_range_ops.proofs.Cited.{name_at, Clone, End, Adds, whole_item, cut_item, clone_item, end_item}
 use Rattle.dom_range_ops.proofs.PieceRuns.{adds-on, adds-one}
 use Rattle.dom_range_ops.proofs.pieces.sides.push_end.Goals as goal
 

@@ -1,9 +1,5 @@
-use Rattle.dom_base.proofs.Std.{[], ◌∷◌, Some, refl, sym, ap, subst, ◌∙◌, map}
-use Rattle.dom_model.proofs.Model.{name_eq, items_before, children_of}
-use Rattle.dom_tree.specs.Definitions.{name_at}
-use Rattle.dom_tree.proofs.Standing.{Once-forest, Has-forest}
-use Rattle.dom_range_ops.specs.Definitions.{Adds, whole_item, clone_item, wholes_if, up_to}
-use Rattle.dom_range_ops.specs.declared.pieces.Piece.TheVariants.{Clone}
+use Rattle.dom_range_ops.proofs.Cited.{[], ◌∷◌, Some, refl, sym, ap, subst, ◌∙◌, map, name_eq, items_before, children_of, name_at, Once-forest, Has-forest}
+use Rattle.dom_range_ops.proofs.Cited.{Adds, whole_item, clone_item, wholes_if, up_to, Clone}
 use Rattle.dom_range_ops.proofs.PieceRuns.{adds-on, adds-one, from-kids}
 use Rattle.dom_range_ops.proofs.pieces.sides.push_head.Goals as goal
 

@@ -1,6 +1,4 @@
-use Rattle.dom_base.proofs.Std.{◌≡◌, suc, ◌-◌, ◌<◌, length, map, drop, sym, subst, ◌∙◌, arith, get_or_default_zero}
-use Rattle.dom_tree.specs.Definitions.{name_at}
-use Rattle.dom_range_ops.specs.Definitions.{Adds, heads}
+use Rattle.dom_range_ops.proofs.Cited.{◌≡◌, suc, ◌-◌, ◌<◌, length, map, drop, sym, subst, ◌∙◌, arith, get_or_default_zero, name_at, Adds, heads}
 use Rattle.dom_range_ops.proofs.PieceRuns.{adds-none, adds-on}
 use Rattle.dom_range_ops.proofs.PieceSteps.{heads-keys, heads-last}
 use Rattle.dom_range_ops.proofs.pieces.sides.push_heads.Goals as goal

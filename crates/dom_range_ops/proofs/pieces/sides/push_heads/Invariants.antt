@@ -1,6 +1,4 @@
-use Rattle.dom_base.proofs.Std.{◌-◌, ◌≤◌, length, map, drop}
-use Rattle.dom_tree.specs.Definitions.{name_at}
-use Rattle.dom_range_ops.specs.Definitions.{Adds, heads}
+use Rattle.dom_range_ops.proofs.Cited.{◌-◌, ◌≤◌, length, map, drop, name_at, Adds, heads}
 use Rattle.dom_range_ops.proofs.pieces.sides.push_heads.Given as goal
 
 abbrev pub invariant-loop-at : goal.invariant-loop-at

@@ -1,7 +1,5 @@
-use Rattle.dom_base.proofs.Std.{true, false, map, sym, subst, filter, on_ok_weaker}
-use Rattle.dom_model.proofs.Model.{common_ancestor, is_contained, children_of}
-use Rattle.dom_tree.specs.Definitions.{name_at}
-use Rattle.dom_range_ops.specs.Definitions.{Adds, whole_item, side_items, range_at_points}
+use Rattle.dom_range_ops.proofs.Cited.{true, false, map, sym, subst, filter, on_ok_weaker, common_ancestor, is_contained, children_of, name_at, Adds}
+use Rattle.dom_range_ops.proofs.Cited.{whole_item, side_items, range_at_points}
 use Rattle.dom_range_ops.proofs.PieceLaws.{items-between}
 use Rattle.dom_range_ops.proofs.PieceRuns.{adds-on}
 use Rattle.dom_range_ops.proofs.pieces.sides.push_pieces.Goals as goal

@@ -1,7 +1,5 @@
-use Rattle.dom_base.proofs.Std.{◌≡◌, length, map, not, sym, subst, ◌∙◌, arith, true≢false, eq-eqb, on_ok_weaker}
-use Rattle.dom_model.proofs.Model.{at}
-use Rattle.dom_tree.specs.Definitions.{name_at}
-use Rattle.dom_range_ops.specs.Definitions.{Adds, heads, tails, end_items}
+use Rattle.dom_range_ops.proofs.Cited.{◌≡◌, length, map, not, sym, subst, ◌∙◌, arith, true≢false, eq-eqb, on_ok_weaker, at, name_at, Adds, heads, tails}
+use Rattle.dom_range_ops.proofs.Cited.{end_items}
 use Rattle.dom_range_ops.proofs.PieceRuns.{adds-on}
 use Rattle.dom_range_ops.proofs.PieceSteps.{side-some}
 use Rattle.dom_range_ops.proofs.pieces.sides.push_side.Goals as goal

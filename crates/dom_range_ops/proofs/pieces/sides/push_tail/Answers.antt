@@ -1,12 +1,8 @@
-use Rattle.dom_base.proofs.Std.{[], ◌∷◌, sym, ap, subst, ◌∙◌, map, option_map}
-use Rattle.dom_model.proofs.Model.{name_eq, items_after, siblings}
-use Rattle.dom_tree.specs.Definitions.{name_at}
-use Rattle.dom_tree.proofs.Standing.{Once-forest, Has-forest}
-use Rattle.dom_range_ops.specs.Definitions.{Adds, whole_item, end_item, wholes_if}
-use Rattle.dom_range_ops.specs.declared.pieces.Piece.TheVariants.{End}
+use Rattle.dom_range_ops.proofs.Cited.{[], ◌∷◌, sym, ap, subst, ◌∙◌, map, option_map, name_eq, items_after, siblings, name_at, Once-forest, Has-forest, Adds}
+use Rattle.dom_range_ops.proofs.Cited.{whole_item, end_item, wholes_if, End}
 use Rattle.dom_range_ops.proofs.PieceRuns.{adds-none, adds-on, adds-one, adds-same, sibling-next}
-use Rattle.dom_range_ops.proofs.pieces.sides.push_tail.Goals as goal
 use Rattle.dom_range_ops.proofs.pieces.sides.push_tail.Goals.{then-behind+in_ok-push_siblings, else-behind}
+use Rattle.dom_range_ops.proofs.pieces.sides.push_tail.Goals as goal
 
 pub returns : goal.returns
 returns c =

@@ -1,6 +1,4 @@
-use Rattle.dom_base.proofs.Std.{◌≡◌, suc, ◌+◌, ◌-◌, ◌<◌, length, map, drop, ◌∙◌, arith, get_or_default_zero}
-use Rattle.dom_tree.specs.Definitions.{name_at}
-use Rattle.dom_range_ops.specs.Definitions.{tails}
+use Rattle.dom_range_ops.proofs.Cited.{◌≡◌, suc, ◌+◌, ◌-◌, ◌<◌, length, map, drop, ◌∙◌, arith, get_or_default_zero, name_at, tails}
 use Rattle.dom_range_ops.proofs.PieceRuns.{partway-first, partway-more, partway-all}
 use Rattle.dom_range_ops.proofs.PieceSteps.{tails-keys, tails-last}
 use Rattle.dom_range_ops.proofs.pieces.sides.push_tails.Goals as goal

@@ -1,7 +1,5 @@
-use Rattle.dom_base.proofs.Std.{◌-◌, map, drop}
-use Rattle.dom_tree.specs.Definitions.{name_at}
+use Rattle.dom_range_ops.proofs.Cited.{◌-◌, map, drop, name_at, tails}
 use Rattle.dom_range_ops.proofs.PieceRuns.{Partway}
-use Rattle.dom_range_ops.specs.Definitions.{tails}
 use Rattle.dom_range_ops.proofs.pieces.sides.push_tails.Given as goal
 
 abbrev pub invariant-loop-at : goal.invariant-loop-at
