@@ -1,8 +1,7 @@
 -- The order of boundary points by the places of their nodes: it is decided where the places part.
-use Rattle.dom_base.proofs.Std.{◌≡◌, inl, inr, ℕ, ◌+◌, ◌*◌, ◌<◌, Bool, true, false, List, [], ◌∷◌, ◌++◌, map, eqb, ltb, nat_lt, nat_le, refl, sym, ap, ◌∙◌}
-use Rattle.dom_base.proofs.Std.{arith, true≢false, ◌&&◌, ◌||◌, eq-eqb, eqb-true, lt-ltb, ltb-true, leb-true, leb-false, cases_Bool, false_from_ne_true}
-use Rattle.dom_base.proofs.Std.{map-append, append_assoc}
-use Rattle.dom_model.proofs.Model.{NodeName, place_of, list_before, is_before, at, Trees}
+use Rattle.dom_ranges.proofs.Cited.{◌≡◌, inl, inr, ℕ, ◌+◌, ◌*◌, ◌<◌, Bool, true, false, List, [], ◌∷◌, ◌++◌, map, eqb, ltb, nat_lt, nat_le, refl, sym, ap, ◌∙◌}
+use Rattle.dom_ranges.proofs.Cited.{arith, true≢false, ◌&&◌, ◌||◌, eq-eqb, eqb-true, lt-ltb, ltb-true, leb-true, leb-false, cases_Bool, false_from_ne_true}
+use Rattle.dom_ranges.proofs.Cited.{map-append, append_assoc, NodeName, place_of, list_before, is_before, at, Trees}
 
 -- a child number as the order of boundary points writes it
 abbrev odd : ℕ → ℕ

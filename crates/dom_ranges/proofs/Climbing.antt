@@ -1,11 +1,10 @@
 -- Going up from keys' nodes in a forest, by their places.
-use Rattle.dom_base.proofs.Std.{◌≡◌, ◌≢◌, ℕ, ◌+◌, ◌<◌, inr, inl, true, false, List, [], ◌∷◌, ◌++◌, length, Option, Some, None, refl, sym, ap, subst, ◌∙◌, arith}
-use Rattle.dom_base.proofs.Std.{◌||◌, append-nil, append_assoc, length-append}
-use Rattle.dom_model.proofs.Model.{first_of, same_root, parent_of, index_of, inclusive_ancestors, is_inclusive_ancestor, is_in, name_eq, name_eq-other}
-use Rattle.dom_tree.specs.Definitions.{NamedTrees, name_at, TellApart}
-use Rattle.dom_laws.proofs.Laws.{above-along, In, In-from, is_in-from, above-parent, above-present, above-root}
-use Rattle.dom_tree.proofs.Standing.{StandOnce, StandAlone, Once-forest, Has-forest}
-use Rattle.dom_ranges.specs.Definitions.{AreBeside, depth_at, is_inside, path_at, Reaches}
+use Rattle.dom_ranges.proofs.Cited.{◌≡◌, ◌≢◌, ℕ, ◌+◌, ◌<◌, inr, inl, true, false, List, [], ◌∷◌, ◌++◌, length, Option, Some, None, refl, sym, ap, subst, ◌∙◌}
+use Rattle.dom_ranges.proofs.Cited.{arith, ◌||◌, append-nil, append_assoc, length-append, first_of, same_root, parent_of, index_of, inclusive_ancestors}
+use Rattle.dom_ranges.proofs.Cited.{is_inclusive_ancestor, name_eq, name_eq-other, NamedTrees, name_at, TellApart, above-along, In, In-from, is_in-from}
+use Rattle.dom_ranges.proofs.Cited.{above-parent, above-present, above-root, StandOnce, StandAlone, Once-forest, Has-forest, AreBeside, depth_at, is_inside}
+use Rattle.dom_ranges.proofs.Cited.{path_at, Reaches}
+use Rattle.dom_model.proofs.Model.{is_in}
 use Rattle.dom_ranges.proofs.Places.{place-present, known, path-child, path-root, path-same, path-tree}
 
 -- a list of one item

@@ -1,16 +1,15 @@
 -- What holds of each end of a table's ranges, after each call; and offsets that fit the code's numbers.
-use Rattle.dom_base.proofs.Std.{◌≡◌, inl, inr, ℕ, ◌+◌, ◌-◌, ◌<◌, ◌^◌, Bool, true, false, cond, [], ◌∷◌, ◌++◌, eqb, nat_lt, Option, Some, None, refl, sym, ap}
-use Rattle.dom_base.proofs.Std.{subst, ◌∙◌, arith, slice_get, slice_set, ◌&&◌, option_map, option_flatten, cases_eq, same_Some, none-some}
-use Rattle.dom_model.proofs.Model.{Boundary, Range, at, boundary_eq, after_split}
-use Rattle.dom_ranges.specs.Definitions.{BothEnds, EachRange, Fits, range_in, RangeList}
-use Rattle.dom_ranges.proofs.Lists.{set-at, set-other, append-cases}
+use Rattle.dom_ranges.proofs.Cited.{◌≡◌, inl, inr, ℕ, ◌+◌, ◌-◌, ◌<◌, ◌^◌, Bool, true, false, cond, [], ◌∷◌, ◌++◌, eqb, nat_lt, Option, Some, None, refl, sym}
+use Rattle.dom_ranges.proofs.Cited.{ap, subst, ◌∙◌, arith, slice_get, slice_set, ◌&&◌, option_map, option_flatten, cases_eq, same_Some, none-some, Boundary}
+use Rattle.dom_ranges.proofs.Cited.{slice_get-push, Range, at, boundary_eq, after_split, BothEnds, EachRange, Fits, range_in, RangeList}
+use Rattle.dom_ranges.proofs.Lists.{set-at, set-other}
 
 module _ (P : Boundary ℕ → Type 0) where
   -- a range more
   pub stand-made : (rs : RangeList) (r : Range ℕ) → BothEnds P r → EachRange (BothEnds P) rs → EachRange (BothEnds P) (rs ++ Some r ∷ [])
-  stand-made rs r here each k s e = elim (append-cases rs (Some r) (Some s) k e) [
-    | inl f ↦ each k s f
-    | inr f ↦ subst (BothEnds P) (sym (same_Some _ _ f.1)) here
+  stand-made rs r here each k s e = elim (slice_get-push rs k (Some r) (Some s) e) [
+    | inl f ↦ subst (BothEnds P) (sym (same_Some _ _ f.1)) here
+    | inr f ↦ each k s f
   ]
 
   -- a range with other ends

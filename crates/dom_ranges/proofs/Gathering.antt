@@ -1,12 +1,11 @@
 -- Listed ends that change places while those at one node are brought together and put back in order.
-use Rattle.dom_base.proofs.Std.{◌≡◌, ◌≢◌, ◌⊎◌, inl, inr, ℕ, ◌+◌, ◌-◌, ◌<◌, ◌≤◌, List, [], ◌∷◌, suc, set, length, get_or, take, drop, ◌++◌, sym, ap, ◌∙◌, subst}
-use Rattle.dom_base.proofs.Std.{arith, SwappedAt, RotatedLeft, remove, IsPermutation, IsPermutation-remove, IsPermutation-trans, IsPermutation-sym, true}
-use Rattle.dom_base.proofs.Std.{cases_eq, cases_lt, cases_order, le-leb, lt-ltb, append-nil, drop_at, take_all, get_or-take, get_or-drop, length-drop}
-use Rattle.dom_base.proofs.Std.{length-set, get_or-set_same, take-set-le, drop-set-lt, get_or_append_left, get_or-append_right, length-take-le}
-use borrow.Rule.Slice.PartMut.{put_mid, mid_of}
-use Rattle.dom_ranges.specs.Definitions.{AreAt, AtMostBut, HasChanged, is_in, IsFirm, IsOrdered, IsSortedBeside, IsTurned, point_of, RangeEnd, Span}
-use Rattle.dom_model.proofs.Model.{Boundary}
+use Rattle.dom_ranges.proofs.Cited.{◌≡◌, ◌≢◌, ◌⊎◌, inl, inr, ℕ, ◌+◌, ◌-◌, ◌<◌, ◌≤◌, List, [], ◌∷◌, suc, set, length, get_or, take, drop, ◌++◌, sym, ap, ◌∙◌}
+use Rattle.dom_ranges.proofs.Cited.{subst, arith, SwappedAt, RotatedLeft, remove, IsPermutation, IsPermutation-remove, IsPermutation-trans, IsPermutation-sym}
+use Rattle.dom_ranges.proofs.Cited.{true, cases_eq, cases_lt, cases_order, le-leb, lt-ltb, append-nil, drop_at, take_all, get_or-take, get_or-drop, length-drop}
+use Rattle.dom_ranges.proofs.Cited.{length-set, get_or-set_same, take-set-le, drop-set-lt, get_or_append_left, get_or-append_right, length-take-le, AreAt}
+use Rattle.dom_ranges.proofs.Cited.{AtMostBut, HasChanged, is_in, IsFirm, IsOrdered, IsSortedBeside, IsTurned, point_of, RangeEnd, Span, Boundary}
 use Rattle.dom_ranges.proofs.Orders.{points_same}
+use borrow.Rule.Slice.PartMut.{put_mid, mid_of}
 
 -- an end that is not at the node was put before those that are
 module _ (es now : List RangeEnd) (low node kept i : ℕ) (behind : kept ≤ i) (swapped : SwappedAt es now kept i)
@@ -183,7 +182,7 @@ module _ (es now : List RangeEnd) (first middle behind : ℕ) (one : first ≤ m
       | inr p ↦ elim (stood_before b d) [
         | inl q ↦ by (a + middle - behind) b p.2 q.1
             (keeps (a + middle - behind) b d (above b q.0 (omega (arith, le, p.1)) (a + middle - behind) (omega (arith, p.0)))
-            (omega (arith, same)) (λ f g h i. far b q.0 (omega (arith, h)) i))
+            (omega (arith, same)) (λ f g h i. out b q.0 (omega (arith, h)) i))
         | inr q ↦ elim q [
           | inl r ↦ absurd (omega (arith, le, p.1, r.1))
           | inr r ↦ by (a + middle - behind) (b + middle - behind) p.2 r.2
@@ -199,9 +198,6 @@ module _ (es now : List RangeEnd) (first middle behind : ℕ) (one : first ≤ m
 
       out : (k : ℕ) → (k < first) ⊎ (behind ≤ k) → first ≤ k → k < behind → ⊥
       out k p f g = elim p [ inl l ↦ omega (arith, l, f) | inr l ↦ omega (arith, l, g) ]
-
-      far : (k : ℕ) → (k < first) ⊎ (behind ≤ k) → first ≤ k → k < behind → ⊥
-      far k p f g = out k p f g
 
       below : (k : ℕ) → (k < first) ⊎ (behind ≤ k) → k < behind → (j : ℕ) → first ≤ j → k ≤ j
       below k p l j m = elim p [ inl f ↦ omega (arith, f, m) | inr f ↦ absurd (omega (arith, f, l)) ]

@@ -1,9 +1,8 @@
 -- What a table shows of the slots and the lists that it holds.
-use Rattle.dom_base.proofs.Std.{◌≡◌, Bool, true, false, cond, List, [], ◌∷◌, map, Some, refl, sym, ap, ◌∙◌, true≢false, option_map_or, lookup}
-use Rattle.slab.specs.Slab.{Slab}
-use Rattle.dom_model.proofs.Model.{Owner, Page, Component, ComponentName, owner_eq, same_owner}
+use Rattle.dom_ranges.proofs.Cited.{◌≡◌, Bool, true, false, cond, List, [], ◌∷◌, map, Some, refl, sym, ap, ◌∙◌, true≢false, option_map_or, lookup, Slab, Owner}
+use Rattle.dom_ranges.proofs.Cited.{Page, Component, ComponentName, owner_eq, same_owner, list_of, lists_of, Numbers, Points, range_kept, ranges_of, shown}
+use Rattle.dom_ranges.proofs.Cited.{slots_of}
 use Rattle.dom_base.specs.contracts.OwnerPartialEq.TheImpl as OwnerImpl
-use Rattle.dom_ranges.specs.Definitions.{list_of, lists_of, Numbers, Points, range_kept, ranges_of, shown, slots_of}
 
 -- the list of an owner among lists that were rewritten
 list_of-map : {X Y : Type 0} (f : X → Y) (es : List (Owner × List X)) (o : Owner) → list_of (map (λ e. (e.0, map f e.1)) es) o ≡ map f (list_of es o)

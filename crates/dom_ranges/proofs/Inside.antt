@@ -1,11 +1,7 @@
 -- A walk through the tree of a node, and which nodes are still to come.
-use Rattle.dom_base.proofs.Std.{◌≡◌, inl, inr, ℕ, ◌<◌, length, Option, Some, sym, subst, option_map, ForSome}
-use Rattle.dom_model.proofs.Model.{NodeName, inclusive_descendants}
-use Rattle.dom_tree.specs.Definitions.{NamedTrees, name_at, StandsIn}
+use Rattle.dom_ranges.proofs.Cited.{◌≡◌, inl, inr, ℕ, ◌<◌, length, Option, Some, sym, subst, option_map, ForSome, NodeName, inclusive_descendants, NamedTrees}
+use Rattle.dom_ranges.proofs.Cited.{name_at, StandsIn, In, In-left, here, below, behind_is, above-within, StandOnce, StandAlone, IsWithin-itself}
 use Rattle.dom_laws.specs.Within.{behind, from_node, beyond}
-use Rattle.dom_laws.proofs.Laws.{In, In-left, here, below, behind_is, above-within}
-use Rattle.dom_tree.proofs.Standing.{StandOnce, StandAlone}
-use Rattle.dom_tree.proofs.Searching.{IsWithin-itself}
 
 module _ (f : NamedTrees) (top : ℕ) where
   -- the names from a key on, in the tree of the top

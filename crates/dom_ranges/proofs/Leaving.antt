@@ -1,12 +1,9 @@
 -- The ends of all ranges as a rule moves them: in two steps, or not at all.
-use Rattle.dom_base.proofs.Std.{◌≡◌, inl, inr, ℕ, suc, ◌+◌, ◌-◌, ◌<◌, Bool, true, false, cond, List, [], ◌∷◌, length, get_or, Option, Some, None, is_some, eqb}
-use Rattle.dom_base.proofs.Std.{nat_lt, refl, sym, ap, ◌∙◌, subst, arith, slice_get, ◌&&◌, option_map, ForSome, eqb-true, ltb-true, false_from_ne_true}
-use Rattle.dom_base.proofs.Std.{slice_get-map}
-use Rattle.slab.specs.Slab.{Slab, get}
-use Rattle.dom_model.proofs.Model.{Owner, Boundary, at, map_ends, after_insert, after_removal, after_join}
-use Rattle.dom_ranges.specs.Definitions.{after_closing, after_leaving, BothEnds, EachRange, end_in, end_of, ends_by, HaveNumbers, IsListed, IsNear}
-use Rattle.dom_ranges.specs.Definitions.{IsSortedByPoint, IsUpTo, Numbers, point_of, Points, range_from, range_kept, RangeEnd, RangeList, RangeLists, ranges_of}
-use Rattle.dom_ranges.specs.Definitions.{slots_of}
+use Rattle.dom_ranges.proofs.Cited.{◌≡◌, inl, inr, ℕ, suc, ◌+◌, ◌-◌, ◌<◌, Bool, true, false, cond, List, [], ◌∷◌, length, get_or, Option, Some, None, is_some}
+use Rattle.dom_ranges.proofs.Cited.{eqb, nat_lt, refl, sym, ap, ◌∙◌, subst, arith, slice_get, ◌&&◌, option_map, ForSome, eqb-true, ltb-true, false_from_ne_true}
+use Rattle.dom_ranges.proofs.Cited.{slice_get-map, Slab, get, Owner, Boundary, at, map_ends, after_insert, after_removal, after_join, after_closing}
+use Rattle.dom_ranges.proofs.Cited.{after_leaving, BothEnds, EachRange, end_in, end_of, ends_by, HaveNumbers, IsListed, IsNear, IsSortedByPoint, IsUpTo}
+use Rattle.dom_ranges.proofs.Cited.{Numbers, point_of, Points, range_from, range_kept, RangeEnd, RangeList, RangeLists, ranges_of, slots_of}
 use Rattle.dom_ranges.proofs.Lists.{cons_same}
 use Rattle.dom_ranges.proofs.Listing.{listed-once}
 use Rattle.dom_ranges.proofs.Moved.{both_same}

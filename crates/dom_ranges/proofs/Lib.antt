@@ -1,3 +1,4 @@
+mod Cited
 pub mod Lists
 mod Holding
 mod SlotLists

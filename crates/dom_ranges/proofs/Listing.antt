@@ -1,13 +1,10 @@
 -- The list of ends, each once, as ends come, go and change their nodes.
-use Rattle.dom_base.proofs.Std.{◌≡◌, ◌≢◌, ◌⊎◌, inl, inr, ℕ, zero, suc, ◌+◌, ◌<◌, ◌≤◌, Bool, true, false, cond, List, [], ◌∷◌, ◌++◌, length, get_or, ◌-◌, Option}
-use Rattle.dom_base.proofs.Std.{Some, None, is_some, IsSome, eqb, refl, sym, ap, ◌∙◌, subst, arith, true≢false, ◌&&◌, not, All, option_map, IsPermutation}
-use Rattle.dom_base.proofs.Std.{cases_Bool, cases_eq, cases_lt, eq-eqb, eqb-true, get_or-append_right, get_or_append_left, length-append, sum_by-cons}
-use Rattle.dom_base.proofs.Std.{sum_by-append, get_or-le-sum_by, IsPermutation-refl, IsPermutation-cons, IsPermutation-trans, IsPermutation-append_comm}
-use Rattle.dom_base.proofs.Std.{All-permutation, sum_by-IsPermutation, same_Some}
-use Rattle.slab.specs.Slab.{Slab, get, Updates}
-use Rattle.dom_model.proofs.Model.{Boundary}
-use Rattle.dom_ranges.specs.Definitions.{end_in, end_of, HasChanged, is_end_of, IsListed, IsListedOnce, point_at, point_of, Points, RangeEnd, Stands, times}
-use Rattle.dom_ranges.specs.Definitions.{with_end_at}
+use Rattle.dom_ranges.proofs.Cited.{◌≡◌, ◌≢◌, ◌⊎◌, inl, inr, ℕ, zero, suc, ◌+◌, ◌<◌, ◌≤◌, Bool, true, false, cond, List, [], ◌∷◌, ◌++◌, length, get_or, ◌-◌}
+use Rattle.dom_ranges.proofs.Cited.{Option, Some, None, is_some, IsSome, eqb, refl, sym, ap, ◌∙◌, subst, arith, true≢false, ◌&&◌, not, All, option_map}
+use Rattle.dom_ranges.proofs.Cited.{IsPermutation, cases_Bool, cases_eq, cases_lt, eq-eqb, eqb-true, get_or-append_right, get_or_append_left, length-append}
+use Rattle.dom_ranges.proofs.Cited.{sum_by-cons, sum_by-append, get_or-le-sum_by, IsPermutation-refl, IsPermutation-cons, IsPermutation-trans}
+use Rattle.dom_ranges.proofs.Cited.{IsPermutation-append_comm, All-permutation, sum_by-IsPermutation, same_Some, Slab, get, Updates, Boundary, end_in, end_of}
+use Rattle.dom_ranges.proofs.Cited.{HasChanged, is_end_of, IsListed, IsListedOnce, point_at, point_of, Points, RangeEnd, Stands, times, with_end_at}
 
 -- one for true
 abbrev bit : Bool → ℕ

@@ -1,6 +1,5 @@
 -- Lists that are rewritten item by item, and read after one item was set.
-use Rattle.dom_base.proofs.Std.{◌≡◌, ℕ, zero, suc, List, [], ◌∷◌, ◌++◌, length, map, Option, Some, None, refl, sym, ap, ◌∙◌, ◌⊎◌, inl, inr, arith, slice_get}
-use Rattle.dom_base.proofs.Std.{slice_set, option_flatten}
+use Rattle.dom_ranges.proofs.Cited.{◌≡◌, ℕ, zero, suc, List, [], ◌∷◌, map, Option, Some, None, refl, sym, ap, ◌∙◌, arith, slice_get, slice_set, option_flatten}
 
 -- the same first item and the same rest
 pub cons_same : {X : Type 0} (x y : X) (xs ys : List X) → x ≡ y → xs ≡ ys → x ∷ xs ≡ y ∷ ys
@@ -56,21 +55,3 @@ set-other (z ∷ xs) zero x zero off = absurd (off refl)
 set-other (z ∷ xs) zero x (suc j) off = refl
 set-other (z ∷ xs) (suc k) x zero off = refl
 set-other (z ∷ xs) (suc k) x (suc j) off = set-other xs k x j (λ e. off (ap suc e))
-
--- an item of a list with one more at its end
-pub append-cases : {X : Type 0} (xs : List X) (x y : X) (j : ℕ) → slice_get (xs ++ x ∷ []) j ≡ Some y → (slice_get xs j ≡ Some y) ⊎ ((j ≡ length xs) × (y ≡ x))
-append-cases [] x y zero e = inr (refl, cc)
-append-cases [] x y (suc j) e = cc
-append-cases (z ∷ xs) x y zero e = inl e
-append-cases (z ∷ xs) x y (suc j) e = elim (append-cases xs x y j e) [ inl f ↦ inl f | inr f ↦ inr (ap suc f.0, f.1) ]
-
--- an item stays where others come behind it
-pub append-kept : {X : Type 0} (xs ys : List X) (y : X) (j : ℕ) → slice_get xs j ≡ Some y → slice_get (xs ++ ys) j ≡ Some y
-append-kept [] ys y j e = cc
-append-kept (z ∷ xs) ys y zero e = e
-append-kept (z ∷ xs) ys y (suc j) e = append-kept xs ys y j e
-
--- the item at the end
-pub append-last : {X : Type 0} (xs : List X) (x : X) → slice_get (xs ++ x ∷ []) (length xs) ≡ Some x
-append-last [] x = refl
-append-last (z ∷ xs) x = append-last xs x

@@ -1,10 +1,8 @@
 -- The ends of all ranges after two parts of their list were moved.
-use Rattle.dom_base.proofs.Std.{◌≡◌, ◌⊎◌, inl, inr, ℕ, ◌<◌, ◌≤◌, Bool, true, false, not, cond, ◌&&◌, List, length, get_or, min, max, Option, Some, None}
-use Rattle.dom_base.proofs.Std.{is_some, refl, sym, ap, ◌∙◌, subst, arith, option_map, ForSome, cases_Bool, cases_lt, same_Some}
-use Rattle.slab.specs.Slab.{Slab, get}
-use Rattle.dom_model.proofs.Model.{Boundary, at, from_to, map_ends}
-use Rattle.dom_ranges.specs.Definitions.{AreAllIn, BothEnds, end_in, end_of, is_chosen, is_in, IsFirm, IsListed, IsMovedPart, IsSortedBeside, IsSortedBut}
-use Rattle.dom_ranges.specs.Definitions.{IsSortedByPoint, KeepsOrder, KeepsOrderBut, point_at, point_of, Points, range_from, RangeEnd, Span}
+use Rattle.dom_ranges.proofs.Cited.{◌≡◌, ◌⊎◌, inl, inr, ℕ, ◌<◌, ◌≤◌, Bool, true, false, not, cond, ◌&&◌, List, length, get_or, min, max, Option, Some, None}
+use Rattle.dom_ranges.proofs.Cited.{is_some, refl, sym, ap, ◌∙◌, subst, arith, option_map, ForSome, cases_Bool, cases_lt, same_Some, Slab, get, Boundary, at}
+use Rattle.dom_ranges.proofs.Cited.{from_to, map_ends, AreAllIn, BothEnds, end_in, end_of, is_chosen, is_in, IsFirm, IsListed, IsMovedPart, IsSortedBeside}
+use Rattle.dom_ranges.proofs.Cited.{IsSortedBut, IsSortedByPoint, KeepsOrder, KeepsOrderBut, point_at, point_of, Points, range_from, RangeEnd, Span}
 use Rattle.dom_ranges.proofs.Listing.{is_end_of-true, counts-listed, times-same}
 use Rattle.dom_ranges.proofs.Parts.{outside-part}
 

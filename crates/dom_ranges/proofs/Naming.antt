@@ -1,15 +1,13 @@
 -- The laws of the table read in names.
-use Rattle.dom_base.proofs.Std.{◌≡◌, inl, inr, ℕ, zero, suc, ◌+◌, ◌-◌, ◌<◌, Bool, true, false, not, cond, List, [], ◌∷◌, ◌++◌, length, eqb, nat_lt, nat_le}
-use Rattle.dom_base.proofs.Std.{Option, Some, None, refl, sym, ap, subst, ◌∙◌, arith, true≢false, slice_get, slice_set, ◌&&◌, ◌||◌, ◌==◌, option_map}
-use Rattle.dom_base.proofs.Std.{option_flatten, cases_Bool, eqb-true, eq-eqb, map-set, map-append, length-append, same_Some, none-some, slice_get-map}
-use Rattle.dom_model.proofs.Model.{Owner, NodeName, name_eq, owner_eq, name_eq-same, owner_eq-true, name_eq-other, Boundary, with_start, with_end, Range, at}
-use Rattle.dom_model.proofs.Model.{from_to, map_ends, boundary_eq, after_insert, after_removal, after_replace_data, after_split, after_join}
-use Rattle.dom_model.proofs.Model.{is_inclusive_ancestor}
-use Rattle.dom_tree.specs.Definitions.{NamedTrees, name_at, TellApart}
-use Rattle.dom_ranges.specs.Definitions.{BothEnds, CollapsedNamed, EachRange, end_set, EndNamed, ends_by, GrownNamed, have_one_root, InsertNamed, is_inside}
-use Rattle.dom_ranges.specs.Definitions.{is_key_before, IsAtNode, IsNamedRule, JoinNamed, MadeNamed, named_boundary, named_ends_by, named_range, named_ranges}
-use Rattle.dom_ranges.specs.Definitions.{range_in, RangeList, RangeLists, ranges_of, RemovalNamed, RemovedNamed, ReplaceDataNamed, RewrittenNamed, SplitNamed}
-use Rattle.dom_ranges.specs.Definitions.{StandAtNodes, start_set, StartNamed, with_named, with_ranges}
+use Rattle.dom_ranges.proofs.Cited.{◌≡◌, inl, inr, ℕ, zero, suc, ◌+◌, ◌-◌, ◌<◌, Bool, true, false, not, cond, List, [], ◌∷◌, ◌++◌, length, eqb, nat_lt, nat_le}
+use Rattle.dom_ranges.proofs.Cited.{Option, Some, None, refl, sym, ap, subst, ◌∙◌, arith, true≢false, slice_get, slice_set, ◌&&◌, ◌||◌, ◌==◌, option_map}
+use Rattle.dom_ranges.proofs.Cited.{option_flatten, cases_Bool, eqb-true, eq-eqb, map-set, map-append, length-append, same_Some, none-some, slice_get-map}
+use Rattle.dom_ranges.proofs.Cited.{Owner, NodeName, name_eq, owner_eq, name_eq-same, owner_eq-true, name_eq-other, Boundary, with_start, with_end, Range, at}
+use Rattle.dom_ranges.proofs.Cited.{from_to, map_ends, boundary_eq, after_insert, after_removal, after_replace_data, after_split, after_join}
+use Rattle.dom_ranges.proofs.Cited.{is_inclusive_ancestor, NamedTrees, name_at, TellApart, BothEnds, CollapsedNamed, EachRange, end_set, EndNamed, ends_by}
+use Rattle.dom_ranges.proofs.Cited.{GrownNamed, have_one_root, InsertNamed, is_inside, is_key_before, IsAtNode, IsNamedRule, JoinNamed, MadeNamed}
+use Rattle.dom_ranges.proofs.Cited.{named_boundary, named_ends_by, named_range, named_ranges, range_in, RangeList, RangeLists, ranges_of, RemovalNamed}
+use Rattle.dom_ranges.proofs.Cited.{RemovedNamed, ReplaceDataNamed, RewrittenNamed, SplitNamed, StandAtNodes, start_set, StartNamed, with_named, with_ranges}
 use Rattle.dom_ranges.proofs.Lists.{cons_same}
 
 -- ---- lists of ranges, each rewritten

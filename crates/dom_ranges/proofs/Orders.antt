@@ -1,8 +1,7 @@
 -- The order of boundary points in the list of ends, and the tests by which it is searched.
-use Rattle.dom_base.proofs.Std.{◌≡◌, inl, inr, ℕ, ◌≤◌, Bool, true, false, List, get_or, eqb, ltb, leb, sym, ap, subst, arith, ◌&&◌, ◌||◌, IsPartitionedBy}
-use Rattle.dom_base.proofs.Std.{cases_Bool, or_cases, or_parts, and_parts, and_cases, eqb-true, eqb-false, ltb-true, ltb-false, leb-true, leb-false}
-use Rattle.dom_model.proofs.Model.{Boundary}
-use Rattle.dom_ranges.specs.Definitions.{AtMost, AtMostBut, IsOrdered, IsSortedByNode, IsSortedByPoint, LessThan, point_of, RangeEnd}
+use Rattle.dom_ranges.proofs.Cited.{◌≡◌, inl, inr, ℕ, ◌≤◌, Bool, true, false, List, get_or, eqb, ltb, leb, sym, ap, subst, arith, ◌&&◌, ◌||◌, IsPartitionedBy}
+use Rattle.dom_ranges.proofs.Cited.{cases_Bool, or_cases, or_parts, and_parts, and_cases, eqb-true, eqb-false, ltb-true, ltb-false, leb-true, leb-false}
+use Rattle.dom_ranges.proofs.Cited.{Boundary, AtMost, AtMostBut, IsOrdered, IsSortedByNode, IsSortedByPoint, LessThan, point_of, RangeEnd}
 
 -- whether a listed end is at a boundary point or before it
 abbrev pub is_at_most : Boundary ℕ → RangeEnd → Bool

@@ -1,13 +1,10 @@
 -- The order of an owner's boundary points of one tree is the same among all trees and among the owner's own.
-use Rattle.dom_base.proofs.Std.{◌≡◌, ◌⊎◌, ℕ, ◌+◌, ◌*◌, Bool, true, false, not, cond, ltb, ◌&&◌, List, [], ◌∷◌, ◌++◌, drop, map, Option, Some, None, refl, sym}
-use Rattle.dom_base.proofs.Std.{ap, ◌∙◌, inl, inr, arith, option_map, unwrap_or, option_or, cases_Bool, eq-eqb, ltb-true, false_from_ne_true, same_Some}
-use Rattle.dom_model.proofs.Model.{NodeName, Owner, owner_eq, name_eq, first_of, Boundary, place_from, place_of, list_before, is_before, same_root, Range}
-use Rattle.dom_model.proofs.Model.{from_to, with_start, with_end, Trees, none, tree, root_of, owner_eq-false, name_eq-turned}
-use Rattle.dom_tree.proofs.Standing.{once_own}
-use Rattle.dom_tree.specs.Definitions.{AreOf, HaveOwners, AreOwned, trees_of_owner}
+use Rattle.dom_ranges.proofs.Cited.{◌≡◌, ◌⊎◌, ℕ, ◌+◌, ◌*◌, Bool, true, false, not, cond, ltb, ◌&&◌, List, [], ◌∷◌, ◌++◌, drop, map, Option, Some, None, refl}
+use Rattle.dom_ranges.proofs.Cited.{sym, ap, ◌∙◌, inl, inr, arith, option_map, unwrap_or, option_or, cases_Bool, eq-eqb, ltb-true, false_from_ne_true}
+use Rattle.dom_ranges.proofs.Cited.{same_Some, NodeName, Owner, owner_eq, name_eq, first_of, Boundary, place_from, place_of, list_before, is_before, same_root}
+use Rattle.dom_ranges.proofs.Cited.{Range, from_to, with_start, with_end, Trees, none, tree, root_of, owner_eq-false, name_eq-turned, once_own, AreOf}
+use Rattle.dom_ranges.proofs.Cited.{HaveOwners, AreOwned, trees_of_owner, Has, Once, name_apart, read_own}
 use Rattle.dom_ranges.proofs.Places.{place-at_root, known, path-tree}
-use Rattle.dom_laws.proofs.Laws.{Has, Once}
-use Rattle.dom_tree.proofs.Owned.{name_apart, read_own}
 
 -- ---- places
 

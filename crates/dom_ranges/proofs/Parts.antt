@@ -1,10 +1,8 @@
 -- The ends that are listed in a part are moved, one after another.
-use Rattle.dom_base.proofs.Std.{◌≡◌, ◌≢◌, ◌⊎◌, inl, inr, ℕ, ◌+◌, ◌<◌, ◌≤◌, Bool, true, false, List, length, get_or, set, min, [], ◌∷◌, Option, Some, None, ltb}
-use Rattle.dom_base.proofs.Std.{leb, refl, sym, ap, ◌∙◌, subst, arith, true≢false, ◌&&◌, not, cases_Bool, cases_eq, leb-true, ltb-true, le-leb, lt-ltb}
-use Rattle.dom_base.proofs.Std.{option_map, get_or-set_same, get_or-set_other, length-set, IsPermutation-refl, same_Some}
-use Rattle.slab.specs.Slab.{Slab, get}
-use Rattle.dom_model.proofs.Model.{Boundary}
-use Rattle.dom_ranges.specs.Definitions.{end_in, end_of, HasChanged, is_chosen, is_in, IsListed, IsMovedPart, point_of, Points, RangeEnd, Span, Stands}
+use Rattle.dom_ranges.proofs.Cited.{◌≡◌, ◌≢◌, ◌⊎◌, inl, inr, ℕ, ◌+◌, ◌<◌, ◌≤◌, Bool, true, false, List, length, get_or, set, min, [], ◌∷◌, Option, Some, None}
+use Rattle.dom_ranges.proofs.Cited.{ltb, leb, refl, sym, ap, ◌∙◌, subst, arith, true≢false, ◌&&◌, not, cases_Bool, cases_eq, leb-true, ltb-true, le-leb, lt-ltb}
+use Rattle.dom_ranges.proofs.Cited.{option_map, get_or-set_same, get_or-set_other, length-set, IsPermutation-refl, same_Some, Slab, get, Boundary, end_in}
+use Rattle.dom_ranges.proofs.Cited.{end_of, HasChanged, is_chosen, is_in, IsListed, IsMovedPart, point_of, Points, RangeEnd, Span, Stands}
 use Rattle.dom_ranges.proofs.Gathering.{HasChanged-set}
 use Rattle.dom_ranges.proofs.Listing.{IsPut, IsListed-put, end-same}
 

@@ -1,10 +1,10 @@
 -- Where nodes stand, as lists of numbers, in trees in which each name stands once.
-use Rattle.dom_base.proofs.Std.{◌≡◌, inl, inr, ℕ, ◌+◌, ◌≤◌, ◌<◌, List, [], ◌∷◌, ◌++◌, length, Option, Some, None, true, false, refl, sym, ap, subst, ◌∙◌, arith}
-use Rattle.dom_base.proofs.Std.{zero-add, drop, unwrap_or, option_map_or, same_Some, none-some}
-use Rattle.dom_model.proofs.Model.{NodeName, name_eq, first_of, last_of, items_before, place_from, place_of, same_root, Trees, none, tree, Node, names_of}
-use Rattle.dom_model.proofs.Model.{roots, trees_below, inclusive_ancestors, parent_of, root_of, index_of, children_of, name_eq-other, name_eq-true}
-use Rattle.dom_laws.proofs.Laws.{name_eq-from, last_of-end, once_apart, Has, subtree-here, subtree-below, subtree-beside, above-here, above-below, above-beside}
-use Rattle.dom_laws.proofs.Laws.{above-present, above-parent, above-root, Once, two_or_more}
+use Rattle.dom_ranges.proofs.Cited.{◌≡◌, inl, inr, ℕ, ◌+◌, ◌≤◌, ◌<◌, List, [], ◌∷◌, ◌++◌, length, Option, Some, None, true, false, refl, sym, ap, subst, ◌∙◌}
+use Rattle.dom_ranges.proofs.Cited.{arith, zero-add, drop, unwrap_or, option_map_or, same_Some, none-some, NodeName, name_eq, first_of, last_of, items_before}
+use Rattle.dom_ranges.proofs.Cited.{place_from, place_of, same_root, Trees, none, tree, Node, names_of, roots, trees_below, inclusive_ancestors, parent_of}
+use Rattle.dom_ranges.proofs.Cited.{root_of, index_of, children_of, name_eq-other, name_eq-true, name_eq-from, last_of-end, once_apart, Has, subtree-here}
+use Rattle.dom_ranges.proofs.Cited.{subtree-below, subtree-beside, above-here, above-below, above-beside, above-present, above-parent, above-root, Once}
+use Rattle.dom_ranges.proofs.Cited.{two_or_more}
 
 -- a name that stands nowhere has no place
 place-absent : (ts : Trees) (k : ℕ) (x : NodeName) → (Has ts x → ⊥) → place_from k ts x ≡ None

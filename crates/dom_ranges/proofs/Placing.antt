@@ -1,15 +1,13 @@
 -- Ends that are brought to their place in a sorted list.
-use Rattle.dom_base.proofs.Std.{◌≡◌, ◌≢◌, ◌⊎◌, inl, inr, ℕ, ◌+◌, ◌-◌, ◌<◌, ◌≤◌, List, [], ◌∷◌, zero, suc, set, length, get_or, ◌++◌, refl, sym, ap, ◌∙◌, subst}
-use Rattle.dom_base.proofs.Std.{arith, true, true≢false, remove, IsNonDecreasingBy, IsPermutation, cases_lt, get_or_append_left, get_or-append_right}
-use Rattle.dom_base.proofs.Std.{length-append, length-set, get_or-set_same, get_or-set_other, length-remove, get_or-remove_below, get_or-remove_above}
-use Rattle.dom_base.proofs.Std.{All-permutation, length_permutation, IsPermutation-put_mid}
-use borrow.Rule.Slice.PartMut.{put_mid, mid_of}
-use Rattle.dom_model.proofs.Model.{Boundary}
-use Rattle.dom_ranges.specs.Definitions.{AreAt, AtMost, AtMostBut, is_in, IsOrdered, IsSortedBeside, IsSortedBut, IsSortedByPoint, IsTurned, LessThan}
-use Rattle.dom_ranges.specs.Definitions.{offset_of, point_of, RangeEnd, Span}
+use Rattle.dom_ranges.proofs.Cited.{◌≡◌, ◌≢◌, ◌⊎◌, inl, inr, ℕ, ◌+◌, ◌-◌, ◌<◌, ◌≤◌, List, [], ◌∷◌, zero, suc, set, length, get_or, ◌++◌, refl, sym, ap, ◌∙◌}
+use Rattle.dom_ranges.proofs.Cited.{subst, arith, true, true≢false, remove, IsNonDecreasingBy, IsPermutation, cases_lt, get_or_append_left, get_or-append_right}
+use Rattle.dom_ranges.proofs.Cited.{length-append, length-set, get_or-set_same, get_or-set_other, length-remove, get_or-remove_below, get_or-remove_above}
+use Rattle.dom_ranges.proofs.Cited.{All-permutation, length_permutation, IsPermutation-put_mid, Boundary, AreAt, AtMost, AtMostBut, is_in, IsOrdered}
+use Rattle.dom_ranges.proofs.Cited.{IsSortedBeside, IsSortedBut, IsSortedByPoint, IsTurned, LessThan, offset_of, point_of, RangeEnd, Span}
 use Rattle.dom_ranges.proofs.Gathering.{IsOrdered-turned, length-mid, mid-outside, mid-part, mid-was}
 use Rattle.dom_ranges.proofs.Orders.{AtMostBut-nodes, points_same}
 use Rattle.dom_ranges.proofs.Parts.{outside-part}
+use borrow.Rule.Slice.PartMut.{put_mid, mid_of}
 
 -- a group of ends in a list, where the ends outside it are in order among themselves, and those of the group too
 pub record HasGroup (R : Boundary ℕ → Boundary ℕ → Type 0) (es : List RangeEnd) (first high : ℕ) : Type 0 where

@@ -1,12 +1,9 @@
 -- The index of a node by the sibling before it.
-use Rattle.dom_base.proofs.Std.{◌≡◌, inl, ℕ, ◌+◌, ◌<◌, true, [], ◌∷◌, ◌++◌, length, Option, Some, None, refl, sym, ap, subst, ◌∙◌, arith, append_assoc}
-use Rattle.dom_base.proofs.Std.{length-append, option_map, option_map_or, none-some}
-use Rattle.dom_model.proofs.Model.{NodeName, name_eq, last_of, items_before, items_after, name_eq-same, Trees, children_of, parent_of, siblings}
-use Rattle.dom_model.proofs.Model.{previous_sibling, index_of}
-use Rattle.dom_tree.specs.Definitions.{NamedTrees, name_at}
-use Rattle.dom_laws.proofs.Laws.{In, In-right, Single, Single-apart, no_last, last_split, split_at, before-split, Has, Once, parent-of_child, child-of_parent}
-use Rattle.dom_laws.proofs.Laws.{children-single}
-use Rattle.dom_tree.proofs.Standing.{StandOnce, StandAlone, Once-forest, Has-forest}
+use Rattle.dom_ranges.proofs.Cited.{◌≡◌, inl, ℕ, ◌+◌, ◌<◌, true, [], ◌∷◌, ◌++◌, length, Option, Some, None, refl, sym, ap, subst, ◌∙◌, arith, append_assoc}
+use Rattle.dom_ranges.proofs.Cited.{length-append, option_map, option_map_or, none-some, NodeName, name_eq, last_of, items_before, items_after, name_eq-same}
+use Rattle.dom_ranges.proofs.Cited.{Trees, children_of, parent_of, siblings, previous_sibling, index_of, NamedTrees, name_at, In, In-right, Single}
+use Rattle.dom_ranges.proofs.Cited.{Single-apart, no_last, last_split, split_at, before-split, Has, Once, parent-of_child, child-of_parent, children-single}
+use Rattle.dom_ranges.proofs.Cited.{StandOnce, StandAlone, Once-forest, Has-forest}
 
 module _ (ts : Trees) (once : Once ts) where
   -- without a sibling before it its index is 0

@@ -1,10 +1,8 @@
 -- The slots of all owners, after a component's list of slots was written.
-use Rattle.dom_base.proofs.Std.{◌≡◌, ◌≢◌, ℕ, ◌<◌, cond, List, [], Option, Some, Vec, Global, refl, sym, ap, ◌∙◌, subst, MatchOption, get, option_map_or}
-use Rattle.dom_base.proofs.Std.{vec_len, vec_capacity, cond-false}
-use Rattle.dom_model.proofs.Model.{Owner, Page, Component, owner_eq, ne-owner_eq}
+use Rattle.dom_ranges.proofs.Cited.{◌≡◌, ◌≢◌, ℕ, ◌<◌, cond, List, [], Option, Some, Vec, Global, refl, sym, ap, ◌∙◌, subst, MatchOption, option_map_or, vec_len}
+use Rattle.dom_ranges.proofs.Cited.{vec_capacity, cond-false, Owner, Page, Component, owner_eq, ne-owner_eq, had, written-same, HasRoom, Numbers, slots_of}
+use Rattle.dom_base.proofs.Std.{get}
 use Rattle.dom_base.specs.contracts.OwnerPartialEq.TheImpl as OwnerImpl
-use Rattle.dom_tree.proofs.OwnerLists.{had, written-same}
-use Rattle.dom_ranges.specs.Definitions.{HasRoom, Numbers, slots_of}
 
 -- a component's list with room has room for one slot more
 pub room_of : (n : Numbers) (owner : Owner) (v : Vec (Option ℕ) Global) → owner ≢ Page → get OwnerImpl.ghosts.eq n.components owner ≡ Some v →

@@ -1,14 +1,11 @@
 -- The ends of a table's ranges stay at nodes, and below a bound.
-use Rattle.dom_base.proofs.Std.{◌≡◌, inl, inr, ℕ, zero, suc, ◌+◌, ◌-◌, ◌≤◌, Bool, true, false, not, cond, List, [], ◌∷◌, ◌++◌, eqb, nat_lt, nat_le, Option}
-use Rattle.dom_base.proofs.Std.{Some, None, refl, sym, subst, arith, true≢false, slice_get, slice_set, ◌&&◌, ◌||◌, option_map, option_flatten, eqb-true}
-use Rattle.dom_base.proofs.Std.{leb-false, or_parts, same_Some, none-some}
-use Rattle.dom_model.proofs.Model.{Owner, NodeName, owner_eq, Boundary, Range, at, from_to, boundary_eq, after_insert, after_removal, after_replace_data}
-use Rattle.dom_model.proofs.Model.{after_split, after_join}
-use Rattle.node_arena.proofs.Numbers.{slice_get-set}
-use Rattle.dom_ranges.specs.Definitions.{BothEnds, Brings, collapsed_range, CollapsedWithin, EachRange, end_set, EndWithin, HasRanges, have_one_root}
-use Rattle.dom_ranges.specs.Definitions.{InsertWithin, is_inside, is_key_before, IsWithin, JoinWithin, MadeWithin, MoreWithin, NoneWithin, range_in, RangeList}
-use Rattle.dom_ranges.specs.Definitions.{RangeLists, ranges_of, RemovalWithin, RemovedWithin, ReplaceDataWithin, SameWithin, SomeWithin, SplitWithin, start_set}
-use Rattle.dom_ranges.specs.Definitions.{StartWithin, WithinAtNodes, WrittenWithin}
+use Rattle.dom_ranges.proofs.Cited.{◌≡◌, inl, inr, ℕ, zero, suc, ◌+◌, ◌-◌, ◌≤◌, Bool, true, false, not, cond, List, [], ◌∷◌, ◌++◌, eqb, nat_lt, nat_le, Option}
+use Rattle.dom_ranges.proofs.Cited.{Some, None, refl, sym, subst, arith, true≢false, slice_get, slice_set, ◌&&◌, ◌||◌, option_map, option_flatten, eqb-true}
+use Rattle.dom_ranges.proofs.Cited.{leb-false, or_parts, same_Some, none-some, Owner, NodeName, owner_eq, Boundary, Range, at, from_to, boundary_eq}
+use Rattle.dom_ranges.proofs.Cited.{after_insert, after_removal, after_replace_data, after_split, after_join, slice_get-set, BothEnds, Brings, collapsed_range}
+use Rattle.dom_ranges.proofs.Cited.{CollapsedWithin, EachRange, end_set, EndWithin, HasRanges, have_one_root, InsertWithin, is_inside, is_key_before, IsWithin}
+use Rattle.dom_ranges.proofs.Cited.{JoinWithin, MadeWithin, MoreWithin, NoneWithin, range_in, RangeList, RangeLists, ranges_of, RemovalWithin, RemovedWithin}
+use Rattle.dom_ranges.proofs.Cited.{ReplaceDataWithin, SameWithin, SomeWithin, SplitWithin, start_set, StartWithin, WithinAtNodes, WrittenWithin}
 use Rattle.dom_ranges.proofs.Naming.{EachRange-ends}
 
 -- ---- lists of ranges

@@ -1,10 +1,8 @@
 -- A table without live ranges: no rule rewrites anything there. And what is held, by what is shown.
-use Rattle.dom_base.proofs.Std.{◌≡◌, ◌⊎◌, inl, inr, ℕ, zero, suc, Bool, true, false, cond, List, [], ◌∷◌, Option, Some, None, is_some, refl, sym, ap, ◌∙◌}
-use Rattle.dom_base.proofs.Std.{arith, count_by, slice_index_or, option_map, option_flatten, same_Some, none-some, sum_by-cons}
-use Rattle.slab.specs.Slab.{Slab, get, slab_len}
-use Rattle.dom_model.proofs.Model.{Owner, Boundary}
-use Rattle.dom_ranges.specs.Definitions.{end_in, end_of, ends_by, HasEndAt, HaveNumbers, IsListed, IsListedAt, Numbers, Points, range_from, range_in}
-use Rattle.dom_ranges.specs.Definitions.{range_kept, RangeEnd, RangeList, RangeLists, ranges_of}
+use Rattle.dom_ranges.proofs.Cited.{◌≡◌, ◌⊎◌, inl, inr, ℕ, zero, suc, Bool, true, false, cond, List, [], ◌∷◌, Option, Some, None, is_some, refl, sym, ap, ◌∙◌}
+use Rattle.dom_ranges.proofs.Cited.{arith, count_by, slice_index_or, option_map, option_flatten, same_Some, none-some, sum_by-cons, Slab, get, slab_len, Owner}
+use Rattle.dom_ranges.proofs.Cited.{Boundary, end_in, end_of, ends_by, HasEndAt, HaveNumbers, IsListed, IsListedAt, Numbers, Points, range_from, range_in}
+use Rattle.dom_ranges.proofs.Cited.{range_kept, RangeEnd, RangeList, RangeLists, ranges_of}
 use Rattle.dom_ranges.proofs.Writing.{Shows, range-standing}
 
 -- no rule rewrites anything

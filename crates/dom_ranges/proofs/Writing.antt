@@ -1,13 +1,12 @@
 -- What a table shows and keeps when a slot is written, filled or emptied.
-use Rattle.dom_base.proofs.Std.{◌≡◌, ◌≢◌, ℕ, Bool, true, false, cond, List, [], ◌∷◌, ◌++◌, length, map, Option, Some, None, IsSome, is_some, refl, sym, ap}
-use Rattle.dom_base.proofs.Std.{subst, ◌∙◌, ◌⊎◌, inl, inr, true≢false, slice_get, slice_set, if◌then◌else◌, option_map, option_flatten, cases_Bool, cases_eq}
-use Rattle.dom_base.proofs.Std.{map-append, map-set, length-map, same_Some, none-some, slice_get-map}
-use Rattle.slab.specs.Slab.{Slab, get, Updates}
-use Rattle.dom_model.proofs.Model.{Owner, owner_eq, owner_eq-same, owner_eq-true, owner_eq-false, Range}
-use Rattle.dom_ranges.specs.Definitions.{HasRanges, HaveNumbers, Numbers, Points, range_from, range_in, range_kept, RangeLists, ranges_of, shown, slots_of}
-use Rattle.dom_ranges.specs.Definitions.{StandsUnder, with_ranges}
+use Rattle.dom_ranges.proofs.Cited.{◌≡◌, ◌≢◌, ℕ, Bool, true, false, cond, List, [], ◌∷◌, ◌++◌, length, map, Option, Some, None, IsSome, is_some, refl, sym, ap}
+use Rattle.dom_ranges.proofs.Cited.{subst, ◌∙◌, ◌⊎◌, inl, inr, true≢false, slice_get, slice_set, if◌then◌else◌, option_map, option_flatten, cases_Bool}
+use Rattle.dom_ranges.proofs.Cited.{cases_eq, map-append, map-set, length-map, same_Some, none-some, slice_get-map, Slab, get, Updates, Owner, owner_eq}
+use Rattle.dom_ranges.proofs.Cited.{owner_eq-same, owner_eq-true, owner_eq-false, Range, HasRanges, HaveNumbers, Numbers, Points, range_from, range_in}
+use Rattle.dom_ranges.proofs.Cited.{slice_get-push, slice_get-pushed, range_kept, RangeLists, ranges_of, shown, slots_of, StandsUnder, with_ranges}
 use Rattle.dom_ranges.proofs.Holding.{ranges_of-shown}
-use Rattle.dom_ranges.proofs.Lists.{map_kept, map_twice, map_set, set_over, set-at, set-absent, set-other, append-cases, append-kept, append-last}
+use Rattle.dom_tree.proofs.Changes.{slice_get-push as slice_get-kept}
+use Rattle.dom_ranges.proofs.Lists.{map_kept, map_twice, map_set, set_over, set-at, set-absent, set-other}
 
 -- the slots that hold a range are the same
 abbrev pub HoldSame : Slab Points → Slab Points → Type 0
@@ -180,7 +179,7 @@ module _ (live after : Slab Points) (n m : Numbers) (slot : ℕ) (owner : Owner)
     | inl f ↦
         let same = owner_eq-true owner o f in
         subst (λ (p : Owner). StandsUnder m s p k) same
-        (ap (λ (ss : List (Option ℕ)). slice_get ss k) list-own ∙ append-kept (slots_of n owner) (Some slot ∷ []) (Some s) k
+        (ap (λ (ss : List (Option ℕ)). slice_get ss k) list-own ∙ slice_get-kept (slots_of n owner) (Some slot) (Some s) k
         (subst (λ (p : Owner). StandsUnder n s p k) (sym same) e))
     | inr f ↦ ap (λ (ss : List (Option ℕ)). slice_get ss k) (list-other o f) ∙ e
   ]
@@ -192,9 +191,9 @@ module _ (live after : Slab Points) (n m : Numbers) (slot : ℕ) (owner : Owner)
         let same = owner_eq-true owner o f in
         let here : slice_get (slots_of n owner ++ Some slot ∷ []) k ≡ Some (Some s) =
         ap (λ (ss : List (Option ℕ)). slice_get ss k) (sym list-own) ∙ subst (λ (p : Owner). StandsUnder m s p k) (sym same) e in
-        elim (append-cases (slots_of n owner) (Some slot) (Some s) k here) [
-          | inl g ↦ inl (subst (λ (p : Owner). StandsUnder n s p k) same g)
-          | inr g ↦ inr (same_Some _ _ g.1, sym same, g.0)
+        elim (slice_get-push (slots_of n owner) k (Some slot) (Some s) here) [
+          | inl g ↦ inr (same_Some _ _ g.1, sym same, g.0)
+          | inr g ↦ inl (subst (λ (p : Owner). StandsUnder n s p k) same g)
         ]
     | inr f ↦ inl (ap (λ (ss : List (Option ℕ)). slice_get ss k) (sym (list-other o f)) ∙ e)
   ]
@@ -219,7 +218,7 @@ module _ (live after : Slab Points) (n m : Numbers) (slot : ℕ) (owner : Owner)
             owner,
             length (slots_of n owner),
             subst (λ t. StandsUnder m t owner (length (slots_of n owner))) (sym e)
-                (ap (λ (ss : List (Option ℕ)). slice_get ss (length (slots_of n owner))) list-own ∙ append-last (slots_of n owner) (Some slot)),
+                (ap (λ (ss : List (Option ℕ)). slice_get ss (length (slots_of n owner))) list-own ∙ slice_get-pushed (slots_of n owner) (Some slot)),
           )
           | inr off ↦ let w = h.used s (subst IsSome (u.others s off) i) in (w.0, w.1, under-kept w.0 w.1 s w.2)
         ];

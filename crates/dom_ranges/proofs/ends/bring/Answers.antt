@@ -1,6 +1,4 @@
-use Rattle.dom_base.proofs.Std.{◌+◌, ◌≤◌, inl, inr, length, length-set, set, arith}
-use Rattle.dom_model.proofs.Model.{at}
-use Rattle.dom_ranges.specs.Definitions.{AtMost, end_in}
+use Rattle.dom_ranges.proofs.Cited.{◌+◌, ◌≤◌, inl, inr, length, length-set, set, arith, at, AtMost, end_in}
 use Rattle.dom_ranges.proofs.Gathering.{HasChanged-set}
 use Rattle.dom_ranges.proofs.Placing.{placed-earlier, placed-later, group-set, behind-set, ahead-set}
 use Rattle.dom_ranges.proofs.ends.bring.Goals as goal

@@ -1,5 +1,4 @@
-use Rattle.dom_base.proofs.Std.{◌≡◌, ◌<◌, List, ◌∷◌, length, get_or, sym, subst, IsPermutation, IsPermutation-remove}
-use Rattle.dom_ranges.specs.Definitions.{IsSortedByPoint, RangeEnd}
+use Rattle.dom_ranges.proofs.Cited.{◌≡◌, ◌<◌, List, ◌∷◌, length, get_or, sym, subst, IsPermutation, IsPermutation-remove, IsSortedByPoint, RangeEnd}
 use Rattle.dom_ranges.proofs.Placing.{IsSortedByPoint-removed}
 use Rattle.dom_ranges.proofs.ends.drop_end.Goals as goal
 

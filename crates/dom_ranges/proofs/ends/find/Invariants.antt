@@ -1,5 +1,4 @@
-use Rattle.dom_base.proofs.Std.{◌≡◌, ℕ, ◌<◌, ◌≤◌, get_or}
-use Rattle.dom_ranges.specs.Definitions.{RangeEnd}
+use Rattle.dom_ranges.proofs.Cited.{◌≡◌, ℕ, ◌<◌, ◌≤◌, get_or, RangeEnd}
 use Rattle.dom_ranges.proofs.ends.find.Given as goal
 
 abbrev pub invariant-loop-behind : goal.invariant-loop-behind

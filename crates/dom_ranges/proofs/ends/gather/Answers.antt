@@ -1,6 +1,5 @@
-use Rattle.dom_base.proofs.Std.{◌≡◌, ◌≢◌, ℕ, ◌+◌, ◌<◌, ◌≤◌, List, length, get_or, sym, ap, ◌∙◌, subst, arith, rules, SwappedAt, IsPermutation, get_or_default}
-use Rattle.dom_base.proofs.Std.{IsPermutation-trans}
-use Rattle.dom_ranges.specs.Definitions.{AreAt, IsSortedBeside, RangeEnd}
+use Rattle.dom_ranges.proofs.Cited.{◌≡◌, ◌≢◌, ℕ, ◌+◌, ◌<◌, ◌≤◌, List, length, get_or, sym, ap, ◌∙◌, subst, arith, rules, SwappedAt, IsPermutation}
+use Rattle.dom_ranges.proofs.Cited.{get_or_default, IsPermutation-trans, AreAt, IsSortedBeside, RangeEnd}
 use Rattle.dom_ranges.proofs.Gathering.{AreAt-more, IsSortedBeside-more, AreAt-grown, others-more}
 use Rattle.dom_ranges.proofs.ends.gather.Goals.{then-ne, else-ne}
 use Rattle.dom_ranges.proofs.ends.gather.Goals as goal

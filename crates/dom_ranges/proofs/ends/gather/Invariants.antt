@@ -1,5 +1,4 @@
-use Rattle.dom_base.proofs.Std.{◌≡◌, ◌≢◌, ℕ, ◌<◌, ◌≤◌, length, get_or, IsPermutation}
-use Rattle.dom_ranges.specs.Definitions.{AreAt, IsSortedBeside, RangeEnd}
+use Rattle.dom_ranges.proofs.Cited.{◌≡◌, ◌≢◌, ℕ, ◌<◌, ◌≤◌, length, get_or, IsPermutation, AreAt, IsSortedBeside, RangeEnd}
 use Rattle.dom_ranges.proofs.ends.gather.Given as goal
 
 abbrev pub invariant-loop-i : goal.invariant-loop-i

@@ -1,7 +1,5 @@
-use Rattle.dom_base.proofs.Std.{◌≡◌, ℕ, ◌+◌, ◌<◌, ◌≤◌, false, true, cond, List, [], ◌∷◌, ◌++◌, length, get_or, inl, inr, refl, sym, subst, ◌∙◌, ap}
-use Rattle.dom_base.proofs.Std.{append_assoc, length-append, arith}
-use Rattle.dom_model.proofs.Model.{at}
-use Rattle.dom_ranges.specs.Definitions.{AtMost, end_in, IsSortedByPoint, IsTurned, LessThan, point_of, RangeEnd}
+use Rattle.dom_ranges.proofs.Cited.{◌≡◌, ℕ, ◌+◌, ◌<◌, ◌≤◌, false, true, cond, List, [], ◌∷◌, ◌++◌, length, get_or, inl, inr, refl, sym, subst, ◌∙◌, ap}
+use Rattle.dom_ranges.proofs.Cited.{append_assoc, length-append, arith, at, AtMost, end_in, IsSortedByPoint, IsTurned, LessThan, point_of, RangeEnd}
 use Rattle.dom_ranges.proofs.Gathering.{written-back}
 use Rattle.dom_ranges.proofs.Placing.{placed-earlier, group-pushed, behind-pushed, ahead-pushed}
 use Rattle.dom_ranges.proofs.ends.list_range.Goals as goal

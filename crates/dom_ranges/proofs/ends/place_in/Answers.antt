@@ -1,5 +1,4 @@
-use Rattle.dom_base.proofs.Std.{◌≡◌, ◌+◌, ◌<◌, ◌≤◌, ◌/◌, ◌-◌, get_or, sym, ap, ◌∙◌, arith, rules, get_or_default}
-use Rattle.dom_ranges.specs.Definitions.{RangeEnd}
+use Rattle.dom_ranges.proofs.Cited.{◌≡◌, ◌+◌, ◌<◌, ◌≤◌, ◌/◌, ◌-◌, get_or, sym, ap, ◌∙◌, arith, rules, get_or_default, RangeEnd}
 use Rattle.dom_ranges.proofs.ends.place_in.Goals.{then-lt, else-lt+then-eq, else-lt+else-eq}
 use Rattle.dom_ranges.proofs.ends.place_in.Goals as goal
 

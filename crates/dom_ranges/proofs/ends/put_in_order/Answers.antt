@@ -1,5 +1,4 @@
-use Rattle.dom_base.proofs.Std.{rules, IsPermutation-put_mid, IsNonDecreasingBy-from_sort_by_key}
-use Rattle.dom_ranges.specs.Definitions.{offset_of}
+use Rattle.dom_ranges.proofs.Cited.{rules, IsPermutation-put_mid, IsNonDecreasingBy-from_sort_by_key, offset_of}
 use Rattle.dom_ranges.proofs.Placing.{IsSortedByPoint-ordered}
 use Rattle.dom_ranges.proofs.ends.put_in_order.Goals as goal
 

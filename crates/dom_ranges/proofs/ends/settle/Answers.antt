@@ -1,5 +1,4 @@
-use Rattle.dom_base.proofs.Std.{inl, inr, ◌≤◌, length, arith, IsPermutation-trans}
-use Rattle.dom_ranges.specs.Definitions.{AtMostBut}
+use Rattle.dom_ranges.proofs.Cited.{inl, inr, ◌≤◌, length, arith, IsPermutation-trans, AtMostBut}
 use Rattle.dom_ranges.proofs.Placing.{placed-earlier, placed-later, group-gathered, behind-node, ahead-node, past-node}
 use Rattle.dom_ranges.proofs.ends.settle.Goals as goal
 

@@ -1,4 +1,4 @@
-use Rattle.dom_base.proofs.Std.{IsPermutation-put_mid}
+use Rattle.dom_ranges.proofs.Cited.{IsPermutation-put_mid}
 use Rattle.dom_ranges.proofs.Gathering.{IsTurned-rotated}
 use Rattle.dom_ranges.proofs.ends.turn.Goals as goal
 

@@ -1,6 +1,5 @@
-use Rattle.dom_base.proofs.Std.{◌≡◌, ◌≢◌, ℕ, ◌-◌, ◌<◌, inl, inr, length, slice_index_or, sym, ap, ◌∙◌, arith, rules, cases_lt, get_or_default}
-use Rattle.dom_model.proofs.Model.{at}
-use Rattle.dom_ranges.specs.Definitions.{point_of, RangeEnd}
+use Rattle.dom_ranges.proofs.Cited.{◌≡◌, ◌≢◌, ℕ, ◌-◌, ◌<◌, inl, inr, length, slice_index_or, sym, ap, ◌∙◌, arith, rules, cases_lt, get_or_default, at, point_of}
+use Rattle.dom_ranges.proofs.Cited.{RangeEnd}
 use Rattle.dom_ranges.proofs.indexes.reach.Goals.{else-behind-gt0-via-then-behind-gt0+else-eq, else-behind-gt0-via-else-behind-gt0}
 use Rattle.dom_ranges.proofs.indexes.reach.Goals as goal
 

@@ -1,5 +1,5 @@
-use Rattle.dom_ranges.proofs.Naming.{insert-named, removal-named, replace_data-named, split-named, join-named, start-named, end-named, grown-named}
-use Rattle.dom_ranges.proofs.Naming.{made-named, removed-named, rewritten-named, collapsed-named}
+use Rattle.dom_ranges.proofs.Naming.{insert-named, removal-named, replace_data-named, split-named, join-named, start-named, end-named, grown-named, made-named}
+use Rattle.dom_ranges.proofs.Naming.{removed-named, rewritten-named, collapsed-named}
 use Rattle.dom_ranges.proofs.laws.law_keys_stand_for_names.Goals as goal
 
 pub returns-clause-insert : goal.returns-clause-insert

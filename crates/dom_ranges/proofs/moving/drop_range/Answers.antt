@@ -1,6 +1,4 @@
-use Rattle.dom_base.proofs.Std.{◌≡◌, Some, true, false, is_some, sym, ap}
-use Rattle.slab.specs.Slab.{get}
-use Rattle.dom_ranges.specs.Definitions.{end_of}
+use Rattle.dom_ranges.proofs.Cited.{◌≡◌, Some, true, false, is_some, sym, ap, get, end_of}
 use Rattle.dom_ranges.proofs.Listing.{IsListed-dropped, listed-once, listed-once-rest}
 use Rattle.dom_ranges.proofs.moving.drop_range.Goals as goal
 

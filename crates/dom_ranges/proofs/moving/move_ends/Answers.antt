@@ -1,5 +1,4 @@
-use Rattle.dom_base.proofs.Std.{◌≡◌, ℕ, List, sym, subst, ◌∙◌, arith}
-use Rattle.dom_ranges.specs.Definitions.{IsListed, IsSortedBeside, IsSortedBut, point_of, RangeEnd}
+use Rattle.dom_ranges.proofs.Cited.{◌≡◌, ℕ, List, sym, subst, ◌∙◌, arith, IsListed, IsSortedBeside, IsSortedBut, point_of, RangeEnd}
 use Rattle.dom_ranges.proofs.Leaving.{each-listed, moves-none}
 use Rattle.dom_ranges.proofs.Listing.{IsListed-permuted}
 use Rattle.dom_ranges.proofs.Parts.{chosen-true}

@@ -1,8 +1,5 @@
-use Rattle.dom_base.proofs.Std.{◌≡◌, ◌⊎◌, inr, ℕ, ◌+◌, ◌<◌, ◌≤◌, List, length, get_or, set, sym, ap, subst, ◌∙◌, arith, rules, get_or_default, get_or-set_other}
-use Rattle.dom_base.proofs.Std.{get_or-set_same}
-use Rattle.slab.specs.Slab.{Slab}
-use Rattle.dom_model.proofs.Model.{at}
-use Rattle.dom_ranges.specs.Definitions.{end_in, is_chosen, IsListed, IsMovedPart, Points, RangeEnd, Span}
+use Rattle.dom_ranges.proofs.Cited.{◌≡◌, ◌⊎◌, inr, ℕ, ◌+◌, ◌<◌, ◌≤◌, List, length, get_or, set, sym, ap, subst, ◌∙◌, arith, rules, get_or_default}
+use Rattle.dom_ranges.proofs.Cited.{get_or-set_other, get_or-set_same, Slab, at, end_in, is_chosen, IsListed, IsMovedPart, Points, RangeEnd, Span}
 use Rattle.dom_ranges.proofs.Listing.{IsPut}
 use Rattle.dom_ranges.proofs.Parts.{up_to, here-still, IsMovedPart-skipped, IsMovedPart-more, IsListed-set, nodes-more, nodes-same}
 use Rattle.dom_ranges.proofs.moving.move_part.Goals.{then-not-has+then-ne, then-not-has+else-ne, else-not-has}

@@ -1,5 +1,4 @@
-use Rattle.dom_base.proofs.Std.{◌≡◌, ◌⊎◌, ℕ, ◌<◌, ◌≤◌, length, get_or}
-use Rattle.dom_ranges.specs.Definitions.{is_chosen, IsListed, IsMovedPart, RangeEnd}
+use Rattle.dom_ranges.proofs.Cited.{◌≡◌, ◌⊎◌, ℕ, ◌<◌, ◌≤◌, length, get_or, is_chosen, IsListed, IsMovedPart, RangeEnd}
 use Rattle.dom_ranges.proofs.Parts.{up_to}
 use Rattle.dom_ranges.proofs.moving.move_part.Given as goal
 

@@ -1,7 +1,4 @@
-use Rattle.dom_base.proofs.Std.{◌≡◌, [], ◌∷◌, Some, sym, subst, ◌∙◌, ap, rules}
-use Rattle.slab.specs.Slab.{get}
-use Rattle.dom_model.proofs.Model.{Boundary, at}
-use Rattle.dom_ranges.specs.Definitions.{end_in, end_of, HasChanged, IsListedOnce}
+use Rattle.dom_ranges.proofs.Cited.{◌≡◌, [], ◌∷◌, Some, sym, subst, ◌∙◌, ap, rules, get, Boundary, at, end_in, end_of, HasChanged, IsListedOnce}
 use Rattle.dom_ranges.proofs.Listing.{IsPut, IsListed-put, listed-once}
 use Rattle.dom_ranges.proofs.moving.put_end.Goals.{then-is_end, else-is_end}
 use Rattle.dom_ranges.proofs.moving.put_end.Goals as goal

@@ -1,6 +1,4 @@
-use Rattle.dom_base.proofs.Std.{refl, arith}
-use Rattle.dom_tree.specs.Definitions.{name_at}
-use Rattle.dom_laws.proofs.Laws.{above-itself}
+use Rattle.dom_ranges.proofs.Cited.{refl, arith, name_at, above-itself}
 use Rattle.dom_ranges.proofs.Climbing.{depth-node, depth-up, depth-root, above-up, reached-up}
 use Rattle.dom_ranges.proofs.order.climb.Goals as goal
 

@@ -1,7 +1,4 @@
-use Rattle.dom_base.proofs.Std.{◌≡◌, ◌<◌, ◌+◌, length, true}
-use Rattle.dom_model.proofs.Model.{is_inclusive_ancestor}
-use Rattle.dom_tree.specs.Definitions.{name_at}
-use Rattle.dom_ranges.specs.Definitions.{depth_at, Reaches}
+use Rattle.dom_ranges.proofs.Cited.{◌≡◌, ◌<◌, ◌+◌, length, true, is_inclusive_ancestor, name_at, depth_at, Reaches}
 use Rattle.dom_ranges.proofs.order.climb.Given as goal
 
 abbrev pub invariant-up : goal.invariant-up

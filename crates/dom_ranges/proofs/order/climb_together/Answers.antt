@@ -1,6 +1,4 @@
-use Rattle.dom_base.proofs.Std.{inl, inr, refl, arith}
-use Rattle.dom_tree.specs.Definitions.{name_at}
-use Rattle.dom_laws.proofs.Laws.{above-itself}
+use Rattle.dom_ranges.proofs.Cited.{inl, inr, refl, arith, name_at, above-itself}
 use Rattle.dom_ranges.proofs.Climbing.{depth-up, depth-root, above-up}
 use Rattle.dom_ranges.proofs.order.climb_together.Goals as goal
 

@@ -1,6 +1,4 @@
-use Rattle.dom_base.proofs.Std.{◌≡◌, ℕ, nat_lt, sym, ap, arith, eqb-true, lt-ltb, ltb-true, false_from_ne_true}
-use Rattle.dom_model.proofs.Model.{index_of}
-use Rattle.dom_tree.specs.Definitions.{NamedTrees, name_at}
+use Rattle.dom_ranges.proofs.Cited.{◌≡◌, ℕ, nat_lt, sym, ap, arith, eqb-true, lt-ltb, ltb-true, false_from_ne_true, index_of, NamedTrees, name_at}
 use Rattle.dom_ranges.proofs.Siblings.{index-none, index-some}
 use Rattle.dom_ranges.proofs.order.comes_first.Goals as goal
 

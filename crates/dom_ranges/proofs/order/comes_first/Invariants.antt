@@ -1,6 +1,4 @@
-use Rattle.dom_base.proofs.Std.{◌≡◌, ◌<◌, ◌≤◌, ◌+◌, length}
-use Rattle.dom_model.proofs.Model.{index_of}
-use Rattle.dom_tree.specs.Definitions.{name_at}
+use Rattle.dom_ranges.proofs.Cited.{◌≡◌, ◌<◌, ◌≤◌, ◌+◌, length, index_of, name_at}
 use Rattle.dom_ranges.proofs.order.comes_first.Given as goal
 
 abbrev pub invariant-back : goal.invariant-back

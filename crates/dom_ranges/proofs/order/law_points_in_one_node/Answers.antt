@@ -1,5 +1,4 @@
-use Rattle.dom_base.proofs.Std.{refl}
-use Rattle.dom_model.proofs.Model.{root_of, name_eq-same}
+use Rattle.dom_ranges.proofs.Cited.{refl, root_of, name_eq-same}
 use Rattle.dom_ranges.proofs.Before.{before-same}
 use Rattle.dom_ranges.proofs.order.law_points_in_one_node.Goals as goal
 

@@ -1,7 +1,4 @@
-use Rattle.dom_base.proofs.Std.{◌≡◌, ◌++◌, ◌∷◌, [], refl, sym, ap, ◌∙◌, arith, true≢false, Some, eqb-true, eq-eqb, append_assoc}
-use Rattle.dom_model.proofs.Model.{index_of}
-use Rattle.dom_tree.specs.Definitions.{name_at}
-use Rattle.dom_ranges.specs.Definitions.{path_at}
+use Rattle.dom_ranges.proofs.Cited.{◌≡◌, ◌++◌, ◌∷◌, [], refl, sym, ap, ◌∙◌, arith, true≢false, Some, eqb-true, eq-eqb, append_assoc, index_of, name_at, path_at}
 use Rattle.dom_ranges.proofs.Climbing.{AreSiblings, depth-up, depth-root, path-up, first-through, roots-same, beside-here}
 use Rattle.dom_ranges.proofs.order.part.Goals as goal
 

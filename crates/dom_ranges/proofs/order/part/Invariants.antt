@@ -1,6 +1,4 @@
-use Rattle.dom_base.proofs.Std.{◌≡◌, ◌≢◌, ◌<◌, length, List, ℕ, ◌++◌}
-use Rattle.dom_model.proofs.Model.{first_of}
-use Rattle.dom_ranges.specs.Definitions.{depth_at, path_at}
+use Rattle.dom_ranges.proofs.Cited.{◌≡◌, ◌≢◌, ◌<◌, length, List, ℕ, ◌++◌, first_of, depth_at, path_at}
 use Rattle.dom_ranges.proofs.order.part.Given as goal
 
 abbrev pub invariant-up : goal.invariant-up

@@ -1,6 +1,4 @@
-use Rattle.dom_base.proofs.Std.{◌<◌, false, length, refl, rules}
-use Rattle.dom_model.proofs.Model.{at}
-use Rattle.dom_ranges.specs.Definitions.{end_in}
+use Rattle.dom_ranges.proofs.Cited.{◌<◌, false, length, refl, rules, at, end_in}
 use Rattle.dom_ranges.proofs.Inside.{top-stands}
 use Rattle.dom_ranges.proofs.removing.is_apart.Goals as goal
 

@@ -1,5 +1,4 @@
-use Rattle.dom_base.proofs.Std.{◌≡◌, ◌<◌, true, length, ForSome}
-use Rattle.dom_ranges.specs.Definitions.{AreTested, is_inside}
+use Rattle.dom_ranges.proofs.Cited.{◌≡◌, ◌<◌, true, length, ForSome, AreTested, is_inside}
 use Rattle.dom_ranges.proofs.removing.is_apart.Given as goal
 
 abbrev pub invariant-loop : goal.invariant-loop

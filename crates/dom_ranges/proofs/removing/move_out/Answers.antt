@@ -1,7 +1,5 @@
-use Rattle.dom_base.proofs.Std.{◌≡◌, ℕ, get_or, subst, ◌∙◌, nat_eq}
-use Rattle.dom_model.proofs.Model.{Boundary, after_removal, index_of}
-use Rattle.dom_tree.specs.Definitions.{name_at}
-use Rattle.dom_ranges.specs.Definitions.{after_closing, after_leaving, is_inside, IsUpTo, point_of}
+use Rattle.dom_ranges.proofs.Cited.{◌≡◌, ℕ, get_or, subst, ◌∙◌, nat_eq, Boundary, after_removal, index_of, name_at, after_closing, after_leaving, is_inside}
+use Rattle.dom_ranges.proofs.Cited.{IsUpTo, point_of}
 use Rattle.dom_ranges.proofs.Leaving.{Moves, OfEach, moves-alike, moves-none, moves-twice, each-listed, removal-outside, removal-twice, closing-none}
 use Rattle.dom_ranges.proofs.removing.move_out.Goals as goal
 

@@ -1,10 +1,5 @@
-use Rattle.dom_base.proofs.Std.{◌<◌, false, length, get_or, sym, subst, ◌∙◌, arith, true≢false, false_from_ne_true}
-use Rattle.dom_tree.specs.Definitions.{name_at}
-use Rattle.dom_tree.proofs.Standing.{Once-forest}
-use Rattle.dom_laws.proofs.Laws.{outside-test}
-use Rattle.dom_tree.proofs.Searching.{following_step}
-use Rattle.dom_model.proofs.Model.{at}
-use Rattle.dom_ranges.specs.Definitions.{end_in}
+use Rattle.dom_ranges.proofs.Cited.{◌<◌, false, length, get_or, sym, subst, ◌∙◌, arith, true≢false, false_from_ne_true, name_at, Once-forest, outside-test}
+use Rattle.dom_ranges.proofs.Cited.{following_step, at, end_in}
 use Rattle.dom_ranges.proofs.Inside.{from_key, all-from_top, top-stands, next-from}
 use Rattle.dom_ranges.proofs.removing.part_inside.Goals as goal
 

@@ -1,9 +1,5 @@
-use Rattle.dom_base.proofs.Std.{◌≡◌, ℕ, ◌<◌, ◌≤◌, false, length, get_or, option_map, ForSome}
-use Rattle.dom_model.proofs.Model.{inclusive_descendants}
-use Rattle.dom_tree.specs.Definitions.{name_at, StandsIn}
+use Rattle.dom_ranges.proofs.Cited.{◌≡◌, ℕ, ◌<◌, ◌≤◌, false, length, get_or, option_map, ForSome, inclusive_descendants, name_at, StandsIn, In, is_in, RangeEnd}
 use Rattle.dom_laws.specs.Within.{from_node}
-use Rattle.dom_laws.proofs.Laws.{In}
-use Rattle.dom_ranges.specs.Definitions.{is_in, RangeEnd}
 use Rattle.dom_ranges.proofs.removing.part_inside.Given as goal
 
 abbrev pub invariant-loop-at : goal.invariant-loop-at

@@ -1,5 +1,4 @@
-use Rattle.dom_base.proofs.Std.{◌≡◌, ℕ, ◌<◌, ◌≤◌, false, length, get_or}
-use Rattle.dom_ranges.specs.Definitions.{is_in, is_inside, RangeEnd}
+use Rattle.dom_ranges.proofs.Cited.{◌≡◌, ℕ, ◌<◌, ◌≤◌, false, length, get_or, is_in, is_inside, RangeEnd}
 use Rattle.dom_ranges.proofs.removing.part_tested.Given as goal
 
 abbrev pub invariant-loop-i : goal.invariant-loop-i

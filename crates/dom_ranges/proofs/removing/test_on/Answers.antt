@@ -1,7 +1,5 @@
-use Rattle.dom_base.proofs.Std.{◌≡◌, inl, inr, ℕ, ◌<◌, ◌≤◌, false, List, length, get_or, refl, ap, subst, ◌∙◌, arith, cases_lt, get_or_default, same_Some}
-use Rattle.dom_model.proofs.Model.{at}
-use Rattle.dom_tree.specs.Definitions.{NamedTrees}
-use Rattle.dom_ranges.specs.Definitions.{AreTested, end_in, is_inside, IsSortedByPoint, RangeEnd}
+use Rattle.dom_ranges.proofs.Cited.{◌≡◌, inl, inr, ℕ, ◌<◌, ◌≤◌, false, List, length, get_or, refl, ap, subst, ◌∙◌, arith, cases_lt, get_or_default, same_Some}
+use Rattle.dom_ranges.proofs.Cited.{at, NamedTrees, AreTested, end_in, is_inside, IsSortedByPoint, RangeEnd}
 use Rattle.dom_ranges.proofs.Climbing.{inside-up, inside-root}
 use Rattle.dom_ranges.proofs.removing.test_on.Goals as goal
 

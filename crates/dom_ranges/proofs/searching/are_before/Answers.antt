@@ -1,5 +1,4 @@
-use Rattle.dom_base.proofs.Std.{◌-◌, get_or, ap, arith, rules, ◌<◌, get_or_default}
-use Rattle.dom_ranges.specs.Definitions.{RangeEnd}
+use Rattle.dom_ranges.proofs.Cited.{◌-◌, get_or, ap, arith, rules, ◌<◌, get_or_default, RangeEnd}
 use Rattle.dom_ranges.proofs.searching.are_before.Goals as goal
 
 pub returns : goal.returns

@@ -1,5 +1,4 @@
-use Rattle.dom_base.proofs.Std.{leb, arith, rules, leb-true, leb-false, IsPartitionPoint-from_clause}
-use Rattle.dom_ranges.specs.Definitions.{RangeEnd}
+use Rattle.dom_ranges.proofs.Cited.{leb, arith, rules, leb-true, leb-false, IsPartitionPoint-from_clause, RangeEnd}
 use Rattle.dom_ranges.proofs.Orders.{IsPartitionedBy-from}
 use Rattle.dom_ranges.proofs.searching.behind_node.Goals as goal
 

@@ -1,6 +1,4 @@
-use Rattle.dom_base.proofs.Std.{inl, inr, get_or, sym, arith, rules, cases_lt, IsPartitionPoint-from_clause}
-use Rattle.dom_model.proofs.Model.{at}
-use Rattle.dom_ranges.specs.Definitions.{point_of}
+use Rattle.dom_ranges.proofs.Cited.{inl, inr, get_or, sym, arith, rules, cases_lt, IsPartitionPoint-from_clause, at, point_of}
 use Rattle.dom_ranges.proofs.Orders.{is_less, less-true, not-less, IsPartitionedBy-less}
 use Rattle.dom_ranges.proofs.Gathering.{is_in-between}
 use Rattle.dom_ranges.proofs.searching.part_at.Goals as goal

@@ -1,4 +1,4 @@
-use Rattle.dom_base.proofs.Std.{inl, inr, arith, cases_lt}
+use Rattle.dom_ranges.proofs.Cited.{inl, inr, arith, cases_lt}
 use Rattle.dom_ranges.proofs.searching.part_near.Goals as goal
 
 pub returns-then-are_behind-clause-all : goal.returns-then-are_behind-clause-all

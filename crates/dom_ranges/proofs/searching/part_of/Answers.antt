@@ -1,6 +1,5 @@
-use Rattle.dom_base.proofs.Std.{false, inl, inr, ℕ, ◌<◌, ◌≤◌, ltb, length, get_or, arith, rules, ltb-true, ltb-false, cases_lt, IsPartitionPoint-from_clause}
-use Rattle.dom_model.proofs.Model.{at}
-use Rattle.dom_ranges.specs.Definitions.{end_in, RangeEnd}
+use Rattle.dom_ranges.proofs.Cited.{false, inl, inr, ℕ, ◌<◌, ◌≤◌, ltb, length, get_or, arith, rules, ltb-true, ltb-false, cases_lt}
+use Rattle.dom_ranges.proofs.Cited.{IsPartitionPoint-from_clause, at, end_in, RangeEnd}
 use Rattle.dom_ranges.proofs.Orders.{IsPartitionedBy-past}
 use Rattle.dom_ranges.proofs.Gathering.{is_in-between}
 use Rattle.dom_ranges.proofs.searching.part_of.Goals as goal

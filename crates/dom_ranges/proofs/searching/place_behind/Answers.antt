@@ -1,5 +1,4 @@
-use Rattle.dom_base.proofs.Std.{get_or, arith, rules, IsPartitionPoint-from_clause}
-use Rattle.dom_model.proofs.Model.{at}
+use Rattle.dom_ranges.proofs.Cited.{get_or, arith, rules, IsPartitionPoint-from_clause, at}
 use Rattle.dom_ranges.proofs.Orders.{is_at_most, at_most-true, at_most-false, IsPartitionedBy-at_most}
 use Rattle.dom_ranges.proofs.searching.place_behind.Goals as goal
 

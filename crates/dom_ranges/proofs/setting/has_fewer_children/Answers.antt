@@ -1,8 +1,5 @@
-use Rattle.dom_base.proofs.Std.{◌≡◌, ℕ, ◌+◌, ◌-◌, ◌<◌, ◌≤◌, Option, Some, None, List, length, nat_lt, is_some, refl, sym, ap, ◌∙◌, arith, ForSome}
-use Rattle.dom_base.proofs.Std.{lt-ltb, ltb-true, false_from_ne_true}
-use Rattle.dom_model.proofs.Model.{NodeName}
-use Rattle.dom_laws.proofs.Laws.{no_last}
-use Rattle.dom_tree.proofs.Standing.{Once-forest, Has-forest}
+use Rattle.dom_ranges.proofs.Cited.{◌≡◌, ℕ, ◌+◌, ◌-◌, ◌<◌, ◌≤◌, Option, Some, None, List, length, nat_lt, is_some, refl, sym, ap, ◌∙◌, arith, ForSome, lt-ltb}
+use Rattle.dom_ranges.proofs.Cited.{ltb-true, false_from_ne_true, NodeName, no_last, Once-forest, Has-forest}
 use Rattle.dom_ranges.proofs.Siblings.{length-last}
 use Rattle.dom_ranges.proofs.setting.has_fewer_children.Goals as goal
 

@@ -1,8 +1,7 @@
-use Rattle.dom_base.proofs.Std.{[], refl, sym, ap, ◌∙◌, get, option_map_or}
-use Rattle.dom_base.specs.contracts.OwnerPartialEq.TheImpl as OwnerImpl
-use Rattle.dom_ranges.specs.Definitions.{Numbers}
+use Rattle.dom_ranges.proofs.Cited.{[], refl, sym, ap, ◌∙◌, option_map_or, Numbers, written-same, none_from}
+use Rattle.dom_base.proofs.Std.{get}
 use Rattle.dom_ranges.proofs.SlotLists.{slots-same}
-use Rattle.dom_tree.proofs.OwnerLists.{written-same, none_from}
+use Rattle.dom_base.specs.contracts.OwnerPartialEq.TheImpl as OwnerImpl
 use Rattle.dom_ranges.proofs.numbers.Numbers.begin.Goals as goal
 
 pub returns-in_ok-insert-clause-slots : goal.returns-in_ok-insert-clause-slots

@@ -1,11 +1,9 @@
-use Rattle.dom_base.proofs.Std.{◌≡◌, ◌≢◌, true≢false, refl, sym, subst, slice_set, Some, None, ◌∙◌, get, IsSome, with_item}
-use Rattle.dom_model.proofs.Model.{Page}
-use Rattle.dom_base.specs.contracts.OwnerPartialEq.TheImpl as OwnerImpl
-use Rattle.dom_ranges.specs.Definitions.{Numbers}
+use Rattle.dom_ranges.proofs.Cited.{◌≡◌, ◌≢◌, true≢false, refl, sym, subst, slice_set, Some, None, ◌∙◌, IsSome, with_item, Page, Numbers, written-by}
+use Rattle.dom_base.proofs.Std.{get}
 use Rattle.dom_ranges.proofs.SlotLists.{slots-written}
-use Rattle.dom_tree.proofs.OwnerLists.{written-by}
-use Rattle.dom_ranges.proofs.numbers.Numbers.clear.Goals as goal
 use Rattle.dom_ranges.proofs.numbers.Numbers.clear.Goals.{in-Page, in_default}
+use Rattle.dom_base.specs.contracts.OwnerPartialEq.TheImpl as OwnerImpl
+use Rattle.dom_ranges.proofs.numbers.Numbers.clear.Goals as goal
 
 pub returns-in-Some : goal.returns-in-Some
 returns-in-Some c =

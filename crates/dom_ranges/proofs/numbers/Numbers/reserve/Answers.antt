@@ -1,6 +1,4 @@
-use Rattle.dom_base.proofs.Std.{◌≡◌, refl, sym, subst, ◌∙◌, IsSome}
-use Rattle.dom_model.proofs.Model.{Owner}
-use Rattle.dom_ranges.specs.Definitions.{Numbers, slots_of}
+use Rattle.dom_ranges.proofs.Cited.{◌≡◌, refl, sym, subst, ◌∙◌, IsSome, Owner, Numbers, slots_of}
 use Rattle.dom_ranges.proofs.SlotLists.{slots-reserved}
 use Rattle.dom_ranges.proofs.numbers.Numbers.reserve.Goals.{After-reserve-in-Some}
 use Rattle.dom_ranges.proofs.numbers.Numbers.reserve.Goals as goal

@@ -1,8 +1,5 @@
-use Rattle.dom_base.proofs.Std.{◌≡◌, ℕ, List, [], ◌∷◌, ◌++◌, true, false, IsSome, sym, subst, refl, ap, ◌∙◌, length, Option, Result, Ok, Err, OnErr, arith}
-use Rattle.dom_base.proofs.Std.{IsPermutation}
-use Rattle.slab.specs.Slab.{get, Slab}
-use Rattle.dom_model.proofs.Model.{at}
-use Rattle.dom_ranges.specs.Definitions.{end_in, HaveNumbers, IsListed, IsSortedByPoint, Points, RangeEnd, ranges_of}
+use Rattle.dom_ranges.proofs.Cited.{◌≡◌, ℕ, List, [], ◌∷◌, ◌++◌, true, false, IsSome, sym, subst, refl, ap, ◌∙◌, length, Option, Result, Ok, Err, OnErr, arith}
+use Rattle.dom_ranges.proofs.Cited.{IsPermutation, get, Slab, at, end_in, HaveNumbers, IsListed, IsSortedByPoint, Points, RangeEnd, ranges_of}
 use Rattle.dom_ranges.proofs.Listing.{IsListed-added, IsListed-same}
 use Rattle.dom_ranges.proofs.Writing.{Shows, Shows-view, Shows-same, HaveNumbers-same, HaveNumbers-pushed, ranges-shown, ranges-pushed, length-ranges}
 use Rattle.dom_ranges.proofs.table.RangeTable.add.Goals as goal

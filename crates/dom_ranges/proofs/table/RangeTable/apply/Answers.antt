@@ -1,6 +1,4 @@
-use Rattle.dom_base.proofs.Std.{length, ◌∙◌, ap, arith}
-use Rattle.dom_model.proofs.Model.{map_ends}
-use Rattle.dom_ranges.specs.Definitions.{RangeEnd}
+use Rattle.dom_ranges.proofs.Cited.{length, ◌∙◌, ap, arith, map_ends, RangeEnd}
 use Rattle.dom_ranges.proofs.Gathering.{written-back}
 use Rattle.dom_ranges.proofs.Leaving.{each-held, kept-moved}
 use Rattle.dom_ranges.proofs.Writing.{Shows-view, ranges-moved}

@@ -1,6 +1,4 @@
-use Rattle.dom_base.proofs.Std.{Option, ap, sym, ◌∙◌, ℕ, slice_set, option_map}
-use Rattle.dom_model.proofs.Model.{Range}
-use Rattle.dom_ranges.specs.Definitions.{collapsed_range, ranges_of, with_ranges}
+use Rattle.dom_ranges.proofs.Cited.{Option, ap, sym, ◌∙◌, ℕ, slice_set, option_map, Range, collapsed_range, ranges_of, with_ranges}
 use Rattle.dom_ranges.proofs.Writing.{not_there}
 use Rattle.dom_ranges.proofs.table.RangeTable.collapse.Goals as goal
 

@@ -1,4 +1,4 @@
-use Rattle.dom_base.proofs.Std.{ℕ, ap, ◌∙◌, length, Option}
+use Rattle.dom_ranges.proofs.Cited.{ℕ, ap, ◌∙◌, length, Option}
 use Rattle.dom_ranges.proofs.Writing.{Shows-view, length-ranges}
 use Rattle.dom_ranges.proofs.table.RangeTable.count.Goals as goal
 

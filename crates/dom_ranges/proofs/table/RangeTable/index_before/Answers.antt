@@ -1,6 +1,4 @@
-use Rattle.dom_model.proofs.Model.{index_of}
-use Rattle.dom_tree.specs.Definitions.{name_at}
-use Rattle.dom_ranges.specs.Definitions.{IsUpTo}
+use Rattle.dom_ranges.proofs.Cited.{index_of, name_at, IsUpTo}
 use Rattle.dom_ranges.proofs.Leaving.{each-seen}
 use Rattle.dom_ranges.proofs.Writing.{Shows-view}
 use Rattle.dom_ranges.proofs.table.RangeTable.index_before.Goals as goal

@@ -1,6 +1,4 @@
-use Rattle.dom_base.proofs.Std.{sym, ◌∙◌, slice_get, option_flatten, eqb-true, eq-eqb}
-use Rattle.slab.specs.Slab.{slab_len}
-use Rattle.dom_ranges.specs.Definitions.{slots_of}
+use Rattle.dom_ranges.proofs.Cited.{sym, ◌∙◌, slice_get, option_flatten, eqb-true, eq-eqb, slab_len, slots_of}
 use Rattle.dom_ranges.proofs.Vacant.{none-kept, none-held}
 use Rattle.dom_ranges.proofs.Writing.{Shows-view, range_in-held}
 use Rattle.dom_ranges.proofs.table.RangeTable.is_empty.Goals as goal

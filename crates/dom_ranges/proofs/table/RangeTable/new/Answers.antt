@@ -1,5 +1,4 @@
-use Rattle.dom_base.proofs.Std.{ap, ◌∙◌, map}
-use Rattle.dom_ranges.specs.Definitions.{range_kept}
+use Rattle.dom_ranges.proofs.Cited.{ap, ◌∙◌, map, range_kept}
 use Rattle.dom_ranges.proofs.Holding.{ranges_of-shown}
 use Rattle.dom_ranges.proofs.table.RangeTable.new.Goals as goal
 

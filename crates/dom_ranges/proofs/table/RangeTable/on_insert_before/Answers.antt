@@ -1,7 +1,4 @@
-use Rattle.dom_base.proofs.Std.{ℕ, sym, ap, subst, ◌∙◌, nat_eq}
-use Rattle.dom_model.proofs.Model.{Owner, after_insert, index_of}
-use Rattle.dom_tree.specs.Definitions.{name_at}
-use Rattle.dom_ranges.specs.Definitions.{BothEnds, EachRange, ends_by, Fits, ranges_of}
+use Rattle.dom_ranges.proofs.Cited.{ℕ, sym, ap, subst, ◌∙◌, nat_eq, Owner, after_insert, index_of, name_at, BothEnds, EachRange, ends_by, Fits, ranges_of}
 use Rattle.dom_ranges.proofs.Leaving.{insert-none, ends-kept}
 use Rattle.dom_ranges.proofs.table.RangeTable.on_insert_before.Goals as goal
 

@@ -1,7 +1,4 @@
-use Rattle.dom_base.proofs.Std.{sym, subst, ◌∙◌, nat_eq}
-use Rattle.dom_model.proofs.Model.{after_join, index_of}
-use Rattle.dom_tree.specs.Definitions.{name_at}
-use Rattle.dom_ranges.specs.Definitions.{Fits, ranges_of}
+use Rattle.dom_ranges.proofs.Cited.{sym, subst, ◌∙◌, nat_eq, after_join, index_of, name_at, Fits, ranges_of}
 use Rattle.dom_ranges.proofs.Leaving.{join-near, ends-alike}
 use Rattle.dom_ranges.proofs.table.RangeTable.on_join_child.Goals as goal
 

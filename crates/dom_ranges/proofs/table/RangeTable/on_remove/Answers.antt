@@ -1,7 +1,5 @@
-use Rattle.dom_base.proofs.Std.{Option, refl, ap, ◌∙◌, option_map_or}
-use Rattle.dom_model.proofs.Model.{NodeName, name_eq, after_removal, is_inclusive_ancestor, index_of}
-use Rattle.dom_tree.specs.Definitions.{name_at}
-use Rattle.dom_ranges.specs.Definitions.{named_ends_by, named_ranges, ranges_of}
+use Rattle.dom_ranges.proofs.Cited.{Option, refl, ap, ◌∙◌, option_map_or, NodeName, name_eq, after_removal, is_inclusive_ancestor, index_of, name_at}
+use Rattle.dom_ranges.proofs.Cited.{named_ends_by, named_ranges, ranges_of}
 use Rattle.dom_ranges.proofs.Naming.{removal-named}
 use Rattle.dom_ranges.proofs.table.RangeTable.on_remove.Goals as goal
 

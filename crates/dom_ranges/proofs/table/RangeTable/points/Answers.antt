@@ -1,5 +1,4 @@
-use Rattle.dom_base.proofs.Std.{ap, sym, ◌∙◌, option_map}
-use Rattle.dom_ranges.specs.Definitions.{range_from, range_kept}
+use Rattle.dom_ranges.proofs.Cited.{ap, sym, ◌∙◌, option_map, range_from, range_kept}
 use Rattle.dom_ranges.proofs.Writing.{Shows-view, range_in-held}
 use Rattle.dom_ranges.proofs.table.RangeTable.points.Goals as goal
 

@@ -1,6 +1,4 @@
-use Rattle.dom_base.proofs.Std.{inl, inr, List, subst}
-use Rattle.dom_model.proofs.Model.{at}
-use Rattle.dom_ranges.specs.Definitions.{IsListedAt, IsUpTo, RangeEnd}
+use Rattle.dom_ranges.proofs.Cited.{inl, inr, List, subst, at, IsListedAt, IsUpTo, RangeEnd}
 use Rattle.dom_ranges.proofs.Vacant.{end-shown}
 use Rattle.dom_ranges.proofs.Leaving.{each-seen}
 use Rattle.dom_ranges.proofs.Writing.{Shows-view}

@@ -1,6 +1,4 @@
-use Rattle.dom_base.proofs.Std.{◌≡◌, None, is_some, ap, sym, ◌∙◌, slice_get_within}
-use Rattle.slab.specs.Slab.{get}
-use Rattle.dom_ranges.specs.Definitions.{range_in, range_kept, ranges_of, slots_of, StandsUnder}
+use Rattle.dom_ranges.proofs.Cited.{◌≡◌, None, is_some, ap, sym, ◌∙◌, slice_get_within, get, range_in, range_kept, ranges_of, slots_of, StandsUnder}
 use Rattle.dom_ranges.proofs.Writing.{Shows-view, range_in-held, slot-under, not_there, is_some-kept, HaveNumbers-cleared, ranges-cleared}
 use Rattle.dom_ranges.proofs.table.RangeTable.remove.Goals as goal
 

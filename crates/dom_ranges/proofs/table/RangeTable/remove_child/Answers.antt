@@ -1,7 +1,4 @@
-use Rattle.dom_base.proofs.Std.{length, ◌∙◌, ap, arith, nat_eq}
-use Rattle.dom_model.proofs.Model.{map_ends, after_removal, index_of}
-use Rattle.dom_tree.specs.Definitions.{name_at}
-use Rattle.dom_ranges.specs.Definitions.{is_inside, IsAtNode, RangeEnd}
+use Rattle.dom_ranges.proofs.Cited.{length, ◌∙◌, ap, arith, nat_eq, map_ends, after_removal, index_of, name_at, is_inside, IsAtNode, RangeEnd}
 use Rattle.dom_ranges.proofs.Gathering.{written-back}
 use Rattle.dom_ranges.proofs.Leaving.{each-held, kept-moved}
 use Rattle.dom_ranges.proofs.Writing.{Shows-view, ranges-moved}

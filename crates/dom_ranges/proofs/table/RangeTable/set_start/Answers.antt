@@ -1,4 +1,4 @@
-use Rattle.dom_model.proofs.Model.{at}
+use Rattle.dom_ranges.proofs.Cited.{at}
 use Rattle.dom_ranges.proofs.Naming.{set-named, start-rule}
 use Rattle.dom_ranges.proofs.table.RangeTable.set_start.Goals as goal
 

@@ -1,8 +1,7 @@
-use Rattle.dom_base.proofs.Std.{Some, true, is_some, length, subst, arith, refl, ap, sym, ◌∙◌, true≢false, option_map, IsSome}
-use Rattle.dom_ranges.specs.Definitions.{IsListed, IsSortedByPoint, range_kept, RangeEnd, with_end_at}
+use Rattle.dom_ranges.proofs.Cited.{Some, true, is_some, length, subst, arith, refl, ap, sym, ◌∙◌, true≢false, option_map, IsSome, IsListed, IsSortedByPoint}
+use Rattle.dom_ranges.proofs.Cited.{range_kept, RangeEnd, with_end_at, Updates, get}
 use Rattle.dom_ranges.proofs.Writing.{Shows-view, range_in-held, slot-under, ranges-written, HaveNumbers-same, HoldSame-written}
 use Rattle.dom_ranges.proofs.Listing.{both-put}
-use Rattle.slab.specs.Slab.{Updates, get}
 use Rattle.dom_ranges.proofs.Gathering.{written-back}
 use Rattle.dom_ranges.proofs.table.RangeTable.write.Goals.{After-put_end-in-Some}
 use Rattle.dom_ranges.proofs.table.RangeTable.write.Goals as goal
