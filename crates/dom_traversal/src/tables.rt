@@ -114,7 +114,7 @@ impl OwnTables {
         ensures iterators { AreLeft forest.now node self.old.iterators self.new.iterators }
         ensures walkers { self.new.walkers ≡ self.old.walkers }
     {
-        if is_apart(self.references.as_slice(), forest, node) {
+        if forest.first(node).is_some() && is_apart(self.references.as_slice(), forest, node) {
             return;
         }
         forest.law_nodes_stand_once();
