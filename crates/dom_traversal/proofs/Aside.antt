@@ -1,10 +1,9 @@
 -- Steps down and up by keys in a search among siblings.
-use Rattle.dom_base.proofs.Std.{◌≡◌, inl, inr, ℕ, ◌<◌, true, false, ◌++◌, length, Option, Some, None, refl, sym, ap, subst, ◌∙◌, arith, is_some, option_map}
-use Rattle.dom_base.proofs.Std.{ForSome, none-some, same_Some}
-use Rattle.dom_traversal.proofs.Trees.{above-proper, accepts, ancestors, behind, behind_is, beyond, children_of, Filter, first_child, first_of, first_split}
-use Rattle.dom_traversal.proofs.Trees.{Has-forest, here, In, In-from, inclusive_ancestors, is_in-from, name_at, NamedTrees, no_child, no_key, NodeName}
-use Rattle.dom_traversal.proofs.Trees.{Once-forest, parent_of, StandAlone, StandOnce, StandsBelow, was_some}
-use Rattle.dom_traversal.specs.Definitions.{is_stop, stop_above}
+use Rattle.dom_traversal.proofs.Cited.{◌≡◌, inl, inr, ℕ, ◌<◌, true, false, ◌++◌, length, Option, Some, None, refl, sym, ap, subst, ◌∙◌, arith, is_some}
+use Rattle.dom_traversal.proofs.Cited.{option_map, ForSome, none-some, same_Some, above-proper, accepts, ancestors, behind, behind_is, beyond, children_of}
+use Rattle.dom_traversal.proofs.Cited.{Filter, first_child, first_of, first_split, Has-forest, here, In, In-from, inclusive_ancestors, is_in-from, name_at}
+use Rattle.dom_traversal.proofs.Cited.{NamedTrees, no_child, no_key, NodeName, Once-forest, parent_of, StandAlone, StandOnce, StandsBelow, was_some, is_stop}
+use Rattle.dom_traversal.proofs.Cited.{stop_above}
 use Rattle.dom_traversal.proofs.Climbing.{IsInner}
 use Rattle.dom_traversal.proofs.Stops.{IsBelow, within-below, root-below, below-stop, below-child, below-up, path_up, stop-above}
 

@@ -1,15 +1,14 @@
 -- A search backward, from each node to the nodes before it, passing over what is below rejected nodes.
-use Rattle.dom_base.proofs.Std.{◌≡◌, ◌⊎◌, inl, inr, ℕ, ◌<◌, ◌≤◌, true, false, not, ◌&&◌, List, [], ◌∷◌, ◌++◌, length, Option, Some, None, refl, sym, ap, subst}
-use Rattle.dom_base.proofs.Std.{◌∙◌, arith, length-append, filter, option_map, ForSome, list_all, cases_Bool, not-false, and_left, and_from, both_ways}
-use Rattle.dom_base.proofs.Std.{append-nil, filter-append, none-some, same_Some}
-use Rattle.dom_traversal.proofs.Trees.{above-proper, above-within, accepts, ahead_of, ancestors, answer_at, below, below-from_above, child_places, children_of}
-use Rattle.dom_traversal.proofs.Trees.{Filter, filter-none, Has, Has-forest, here, In, In-from, In-left, In-names, In-not, In-parts, In-right}
-use Rattle.dom_traversal.proofs.Trees.{inclusive_ancestors, inclusive_descendants, is_in, is_in-from, is_in-not, is_inclusive_ancestor, is_reject, IsWithin}
-use Rattle.dom_traversal.proofs.Trees.{IsWithin-key, joined, last-hit, last-miss, last_child, last_of, last_split, name_at, name_eq, NamedTrees, no_first}
-use Rattle.dom_traversal.proofs.Trees.{no_last_child, no_previous, NodeName, not_before, parent-of_child, parent_of, previous_places, previous_sibling}
-use Rattle.dom_traversal.proofs.Trees.{proper-parent, Reject, rejects, Skip, StandAlone, StandOnce, stands_in, StandsIn, subtree, top_places, Trees, up_to_node}
-use Rattle.dom_traversal.proofs.Trees.{up_to_tree, Verdict, Walker, walker_nodes, within-parent, within-root, within-top}
-use Rattle.dom_traversal.specs.Definitions.{ComesBack, entered_by, is_entered, is_passable, KeyedWalker, walker_view}
+use Rattle.dom_traversal.proofs.Cited.{◌≡◌, ◌⊎◌, inl, inr, ℕ, ◌<◌, ◌≤◌, true, false, not, ◌&&◌, List, [], ◌∷◌, ◌++◌, length, Option, Some, None, refl, sym, ap}
+use Rattle.dom_traversal.proofs.Cited.{subst, ◌∙◌, arith, length-append, filter, option_map, ForSome, list_all, cases_Bool, not-false, and_left, and_from}
+use Rattle.dom_traversal.proofs.Cited.{both_ways, append-nil, filter-append, none-some, same_Some, above-proper, above-within, accepts, ahead_of, ancestors}
+use Rattle.dom_traversal.proofs.Cited.{answer_at, below, below-from_above, child_places, children_of, Filter, filter-none, Has, Has-forest, here, In, In-from}
+use Rattle.dom_traversal.proofs.Cited.{In-left, In-names, In-not, In-parts, In-right, inclusive_ancestors, inclusive_descendants, is_in, is_in-from, is_in-not}
+use Rattle.dom_traversal.proofs.Cited.{is_inclusive_ancestor, is_reject, IsWithin, IsWithin-key, joined, last-hit, last-miss, last_child, last_of, last_split}
+use Rattle.dom_traversal.proofs.Cited.{name_at, name_eq, NamedTrees, no_first, no_last_child, no_previous, NodeName, not_before, parent-of_child, parent_of}
+use Rattle.dom_traversal.proofs.Cited.{previous_places, previous_sibling, proper-parent, Reject, rejects, Skip, StandAlone, StandOnce, stands_in, StandsIn}
+use Rattle.dom_traversal.proofs.Cited.{subtree, top_places, Trees, up_to_node, up_to_tree, Verdict, Walker, walker_nodes, within-parent, within-root}
+use Rattle.dom_traversal.proofs.Cited.{within-top, ComesBack, entered_by, is_entered, is_passable, KeyedWalker, walker_view}
 use Rattle.dom_traversal.proofs.Climbing.{IsInner, inner-within}
 use Rattle.dom_traversal.proofs.Opening.{hidden, all-from, all-at}
 use Rattle.dom_traversal.proofs.Passing.{passing, walker_nodes-passing, passable-above}

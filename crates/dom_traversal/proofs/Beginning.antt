@@ -1,13 +1,12 @@
 -- Where a walker's searches among children and siblings begin, and what they look for.
-use Rattle.dom_base.proofs.Std.{◌≡◌, inl, inr, ℕ, ◌<◌, true, false, ◌∷◌, ◌++◌, length, Option, Some, None, refl, sym, ap, subst, ◌∙◌, arith, filter, option_map}
-use Rattle.dom_base.proofs.Std.{ForSome, or_right, append-nil, same_Some}
-use Rattle.dom_traversal.proofs.Trees.{above-proper, above-within, accepts, ahead_of, all_single, ancestors, behind, behind_is, below, beyond, children_of}
-use Rattle.dom_traversal.proofs.Trees.{first_child, first_of, first_split, from_node, here, In, inclusive_ancestors, inclusive_descendants, is_in-from}
-use Rattle.dom_traversal.proofs.Trees.{is_in-not, is_inclusive_ancestor, IsWithin, Move, name_at, name_eq, name_eq-from, name_eq-other, NamedTrees, no_child}
-use Rattle.dom_traversal.proofs.Trees.{no_first, NodeName, parent-of_child, proper-parent, sibling_top, Single, Single-apart, Single-right, splits, stands_in}
-use Rattle.dom_traversal.proofs.Trees.{top_places, Trees, Walker, walker_move, walker_siblings, walker_step, within-itself}
-use Rattle.dom_base.specs.declared.Move.TheVariants as moves
-use Rattle.dom_traversal.specs.Definitions.{BeginsForward, is_opened, is_reached, KeyedWalker, Next, stop_above, stop_of, walker_view}
+use Rattle.dom_traversal.proofs.Cited.{◌≡◌, inl, inr, ℕ, ◌<◌, true, false, ◌∷◌, ◌++◌, length, Option, Some, None, refl, sym, ap, subst, ◌∙◌, arith, filter}
+use Rattle.dom_traversal.proofs.Cited.{option_map, ForSome, or_right, append-nil, same_Some, above-proper, above-within, accepts, ahead_of, all_single}
+use Rattle.dom_traversal.proofs.Cited.{ancestors, behind, behind_is, below, beyond, children_of, first_child, first_of, first_split, from_node, here, In}
+use Rattle.dom_traversal.proofs.Cited.{inclusive_ancestors, inclusive_descendants, is_in-from, is_in-not, is_inclusive_ancestor, IsWithin, Move, name_at}
+use Rattle.dom_traversal.proofs.Cited.{name_eq, name_eq-from, name_eq-other, NamedTrees, no_child, no_first, NodeName, parent-of_child, proper-parent}
+use Rattle.dom_traversal.proofs.Cited.{sibling_top, Single, Single-apart, Single-right, splits, stands_in, top_places, Trees, Walker, walker_move}
+use Rattle.dom_traversal.proofs.Cited.{walker_siblings, walker_step, within-itself, BeginsForward, is_opened, is_reached, KeyedWalker, Next, stop_above}
+use Rattle.dom_traversal.proofs.Cited.{stop_of, walker_view}
 use Rattle.dom_traversal.proofs.Opening.{beyond-above, all-from}
 use Rattle.dom_traversal.proofs.Forward.{zone_is, beyond-zone, not_behind}
 use Rattle.dom_traversal.proofs.Stops.{IsBelow, within-below, other-below, below-stop, stop-here}
@@ -15,6 +14,7 @@ use Rattle.dom_traversal.proofs.Beside.{FollowsBeside}
 use Rattle.dom_traversal.proofs.Reaching.{opened-above}
 use Rattle.dom_traversal.proofs.Candidates.{children-reached}
 use Rattle.dom_traversal.proofs.Nested.{siblings-behind}
+use Rattle.dom_base.specs.declared.Move.TheVariants as moves
 
 -- a move within the root's tree
 pub move-step : (ts : Trees) (w : Walker) (m : Move) → is_inclusive_ancestor ts w.root w.current ≡ true → walker_step ts w m ≡ walker_move ts w m

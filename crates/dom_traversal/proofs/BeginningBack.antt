@@ -1,13 +1,12 @@
 -- Where a walker's searches for the last child and the previous sibling begin, and what they look for.
-use Rattle.dom_base.proofs.Std.{◌≡◌, inl, inr, ℕ, ◌<◌, Bool, true, false, not, ◌&&◌, [], ◌∷◌, ◌++◌, length, Option, Some, None, refl, sym, ap, subst, ◌∙◌}
-use Rattle.dom_base.proofs.Std.{filter, option_map, ForSome, and_right}
-use Rattle.dom_traversal.proofs.Trees.{above-proper, above-within, ahead_of, ancestors, below, children_of, filter-no, filter-same, here, In, In-from, In-left}
-use Rattle.dom_traversal.proofs.Trees.{In-right, inclusive_ancestors, inclusive_descendants, is_in-from, IsWithin, last_child, last_of, last_split, name_at}
-use Rattle.dom_traversal.proofs.Trees.{name_eq, name_eq-from, name_eq-other, NamedTrees, no_last_child, NodeName, not_before, sibling_top, top_places, Trees}
-use Rattle.dom_traversal.proofs.Trees.{up_to_tree, Walker, walker_children, walker_move, walker_siblings, walker_step, within-itself}
-use Rattle.dom_base.specs.declared.Move.TheVariants as moves
-use Rattle.dom_traversal.specs.Definitions.{Begins, BeginsBackward, child_move, Direction, is_candidate, is_opened, is_reached, KeyedWalker, Next, outer_child}
-use Rattle.dom_traversal.specs.Definitions.{Previous, reached_from, sibling_move, StepsBehind, StepsBeside, stop_above, stop_of, walker_view}
+use Rattle.dom_traversal.proofs.Cited.{◌≡◌, inl, inr, ℕ, ◌<◌, Bool, true, false, not, ◌&&◌, [], ◌∷◌, ◌++◌, length, Option, Some, None, refl, sym, ap, subst}
+use Rattle.dom_traversal.proofs.Cited.{◌∙◌, filter, option_map, ForSome, and_right, above-proper, above-within, ahead_of, ancestors, below, children_of}
+use Rattle.dom_traversal.proofs.Cited.{filter-no, filter-same, here, In, In-from, In-left, In-right, inclusive_ancestors, inclusive_descendants, is_in-from}
+use Rattle.dom_traversal.proofs.Cited.{IsWithin, last_child, last_of, last_split, name_at, name_eq, name_eq-from, name_eq-other, NamedTrees, no_last_child}
+use Rattle.dom_traversal.proofs.Cited.{NodeName, not_before, sibling_top, top_places, Trees, up_to_tree, Walker, walker_children, walker_move, walker_siblings}
+use Rattle.dom_traversal.proofs.Cited.{walker_step, within-itself, Begins, BeginsBackward, child_move, Direction, is_candidate, is_opened, is_reached}
+use Rattle.dom_traversal.proofs.Cited.{KeyedWalker, Next, outer_child, Previous, reached_from, sibling_move, StepsBehind, StepsBeside, stop_above, stop_of}
+use Rattle.dom_traversal.proofs.Cited.{walker_view}
 use Rattle.dom_traversal.proofs.Opening.{all-from}
 use Rattle.dom_traversal.proofs.Stops.{IsBelow, within-below, other-below}
 use Rattle.dom_traversal.proofs.Beside.{FollowsBeside}
@@ -16,6 +15,7 @@ use Rattle.dom_traversal.proofs.ReachingBack.{steps-filter}
 use Rattle.dom_traversal.proofs.Candidates.{children-reached, below-member}
 use Rattle.dom_traversal.proofs.Nested.{siblings-ahead}
 use Rattle.dom_traversal.proofs.Beginning.{move-step, place_of_child, Begins-child, Begins-sibling, First-found, NextSibling-found}
+use Rattle.dom_base.specs.declared.Move.TheVariants as moves
 
 -- ---- the last child
 

@@ -1,11 +1,11 @@
 -- Steps beside by keys in a search among siblings, in a direction.
-use Rattle.dom_base.proofs.Std.{◌≡◌, ℕ, ◌<◌, true, false, not, List, [], ◌∷◌, ◌++◌, length, Option, Some, None, refl, sym, ap, subst, ◌∙◌, append_assoc, filter}
-use Rattle.dom_base.proofs.Std.{is_some, find, unwrap_or, option_map, ForSome, and_left, and_right, or_parts, append-nil}
-use Rattle.dom_traversal.proofs.Trees.{accepts, ahead_of, ancestors, beyond, Filter, filter-no, first_of, name_at, name_eq-from, NamedTrees, no_key, NodeName}
-use Rattle.dom_traversal.proofs.Trees.{parent_of, StandAlone, StandOnce, StandsBelow, top_places, Trees, up_to_tree, was_some, within-top}
-use Rattle.dom_traversal.specs.Definitions.{Direction, is_accepted_but, is_stop, Next, Previous, sibling_in, StepsBeside, stop_above}
-use Rattle.dom_traversal.proofs.Stops.{IsBelow, within-below, stop-here, stop-above, path_up, below-stop, ahead_of-previous, ahead_of-parent}
-use Rattle.dom_traversal.proofs.Stops.{aside_next, aside_ends, aside_up}
+use Rattle.dom_traversal.proofs.Cited.{◌≡◌, ℕ, ◌<◌, true, false, not, List, [], ◌∷◌, ◌++◌, length, Option, Some, None, refl, sym, ap, subst, ◌∙◌, append_assoc}
+use Rattle.dom_traversal.proofs.Cited.{filter, is_some, find, unwrap_or, option_map, ForSome, and_left, and_right, or_parts, append-nil, accepts, ahead_of}
+use Rattle.dom_traversal.proofs.Cited.{ancestors, beyond, Filter, filter-no, first_of, name_at, name_eq-from, NamedTrees, no_key, NodeName, parent_of}
+use Rattle.dom_traversal.proofs.Cited.{StandAlone, StandOnce, StandsBelow, top_places, Trees, up_to_tree, was_some, within-top, Direction, is_accepted_but}
+use Rattle.dom_traversal.proofs.Cited.{is_stop, Next, Previous, sibling_in, StepsBeside, stop_above}
+use Rattle.dom_traversal.proofs.Stops.{IsBelow, within-below, stop-here, stop-above, path_up, below-stop, ahead_of-previous, ahead_of-parent, aside_next}
+use Rattle.dom_traversal.proofs.Stops.{aside_ends, aside_up}
 use Rattle.dom_traversal.proofs.Aside.{IsBelow-key, StandsBelow-key, SameStop, rises}
 
 -- what is left to search backward beside x is what is left beside y, and nodes of which none is accepted

@@ -1,10 +1,9 @@
 -- The children and the siblings among which a walker chooses are the nodes that are reached through opened nodes alone.
-use Rattle.dom_base.proofs.Std.{◌≡◌, inl, inr, Bool, true, false, ◌&&◌, ◌||◌, List, [], ◌∷◌, ◌++◌, refl, sym, ap, subst, ◌∙◌, filter, drop, list_all}
-use Rattle.dom_traversal.proofs.Trees.{above-below, above-beside, above-from_below, above-here, above-proper, above-split, accepts, all_single, ancestors}
-use Rattle.dom_traversal.proofs.Trees.{below, between, filter-same, Has, Has-above, here, In, inclusive_ancestors, is_in-not, is_inclusive_ancestor, IsWithin}
-use Rattle.dom_traversal.proofs.Trees.{items_before, name_eq, name_eq-other, NodeName, none, Once, once_apart, Single, Single-apart, Single-append, skips}
-use Rattle.dom_traversal.proofs.Trees.{stands_in, tree, Trees, Walker, walker_children, within-member}
-use Rattle.dom_traversal.specs.Definitions.{is_opened, is_reached}
+use Rattle.dom_traversal.proofs.Cited.{◌≡◌, inl, inr, Bool, true, false, ◌&&◌, ◌||◌, List, [], ◌∷◌, ◌++◌, refl, sym, ap, subst, ◌∙◌, filter, drop, list_all}
+use Rattle.dom_traversal.proofs.Cited.{above-below, above-beside, above-from_below, above-here, above-proper, above-split, accepts, all_single, ancestors}
+use Rattle.dom_traversal.proofs.Cited.{below, between, filter-same, Has, Has-above, here, In, inclusive_ancestors, is_in-not, is_inclusive_ancestor, IsWithin}
+use Rattle.dom_traversal.proofs.Cited.{items_before, name_eq, name_eq-other, NodeName, none, Once, once_apart, Single, Single-apart, Single-append, skips}
+use Rattle.dom_traversal.proofs.Cited.{stands_in, tree, Trees, Walker, walker_children, within-member, is_opened, is_reached}
 use Rattle.dom_traversal.proofs.Opening.{all-from}
 use Rattle.dom_traversal.proofs.Stops.{IsBelow, other-below}
 use Rattle.dom_traversal.proofs.Reaching.{opened-above}

@@ -1,9 +1,8 @@
 -- Steps aside and up by keys, within the tree of a node.
-use Rattle.dom_base.proofs.Std.{◌≡◌, ℕ, ◌<◌, true, false, not, eqb, ◌++◌, length, Option, Some, None, sym, ap, ◌∙◌, arith, is_some, option_map, ForSome}
-use Rattle.dom_traversal.proofs.Trees.{above-parent, above-within, beyond, first_of, here, inclusive_ancestors, is_inclusive_ancestor, IsWithin, IsWithin-key}
-use Rattle.dom_traversal.proofs.Trees.{name_at, NamedTrees, next_places, next_sibling, no_next, NodeName, other_name, parent_of, StandAlone, StandOnce}
-use Rattle.dom_traversal.proofs.Trees.{stands_in, StandsIn, StandsIn-found, TellApart, Trees, was_some, within-parent, within-root}
-use Rattle.dom_traversal.specs.Definitions.{IsWalkerOf, KeyedWalker}
+use Rattle.dom_traversal.proofs.Cited.{◌≡◌, ℕ, ◌<◌, true, false, not, eqb, ◌++◌, length, Option, Some, None, sym, ap, ◌∙◌, arith, is_some, option_map, ForSome}
+use Rattle.dom_traversal.proofs.Cited.{above-parent, above-within, beyond, first_of, here, inclusive_ancestors, is_inclusive_ancestor, IsWithin, IsWithin-key}
+use Rattle.dom_traversal.proofs.Cited.{name_at, NamedTrees, next_places, next_sibling, no_next, NodeName, other_name, parent_of, StandAlone, StandOnce}
+use Rattle.dom_traversal.proofs.Cited.{stands_in, StandsIn, StandsIn-found, TellApart, Trees, was_some, within-parent, within-root, IsWalkerOf, KeyedWalker}
 
 -- the next sibling is the first node beyond
 first-tree : {ts : Trees} {top x s : NodeName} → IsWithin ts top x → (x ≡ top → ⊥) → next_sibling ts x ≡ Some s → first_of (beyond ts top x) ≡ Some s

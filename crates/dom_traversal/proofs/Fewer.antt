@@ -1,10 +1,11 @@
 -- A node that a search forward finds has fewer nodes behind it.
-use Rattle.dom_base.proofs.Std.{◌≡◌, ◌⊎◌, inl, inr, ℕ, ◌<◌, Bool, true, false, cond, List, [], ◌∷◌, length, Some, sym, ap, subst, ◌∙◌, arith, ◌≤◌}
-use Rattle.dom_base.proofs.Std.{length-append, filter, cases_Bool, none-some, same_Some}
-use Rattle.dom_traversal.proofs.Trees.{accepts, after-in, all_single, behind, filter-no, filter-yes, first_of, In, inclusive_descendants, is_inclusive_ancestor}
-use Rattle.dom_traversal.proofs.Trees.{IsWithin-key, items_after, items_before, iterator_next_node, name_at, name_eq, name_eq-from, name_eq-other, NamedTrees}
-use Rattle.dom_traversal.proofs.Trees.{Next, NodeName, nodes_ahead, same_or_not, Single, split_at, StandAlone, StandOnce, StandsIn, walker_move}
-use Rattle.dom_traversal.specs.Definitions.{IsIteratorOf, IsWalkerOf, iterator_left, iterator_view, KeyedIterator, KeyedWalker, walker_left, walker_view}
+use Rattle.dom_traversal.proofs.Cited.{◌≡◌, ◌⊎◌, inl, inr, ℕ, ◌<◌, Bool, true, false, cond, List, [], ◌∷◌, length, Some, sym, ap, subst, ◌∙◌, arith, ◌≤◌}
+use Rattle.dom_traversal.proofs.Cited.{length-append, filter, cases_Bool, none-some, same_Some, accepts, after-in, all_single, behind, filter-no, filter-yes}
+use Rattle.dom_traversal.proofs.Cited.{first_of, In, inclusive_descendants, is_inclusive_ancestor, IsWithin-key, items_after, items_before, iterator_next_node}
+use Rattle.dom_traversal.proofs.Cited.{name_at, name_eq, name_eq-from, name_eq-other, NamedTrees, NodeName, nodes_ahead, same_or_not, Single, split_at}
+use Rattle.dom_traversal.proofs.Cited.{StandAlone, StandOnce, StandsIn, walker_move, IsIteratorOf, IsWalkerOf, iterator_left, iterator_view, KeyedIterator}
+use Rattle.dom_traversal.proofs.Cited.{KeyedWalker, walker_left, walker_view}
+use Rattle.dom_model.proofs.Model.{Next}
 
 -- ---- in a list in which no name stands twice
 

@@ -1,10 +1,10 @@
 -- A search forward among the nodes that are accepted and reached through open nodes alone.
-use Rattle.dom_base.proofs.Std.{◌≡◌, inl, inr, Bool, true, false, ◌∷◌, ◌++◌, length, Option, Some, None, refl, sym, ap, subst, ◌∙◌, arith, ◌<◌, length-append}
-use Rattle.dom_base.proofs.Std.{filter, list_all, and_left, same_Some}
-use Rattle.dom_traversal.proofs.Trees.{ahead_of, all_single, ancestors, behind, behind-next, behind_is, below, below-from_above, beyond, children_of}
-use Rattle.dom_traversal.proofs.Trees.{first-miss, first_child, first_of, first_split, following_place, from_node, here, In, In-from, In-left, In-names}
-use Rattle.dom_traversal.proofs.Trees.{In-right, inclusive_ancestors, inclusive_descendants, is_inclusive_ancestor, IsWithin, no_child, no_first, NodeName}
-use Rattle.dom_traversal.proofs.Trees.{ordered, parent-of_child, proper-parent, Single, Single-right, stands_in, subtree, Trees}
+use Rattle.dom_traversal.proofs.Cited.{◌≡◌, inl, inr, Bool, true, false, ◌∷◌, ◌++◌, length, Option, Some, None, refl, sym, ap, subst, ◌∙◌, arith, ◌<◌}
+use Rattle.dom_traversal.proofs.Cited.{length-append, filter, list_all, and_left, same_Some, ahead_of, all_single, ancestors, behind, behind-next, behind_is}
+use Rattle.dom_traversal.proofs.Cited.{below, below-from_above, beyond, children_of, first-miss, first_child, first_of, first_split, following_place, from_node}
+use Rattle.dom_traversal.proofs.Cited.{here, In, In-from, In-left, In-names, In-right, inclusive_ancestors, inclusive_descendants, is_inclusive_ancestor}
+use Rattle.dom_traversal.proofs.Cited.{IsWithin, no_child, no_first, NodeName, ordered, parent-of_child, proper-parent, Single, Single-right, stands_in}
+use Rattle.dom_traversal.proofs.Cited.{subtree, Trees}
 use Rattle.dom_traversal.proofs.Opening.{reached, reached-shut, all-from, all-at, beyond-above, beyond_place}
 
 -- what is next behind a node has no other nodes above it than that node and those above it

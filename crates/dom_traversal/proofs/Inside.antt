@@ -1,10 +1,8 @@
 -- A walk through the tree of a node, and which of its nodes are still to come.
-use Rattle.dom_base.proofs.Std.{◌≡◌, ◌≢◌, ◌⊎◌, inl, inr, ℕ, ◌<◌, false, ◌||◌, length, Option, Some, None, ap, ◌∙◌, sym, subst, option_map, ForSome}
-use Rattle.dom_traversal.proofs.Trees.{above-within, behind, behind_is, below, beyond, from_node, here, In, In-left, inclusive_descendants, IsWithin-itself}
-use Rattle.dom_laws.proofs.Laws.{above-root}
-use Rattle.dom_traversal.proofs.Trees.{above-parent, Has-forest, is_in, name_at, name_eq, name_eq-other, NamedTrees, NodeName, Once-forest, parent_of}
-use Rattle.dom_traversal.proofs.Trees.{StandAlone, StandOnce, StandsIn, TellApart}
-use Rattle.dom_traversal.specs.Definitions.{is_inside}
+use Rattle.dom_traversal.proofs.Cited.{◌≡◌, ◌≢◌, ◌⊎◌, inl, inr, ℕ, ◌<◌, false, ◌||◌, length, Option, Some, None, ap, ◌∙◌, sym, subst, option_map, ForSome}
+use Rattle.dom_traversal.proofs.Cited.{above-within, behind, behind_is, below, beyond, from_node, here, In, In-left, inclusive_descendants, IsWithin-itself}
+use Rattle.dom_traversal.proofs.Cited.{above-root, above-parent, Has-forest, is_in, name_at, name_eq, name_eq-other, NamedTrees, NodeName, Once-forest}
+use Rattle.dom_traversal.proofs.Cited.{parent_of, StandAlone, StandOnce, StandsIn, TellApart, is_inside}
 
 module _ (f : NamedTrees) (top : ℕ) where
   -- the names from a key on, in the tree of the top

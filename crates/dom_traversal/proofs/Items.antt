@@ -1,7 +1,6 @@
 -- Items of lists by their places.
-use Rattle.dom_base.proofs.Std.{◌≡◌, ℕ, zero, suc, true, List, [], ◌∷◌, ◌++◌, Some, get_or, refl, sym, ap, subst, ◌∙◌, slice_get, slice_set, is_some, none-some}
-use Rattle.dom_base.proofs.Std.{same_Some}
-use Rattle.dom_traversal.specs.Definitions.{EachItem}
+use Rattle.dom_traversal.proofs.Cited.{◌≡◌, ℕ, zero, suc, true, List, [], ◌∷◌, ◌++◌, Some, get_or, refl, sym, ap, subst, ◌∙◌, slice_get, slice_set, is_some}
+use Rattle.dom_traversal.proofs.Cited.{none-some, same_Some, EachItem}
 
 -- ---- items that are written and added
 

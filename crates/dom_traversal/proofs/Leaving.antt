@@ -1,8 +1,7 @@
 -- Iterators that leave the tree of a node, in any order and as often as they are asked.
-use Rattle.dom_base.proofs.Std.{◌≡◌, ℕ, ◌+◌, ◌<◌, ◌≤◌, Bool, true, false, not, cond, inl, inr, List, length, Option, Some, None, refl, sym, subst, ◌∙◌, arith}
-use Rattle.dom_base.proofs.Std.{slice_get, slice_set, ◌||◌, cases_eq, cases_lt, none-some}
-use Rattle.dom_traversal.proofs.Trees.{adjusted_iterator, is_inclusive_ancestor, name_at, NamedTrees}
-use Rattle.dom_traversal.specs.Definitions.{AreLeft, EachItem, IsIteratorOf, IsLeft, IsLeftIf, iterator_view, KeyedIterator, MayHaveLeft}
+use Rattle.dom_traversal.proofs.Cited.{◌≡◌, ℕ, ◌+◌, ◌<◌, ◌≤◌, Bool, true, false, not, cond, inl, inr, List, length, Option, Some, None, refl, sym, subst, ◌∙◌}
+use Rattle.dom_traversal.proofs.Cited.{arith, slice_get, slice_set, ◌||◌, cases_eq, cases_lt, none-some, adjusted_iterator, is_inclusive_ancestor, name_at}
+use Rattle.dom_traversal.proofs.Cited.{NamedTrees, AreLeft, EachItem, IsIteratorOf, IsLeft, IsLeftIf, iterator_view, KeyedIterator, MayHaveLeft}
 use Rattle.dom_traversal.proofs.Items.{get_set, get_set_other}
 
 -- of the iterators of a kind those before a place have left, and each has left or is as it was

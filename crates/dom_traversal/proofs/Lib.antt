@@ -1,4 +1,4 @@
-mod Trees
+mod Cited
 mod Climbing
 mod Opening
 mod Forward

@@ -1,9 +1,7 @@
 -- The list of the references of iterators that are added and moved.
-use Rattle.dom_base.proofs.Std.{◌≡◌, ◌≢◌, ◌⊎◌, inl, inr, ℕ, List, [], ◌∷◌, ◌++◌, length, true, get_or, Some, sym, ap, subst, ◌∙◌}
-use Rattle.dom_base.proofs.Std.{is_some, slice_get, slice_set, Contains, cases_eq, same_Some}
-use Rattle.node_arena.proofs.Numbers.{slice_get-push}
+use Rattle.dom_traversal.proofs.Cited.{◌≡◌, ◌≢◌, ◌⊎◌, inl, inr, ℕ, List, [], ◌∷◌, ◌++◌, length, true, get_or, Some, sym, ap, subst, ◌∙◌, is_some, slice_get}
+use Rattle.dom_traversal.proofs.Cited.{slice_set, Contains, cases_eq, same_Some, slice_get-push, AreListed, KeyedIterator, Reference, reference_at}
 use Rattle.dom_tree.proofs.Changes.{slice_get-push as slice_get-kept, slice_get-pushed}
-use Rattle.dom_traversal.specs.Definitions.{AreListed, KeyedIterator, Reference, reference_at}
 use Rattle.dom_traversal.proofs.Items.{get_set, get_set_other, got}
 
 -- an item that was read in a list that is known to have it

@@ -1,14 +1,13 @@
 -- The siblings among which a walker chooses, within the tree of their stop.
-use Rattle.dom_base.proofs.Std.{◌≡◌, ◌⊎◌, inl, inr, Bool, true, false, not, ◌&&◌, ◌||◌, List, [], ◌∷◌, ◌++◌, Some, refl, sym, ap, subst, ◌∙◌, append_assoc}
-use Rattle.dom_base.proofs.Std.{drop, filter, find, unwrap_or, list_all, cases_Bool, and_left, and_right, or_right, or_parts, both_ways, append-nil}
-use Rattle.dom_base.proofs.Std.{filter-append}
-use Rattle.dom_traversal.proofs.Trees.{above-absent, above-along, above-proper, accepts, after-in, ahead-apart, ahead_of, all_single, ancestors, before-in}
-use Rattle.dom_traversal.proofs.Trees.{behind, behind_is, below, below-from_above, between, beyond, filter-none, filter-same, Has, Has-above, has_or_not, here}
-use Rattle.dom_traversal.proofs.Trees.{In, In-from, In-left, In-names, In-parts, In-right, inclusive_ancestors, inclusive_descendants, inside-test, is_in}
-use Rattle.dom_traversal.proofs.Trees.{is_in-from, is_in-not, is_inclusive_ancestor, IsWithin, items_after, items_before, name_eq, name_eq-from, name_eq-other}
-use Rattle.dom_traversal.proofs.Trees.{NodeName, not_before, ordered, outside-test, same_or_not, sibling_top, Single, Single-apart, Single-right, split_is}
-use Rattle.dom_traversal.proofs.Trees.{splits, stands_in, subtree, Trees, Walker, walker_siblings, within-member, within-top}
-use Rattle.dom_traversal.specs.Definitions.{is_candidate, is_opened, is_reached, is_stop}
+use Rattle.dom_traversal.proofs.Cited.{◌≡◌, ◌⊎◌, inl, inr, Bool, true, false, not, ◌&&◌, ◌||◌, List, [], ◌∷◌, ◌++◌, Some, refl, sym, ap, subst, ◌∙◌}
+use Rattle.dom_traversal.proofs.Cited.{append_assoc, drop, filter, find, unwrap_or, list_all, cases_Bool, and_left, and_right, or_right, or_parts, both_ways}
+use Rattle.dom_traversal.proofs.Cited.{append-nil, filter-append, above-absent, above-along, above-proper, accepts, after-in, ahead-apart, ahead_of, all_single}
+use Rattle.dom_traversal.proofs.Cited.{ancestors, before-in, behind, behind_is, below, below-from_above, between, beyond, filter-none, filter-same, Has}
+use Rattle.dom_traversal.proofs.Cited.{Has-above, has_or_not, here, In, In-from, In-left, In-names, In-parts, In-right, inclusive_ancestors}
+use Rattle.dom_traversal.proofs.Cited.{inclusive_descendants, inside-test, is_in, is_in-from, is_in-not, is_inclusive_ancestor, IsWithin, items_after}
+use Rattle.dom_traversal.proofs.Cited.{items_before, name_eq, name_eq-from, name_eq-other, NodeName, not_before, ordered, outside-test, same_or_not}
+use Rattle.dom_traversal.proofs.Cited.{sibling_top, Single, Single-apart, Single-right, split_is, splits, stands_in, subtree, Trees, Walker, walker_siblings}
+use Rattle.dom_traversal.proofs.Cited.{within-member, within-top, is_candidate, is_opened, is_reached, is_stop}
 use Rattle.dom_traversal.proofs.Opening.{not_around, not_above_itself}
 use Rattle.dom_traversal.proofs.Stops.{IsBelow, within-below, below-stop}
 use Rattle.dom_traversal.proofs.Candidates.{proper-split, opened-between, below-member}

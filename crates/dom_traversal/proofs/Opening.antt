@@ -1,13 +1,13 @@
 -- The nodes that are accepted and reached through open nodes alone, and what a node that is not open hides.
-use Rattle.dom_base.proofs.Std.{◌≡◌, inl, inr, ℕ, ◌≤◌, zero, suc, Bool, true, false, not, ◌&&◌, List, [], ◌∷◌, ◌++◌, length, Option, Some, None, refl, sym, ap}
-use Rattle.dom_base.proofs.Std.{subst, ◌∙◌, arith, length-append, append_assoc, drop, filter, list_any, list_all, cases_Bool, and_left, and_right, and_from}
-use Rattle.dom_base.proofs.Std.{and_parts, both_ways, false_from_ne_true, none-some, same_Some, filter-append}
-use Rattle.dom_traversal.proofs.Trees.{above-along, above-from_below, above-parent, above-proper, above-split, after-split, ahead_of, all_single, ancestors}
-use Rattle.dom_traversal.proofs.Trees.{behind, behind_is, below, below-from_above, beyond, children_of, filter-no, filter-none, first_of, first_split, Has}
-use Rattle.dom_traversal.proofs.Trees.{Has-names, Has-subtree, here, In, In-right, inclusive_ancestors, inclusive_descendants, IsWithin, items_after}
-use Rattle.dom_traversal.proofs.Trees.{items_before, name_eq, next_places, next_sibling, no_first, no_next, NodeName, Once, parent-of_child, parent_of}
-use Rattle.dom_traversal.proofs.Trees.{proper-parent, same_or_not, Single, Single-apart, splits, stands_in, subtree, top_places, Trees, within-member}
-use Rattle.dom_traversal.proofs.Trees.{within-parent, within-root, within-top}
+use Rattle.dom_traversal.proofs.Cited.{◌≡◌, inl, inr, ℕ, ◌≤◌, zero, suc, Bool, true, false, not, ◌&&◌, List, [], ◌∷◌, ◌++◌, length, Option, Some, None, refl}
+use Rattle.dom_traversal.proofs.Cited.{sym, ap, subst, ◌∙◌, arith, length-append, append_assoc, drop, filter, list_any, list_all, cases_Bool, and_left}
+use Rattle.dom_traversal.proofs.Cited.{and_right, and_from, and_parts, both_ways, false_from_ne_true, none-some, same_Some, filter-append, above-along}
+use Rattle.dom_traversal.proofs.Cited.{above-from_below, above-parent, above-proper, above-split, after-split, ahead_of, all_single, ancestors, behind}
+use Rattle.dom_traversal.proofs.Cited.{behind_is, below, below-from_above, beyond, children_of, filter-no, filter-none, first_of, first_split, Has, Has-names}
+use Rattle.dom_traversal.proofs.Cited.{Has-subtree, here, In, In-right, inclusive_ancestors, inclusive_descendants, IsWithin, items_after, items_before}
+use Rattle.dom_traversal.proofs.Cited.{name_eq, next_places, next_sibling, no_first, no_next, NodeName, Once, parent-of_child, parent_of, proper-parent}
+use Rattle.dom_traversal.proofs.Cited.{same_or_not, Single, Single-apart, splits, stands_in, subtree, top_places, Trees, within-member, within-parent}
+use Rattle.dom_traversal.proofs.Cited.{within-root, within-top}
 
 -- tests of all members
 pub all-from : (p : NodeName → Bool) (xs : List NodeName) → ((a : NodeName) → In a xs → p a ≡ true) → list_all p xs ≡ true

@@ -1,9 +1,8 @@
 -- An owner's cursors in the map of all owners'.
-use Rattle.dom_base.proofs.Std.{◌≡◌, ◌≢◌, ℕ, Bool, true, false, cond, Option, Some, None, refl, sym, ap, ◌∙◌, unwrap_or, is_some, Result, Ok, Err, IsErrAnd}
-use Rattle.dom_base.proofs.Std.{lookup, get}
-use Rattle.dom_traversal.proofs.Trees.{Fault, Limit, Memory, ne-owner_eq, Owner, owner_eq, owner_eq-same, owner_eq-true, Refused, same_owner}
+use Rattle.dom_traversal.proofs.Cited.{◌≡◌, ◌≢◌, ℕ, Bool, true, false, cond, Option, Some, None, refl, sym, ap, ◌∙◌, unwrap_or, is_some, Result, Ok, Err}
+use Rattle.dom_traversal.proofs.Cited.{IsErrAnd, lookup, get, Fault, Limit, Memory, ne-owner_eq, Owner, owner_eq, owner_eq-same, owner_eq-true, Refused}
+use Rattle.dom_traversal.proofs.Cited.{same_owner, AllCursors, cursors_of, Inside, KeyedTables, no_keyed_tables, with_cursors}
 use Rattle.dom_base.specs.contracts.OwnerPartialEq.TheImpl as OwnerImpl
-use Rattle.dom_traversal.specs.Definitions.{AllCursors, cursors_of, Inside, KeyedTables, no_keyed_tables, with_cursors}
 
 -- what a look-up finds, by the test that maps make
 looked : (all : AllCursors) (o : Owner) → lookup (owner_eq o) all ≡ lookup (OwnerImpl.ghosts.eq o) all

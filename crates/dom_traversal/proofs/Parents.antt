@@ -1,9 +1,8 @@
 -- The search for the nearest accepted node above.
-use Rattle.dom_base.proofs.Std.{◌≡◌, ◌⊎◌, inl, inr, Bool, true, false, ◌&&◌, List, [], ◌∷◌, Option, Some, None, refl, sym, ap, ◌∙◌, find, if◌then◌else◌}
-use Rattle.dom_base.proofs.Std.{and_left, and_right, and_from}
-use Rattle.dom_traversal.proofs.Trees.{above-within, accepts, ancestors, In, inclusive_ancestors, is_in-not, is_inclusive_ancestor, IsWithin, name_eq}
-use Rattle.dom_traversal.proofs.Trees.{name_eq-from, name_eq-other, NodeName, parent_of, proper-parent, same_or_not, stands_in, Trees, Walker, within-parent}
-use Rattle.dom_traversal.proofs.Trees.{within-top}
+use Rattle.dom_traversal.proofs.Cited.{◌≡◌, ◌⊎◌, inl, inr, Bool, true, false, ◌&&◌, List, [], ◌∷◌, Option, Some, None, refl, sym, ap, ◌∙◌, find, if◌then◌else◌}
+use Rattle.dom_traversal.proofs.Cited.{and_left, and_right, and_from, above-within, accepts, ancestors, In, inclusive_ancestors, is_in-not}
+use Rattle.dom_traversal.proofs.Cited.{is_inclusive_ancestor, IsWithin, name_eq, name_eq-from, name_eq-other, NodeName, parent_of, proper-parent, same_or_not}
+use Rattle.dom_traversal.proofs.Cited.{stands_in, Trees, Walker, within-parent, within-top}
 use Rattle.dom_traversal.proofs.Opening.{not_around}
 
 -- a node that is accepted and stands in the tree of the root

@@ -1,9 +1,8 @@
 -- The nodes among which nextNode and previousNode choose are those reached through nodes that are not passed over.
-use Rattle.dom_base.proofs.Std.{◌≡◌, Bool, true, false, not, ◌&&◌, List, Option, Some, refl, sym, ap, subst, ◌∙◌, filter, is_none, false_from_ne_true}
-use Rattle.dom_traversal.proofs.Trees.{above-proper, accepts, ancestors, answer_at, behind, behind-next, beyond, filter-same, first_of, following_place, In}
-use Rattle.dom_traversal.proofs.Trees.{inclusive_ancestors, is_in-from, is_inclusive_ancestor, is_reject, IsWithin, NodeName, Reject, rejects, Skip, stands_in}
-use Rattle.dom_traversal.proofs.Trees.{Trees, Verdict, Walker, walker_nodes}
-use Rattle.dom_traversal.specs.Definitions.{is_passable}
+use Rattle.dom_traversal.proofs.Cited.{◌≡◌, Bool, true, false, not, ◌&&◌, List, Option, Some, refl, sym, ap, subst, ◌∙◌, filter, is_none, false_from_ne_true}
+use Rattle.dom_traversal.proofs.Cited.{above-proper, accepts, ancestors, answer_at, behind, behind-next, beyond, filter-same, first_of, following_place, In}
+use Rattle.dom_traversal.proofs.Cited.{inclusive_ancestors, is_in-from, is_inclusive_ancestor, is_reject, IsWithin, NodeName, Reject, rejects, Skip, stands_in}
+use Rattle.dom_traversal.proofs.Cited.{Trees, Verdict, Walker, walker_nodes, is_passable}
 use Rattle.dom_traversal.proofs.Opening.{reached, all-from, none-all}
 use Rattle.dom_traversal.proofs.Forward.{Comes, Comes-skip, Comes-reject, Comes-apart, following-above, not_behind}
 

@@ -1,10 +1,9 @@
 -- A search forward among the nodes in the place of siblings or of children.
-use Rattle.dom_base.proofs.Std.{◌≡◌, ℕ, ◌<◌, true, false, ◌||◌, length, Option, Some, None, refl, sym, ap, subst, ◌∙◌, filter, option_map, ForSome, list_all}
-use Rattle.dom_base.proofs.Std.{or_left, or_right, false_from_ne_true, same_Some}
-use Rattle.dom_traversal.proofs.Trees.{accepts, ancestors, answer_at, behind, beyond, first_of, from_node, Has-forest, In, In-not, inclusive_ancestors}
-use Rattle.dom_traversal.proofs.Trees.{is_in-from, is_inclusive_ancestor, is_skip, IsWithin, IsWithin-forest, name_at, NamedTrees, NodeName, Reject, Skip}
-use Rattle.dom_traversal.proofs.Trees.{skips, StandAlone, StandOnce, StandsBelow, Trees, Walker}
-use Rattle.dom_traversal.specs.Definitions.{BeginsForward, is_opened, is_reached, KeyedWalker, stop_above, stop_of, walker_view}
+use Rattle.dom_traversal.proofs.Cited.{◌≡◌, ℕ, ◌<◌, true, false, ◌||◌, length, Option, Some, None, refl, sym, ap, subst, ◌∙◌, filter, option_map, ForSome}
+use Rattle.dom_traversal.proofs.Cited.{list_all, or_left, or_right, false_from_ne_true, same_Some, accepts, ancestors, answer_at, behind, beyond, first_of}
+use Rattle.dom_traversal.proofs.Cited.{from_node, Has-forest, In, In-not, inclusive_ancestors, is_in-from, is_inclusive_ancestor, is_skip, IsWithin}
+use Rattle.dom_traversal.proofs.Cited.{IsWithin-forest, name_at, NamedTrees, NodeName, Reject, Skip, skips, StandAlone, StandOnce, StandsBelow, Trees, Walker}
+use Rattle.dom_traversal.proofs.Cited.{BeginsForward, is_opened, is_reached, KeyedWalker, stop_above, stop_of, walker_view}
 use Rattle.dom_traversal.proofs.Forward.{Comes, shorter-skip, shorter-reject, Comes-skip, Comes-reject, Comes-apart}
 use Rattle.dom_traversal.proofs.Passing.{accepts-some}
 use Rattle.dom_traversal.proofs.Stops.{within-below, below-stop}

@@ -1,14 +1,13 @@
 -- A search backward among the nodes in the place of siblings or of children.
-use Rattle.dom_base.proofs.Std.{◌≡◌, ◌⊎◌, inl, inr, ℕ, ◌<◌, Bool, true, false, not, List, [], ◌∷◌, ◌++◌, length, Option, Some, None, refl, sym, ap, subst, ◌∙◌}
-use Rattle.dom_base.proofs.Std.{arith, length-append, filter, find, unwrap_or, is_none, option_map, ForSome, list_all, cases_Bool, and_left, and_from}
-use Rattle.dom_base.proofs.Std.{and_parts, or_from, or_left, false_from_ne_true, both_ways, append-nil, filter-append, none-some, same_Some}
-use Rattle.dom_traversal.proofs.Trees.{above-within, accepts, ahead_of, ancestors, answer_at, below, below-from_above, Filter, filter-no, filter-none, Has}
-use Rattle.dom_traversal.proofs.Trees.{Has-forest, here, In, In-left, In-names, In-parts, In-right, inclusive_ancestors, inclusive_descendants, is_in-from}
-use Rattle.dom_traversal.proofs.Trees.{is_in-not, is_inclusive_ancestor, is_skip, IsWithin, last_of, last_of-end, name_at, name_eq, name_eq-other, NamedTrees}
-use Rattle.dom_traversal.proofs.Trees.{NodeName, Reject, Single, Single-apart, Skip, skips, StandAlone, StandOnce, StandsBelow, subtree, Trees, up_to_tree}
-use Rattle.dom_traversal.proofs.Trees.{Verdict, Walker}
-use Rattle.dom_traversal.specs.Definitions.{BeginsBackward, entered_by, is_accepted_but, is_candidate, is_entered, is_opened, is_reached, is_stop, KeyedWalker}
-use Rattle.dom_traversal.specs.Definitions.{StepsBehind, stop_above, walker_view}
+use Rattle.dom_traversal.proofs.Cited.{◌≡◌, ◌⊎◌, inl, inr, ℕ, ◌<◌, Bool, true, false, not, List, [], ◌∷◌, ◌++◌, length, Option, Some, None, refl, sym, ap}
+use Rattle.dom_traversal.proofs.Cited.{subst, ◌∙◌, arith, length-append, filter, find, unwrap_or, is_none, option_map, ForSome, list_all, cases_Bool, and_left}
+use Rattle.dom_traversal.proofs.Cited.{and_from, and_parts, or_from, or_left, false_from_ne_true, both_ways, append-nil, filter-append, none-some, same_Some}
+use Rattle.dom_traversal.proofs.Cited.{above-within, accepts, ahead_of, ancestors, answer_at, below, below-from_above, Filter, filter-no, filter-none, Has}
+use Rattle.dom_traversal.proofs.Cited.{Has-forest, here, In, In-left, In-names, In-parts, In-right, inclusive_ancestors, inclusive_descendants, is_in-from}
+use Rattle.dom_traversal.proofs.Cited.{is_in-not, is_inclusive_ancestor, is_skip, IsWithin, last_of, last_of-end, name_at, name_eq, name_eq-other, NamedTrees}
+use Rattle.dom_traversal.proofs.Cited.{NodeName, Reject, Single, Single-apart, Skip, skips, StandAlone, StandOnce, StandsBelow, subtree, Trees, up_to_tree}
+use Rattle.dom_traversal.proofs.Cited.{Verdict, Walker, BeginsBackward, entered_by, is_accepted_but, is_candidate, is_entered, is_opened, is_reached, is_stop}
+use Rattle.dom_traversal.proofs.Cited.{KeyedWalker, StepsBehind, stop_above, walker_view}
 use Rattle.dom_traversal.proofs.Opening.{hidden, all-from, all-at, not_around}
 use Rattle.dom_traversal.proofs.Stops.{IsBelow, within-below, other-below, below-stop}
 use Rattle.dom_traversal.proofs.Aside.{IsBelow-key, StandsBelow-key, SameStop}

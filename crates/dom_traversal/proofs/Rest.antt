@@ -1,11 +1,12 @@
 -- What a search forward leaves: the accepted nodes behind the one that it found.
-use Rattle.dom_base.proofs.Std.{◌≡◌, ◌⊎◌, inl, inr, ℕ, Bool, true, false, not, cond, ◌&&◌, List, [], ◌∷◌, Option, Some, None, refl, sym, ap, subst, ◌∙◌, filter}
-use Rattle.dom_base.proofs.Std.{list_any, cases_Bool, none-some, same_Some}
-use Rattle.dom_traversal.proofs.Trees.{above-within, accepts, after-in, all_single, ancestors, behind, Filter, filter-no, filter-same, filter-yes, first_of, In}
-use Rattle.dom_traversal.proofs.Trees.{inclusive_descendants, is_inclusive_ancestor, is_reject, is_shown, IsWithin-key, items_after, iterator_next_node}
-use Rattle.dom_traversal.proofs.Trees.{name_at, name_eq, name_eq-from, name_eq-other, NamedTrees, Next, no_first, node_in, NodeName, rejects, Single, Skip}
-use Rattle.dom_traversal.proofs.Trees.{StandAlone, StandOnce, StandsIn, verdict_at, Walker, walker_move, walker_nodes, within-member}
-use Rattle.dom_traversal.specs.Definitions.{IsIteratorOf, IsWalkerOf, iterator_rest, iterator_view, KeyedIterator, KeyedWalker, walker_rest, walker_view}
+use Rattle.dom_traversal.proofs.Cited.{◌≡◌, ◌⊎◌, inl, inr, ℕ, Bool, true, false, not, cond, ◌&&◌, List, [], ◌∷◌, Option, Some, None, refl, sym, ap, subst, ◌∙◌}
+use Rattle.dom_traversal.proofs.Cited.{filter, list_any, cases_Bool, none-some, same_Some, above-within, accepts, after-in, all_single, ancestors, behind}
+use Rattle.dom_traversal.proofs.Cited.{Filter, filter-no, filter-same, filter-yes, first_of, In, inclusive_descendants, is_inclusive_ancestor, is_reject}
+use Rattle.dom_traversal.proofs.Cited.{is_shown, IsWithin-key, items_after, iterator_next_node, name_at, name_eq, name_eq-from, name_eq-other, NamedTrees}
+use Rattle.dom_traversal.proofs.Cited.{no_first, node_in, NodeName, rejects, Single, Skip, StandAlone, StandOnce, StandsIn, verdict_at, Walker, walker_move}
+use Rattle.dom_traversal.proofs.Cited.{walker_nodes, within-member, IsIteratorOf, IsWalkerOf, iterator_rest, iterator_view, KeyedIterator, KeyedWalker}
+use Rattle.dom_traversal.proofs.Cited.{walker_rest, walker_view}
+use Rattle.dom_model.proofs.Model.{Next}
 use Rattle.dom_traversal.proofs.Fewer.{first-in}
 
 -- ---- in a list in which no name stands twice

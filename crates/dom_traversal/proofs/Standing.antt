@@ -1,10 +1,10 @@
 -- The order of references in their list, and what taking one out leaves.
-use Rattle.dom_base.proofs.Std.{◌≡◌, inl, inr, ℕ, zero, suc, ◌+◌, ◌<◌, ◌≤◌, Bool, true, false, List, [], ◌∷◌, length, get_or, eqb, ltb, refl, sym, subst, ap}
-use Rattle.dom_base.proofs.Std.{◌∙◌, arith, ◌&&◌, ◌||◌, Contains, remove, IsPartitionedBy, cases_Bool, cases_lt, eqb-true, eqb-false, ltb-true, ltb-false}
-use Rattle.dom_base.proofs.Std.{cases_eq, get_or_default, length-remove, get_or-remove_below, get_or-remove_above, Contains-append_cases, Contains-append_right}
-use Rattle.dom_base.proofs.Std.{Contains-permutation, IsPermutation-remove, IsPermutation-sym, insert, ◌⊎◌, ◌-◌, cases_order}
+use Rattle.dom_traversal.proofs.Cited.{◌≡◌, inl, inr, ℕ, zero, suc, ◌+◌, ◌<◌, ◌≤◌, Bool, true, false, List, [], ◌∷◌, length, get_or, eqb, ltb, refl, sym, subst}
+use Rattle.dom_traversal.proofs.Cited.{ap, ◌∙◌, arith, ◌&&◌, ◌||◌, Contains, remove, IsPartitionedBy, cases_Bool, cases_lt, eqb-true, eqb-false, ltb-true}
+use Rattle.dom_traversal.proofs.Cited.{ltb-false, cases_eq, get_or_default, length-remove, get_or-remove_below, get_or-remove_above, Contains-append_cases}
+use Rattle.dom_traversal.proofs.Cited.{Contains-append_right, Contains-permutation, IsPermutation-remove, IsPermutation-sym, insert, ◌⊎◌, ◌-◌, cases_order}
+use Rattle.dom_traversal.proofs.Cited.{AreSorted, IsBefore, IsUpTo, Reference, reference_at}
 use Rattle.std.proofs.lemmas.List.Edits.{get_or-insert_above, get_or-insert_at, get_or-insert_below, length-insert}
-use Rattle.dom_traversal.specs.Definitions.{AreSorted, IsBefore, IsUpTo, Reference, reference_at}
 
 -- whether a reference comes before another one
 abbrev pub is_before : Reference → Reference → Bool

@@ -1,11 +1,10 @@
 -- The nearest node above a node that the filter accepts or that is the top, and the nodes of its tree around that node.
-use Rattle.dom_base.proofs.Std.{◌≡◌, inl, inr, Bool, true, false, List, [], ◌∷◌, ◌++◌, Option, Some, None, refl, sym, ap, subst, ◌∙◌, true≢false, find}
-use Rattle.dom_base.proofs.Std.{unwrap_or, cases_Bool, or_right, or_from, or_parts}
-use Rattle.dom_traversal.proofs.Trees.{above-proper, accepts, ahead_of, ancestors, below-from_above, beyond, children_of, Filter, first_of, Has, Has-above}
-use Rattle.dom_traversal.proofs.Trees.{here, In, inclusive_ancestors, inclusive_descendants, IsWithin, name_eq, name_eq-from, name_eq-other, next_places}
-use Rattle.dom_traversal.proofs.Trees.{next_sibling, no_first, no_next, no_previous, NodeName, Once, parent-of_child, parent_of, previous_places}
-use Rattle.dom_traversal.proofs.Trees.{previous_sibling, proper-parent, stands_in, top_places, Trees, within-top}
-use Rattle.dom_traversal.specs.Definitions.{is_stop, stop_above}
+use Rattle.dom_traversal.proofs.Cited.{◌≡◌, inl, inr, Bool, true, false, List, [], ◌∷◌, ◌++◌, Option, Some, None, refl, sym, ap, subst, ◌∙◌, true≢false, find}
+use Rattle.dom_traversal.proofs.Cited.{unwrap_or, cases_Bool, or_right, or_from, or_parts, above-proper, accepts, ahead_of, ancestors, below-from_above, beyond}
+use Rattle.dom_traversal.proofs.Cited.{children_of, Filter, first_of, Has, Has-above, here, In, inclusive_ancestors, inclusive_descendants, IsWithin, name_eq}
+use Rattle.dom_traversal.proofs.Cited.{name_eq-from, name_eq-other, next_places, next_sibling, no_first, no_next, no_previous, NodeName, Once, parent-of_child}
+use Rattle.dom_traversal.proofs.Cited.{parent_of, previous_places, previous_sibling, proper-parent, stands_in, top_places, Trees, within-top, is_stop}
+use Rattle.dom_traversal.proofs.Cited.{stop_above}
 use Rattle.dom_traversal.proofs.Opening.{not_above_itself}
 
 -- x stands below top

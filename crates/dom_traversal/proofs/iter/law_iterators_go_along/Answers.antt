@@ -1,5 +1,5 @@
-use Rattle.dom_base.proofs.Std.{◌≡◌, ◌<◌, true, true≢false, List, length, sym, ap, subst, ◌∙◌, option_map}
-use Rattle.dom_traversal.proofs.Trees.{Has-forest, is_in, is_inclusive_ancestor, keeps_placed, name_at, name_eq, NodeName, Once-forest}
+use Rattle.dom_traversal.proofs.Cited.{◌≡◌, ◌<◌, true, true≢false, List, length, sym, ap, subst, ◌∙◌, option_map, Has-forest, is_in, is_inclusive_ancestor}
+use Rattle.dom_traversal.proofs.Cited.{keeps_placed, name_at, name_eq, NodeName, Once-forest}
 use Rattle.dom_traversal.proofs.iter.law_iterators_go_along.Goals as goal
 
 pub returns-clause-taken_out : goal.returns-clause-taken_out

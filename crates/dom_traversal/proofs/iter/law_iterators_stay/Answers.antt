@@ -1,4 +1,4 @@
-use Rattle.dom_traversal.proofs.Trees.{Has-forest, IsWithin-key, name_at, stays}
+use Rattle.dom_traversal.proofs.Cited.{Has-forest, IsWithin-key, name_at, stays}
 use Rattle.dom_traversal.proofs.iter.law_iterators_stay.Goals as goal
 
 pub returns : goal.returns

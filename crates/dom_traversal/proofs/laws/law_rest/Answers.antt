@@ -1,6 +1,4 @@
-use Rattle.dom_base.proofs.Std.{sym}
-use Rattle.dom_traversal.specs.Definitions.{iterator_rest}
-use Rattle.dom_traversal.proofs.Trees.{above-itself, name_at, no_first}
+use Rattle.dom_traversal.proofs.Cited.{sym, iterator_rest, above-itself, name_at, no_first}
 use Rattle.dom_traversal.proofs.Rest.{iterator-rest, walker-rest, walker-stays, walker-end}
 use Rattle.dom_traversal.proofs.laws.law_rest.Goals as goal
 

@@ -1,5 +1,4 @@
-use Rattle.dom_base.proofs.Std.{get_or, ap, arith, rules, ◌<◌, get_or_default}
-use Rattle.dom_traversal.specs.Definitions.{Reference}
+use Rattle.dom_traversal.proofs.Cited.{get_or, ap, arith, rules, ◌<◌, get_or_default, Reference}
 use Rattle.dom_traversal.proofs.Standing.{AreSorted-up_to}
 use Rattle.dom_traversal.proofs.references.are_behind.Goals as goal
 

@@ -1,5 +1,5 @@
-use Rattle.dom_base.proofs.Std.{◌≡◌, ◌≢◌, inl, inr, ℕ, ◌<◌, ◌≤◌, ◌∙◌, List, length, get_or, remove, sym, subst, Contains, cases_eq, eqb-true}
-use Rattle.dom_traversal.specs.Definitions.{AreSorted, IsBefore, IsUpTo, Reference, reference_at}
+use Rattle.dom_traversal.proofs.Cited.{◌≡◌, ◌≢◌, inl, inr, ℕ, ◌<◌, ◌≤◌, ◌∙◌, List, length, get_or, remove, sym, subst, Contains, cases_eq, eqb-true, AreSorted}
+use Rattle.dom_traversal.proofs.Cited.{IsBefore, IsUpTo, Reference, reference_at}
 use Rattle.dom_traversal.proofs.Standing.{place-is, AreSorted-removed, Contains-removed, Contains-was, Contains-gone}
 use Rattle.dom_traversal.proofs.references.bring.Goals as goal
 

@@ -1,4 +1,4 @@
-use Rattle.dom_base.proofs.Std.{refl}
+use Rattle.dom_traversal.proofs.Cited.{refl}
 use Rattle.dom_traversal.proofs.Inside.{top-stands}
 use Rattle.dom_traversal.proofs.references.is_apart.Goals as goal
 

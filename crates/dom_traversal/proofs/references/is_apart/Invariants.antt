@@ -1,5 +1,4 @@
-use Rattle.dom_base.proofs.Std.{◌≡◌, ◌<◌, true, length, ForSome}
-use Rattle.dom_traversal.specs.Definitions.{AreTested, is_inside}
+use Rattle.dom_traversal.proofs.Cited.{◌≡◌, ◌<◌, true, length, ForSome, AreTested, is_inside}
 use Rattle.dom_traversal.proofs.references.is_apart.Given as goal
 
 abbrev pub invariant-loop : goal.invariant-loop

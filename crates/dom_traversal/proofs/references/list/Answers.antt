@@ -1,6 +1,5 @@
-use Rattle.dom_base.proofs.Std.{ℕ, ◌<◌, ◌≤◌, List, length, get_or, get_or_default, sym, subst, arith}
-use Rattle.dom_tree.proofs.OwnerLists.{of_ok}
-use Rattle.dom_traversal.specs.Definitions.{AreSorted, IsBefore, IsUpTo, Reference, reference_at}
+use Rattle.dom_traversal.proofs.Cited.{ℕ, ◌<◌, ◌≤◌, List, length, get_or, get_or_default, sym, subst, arith, of_ok, AreSorted, IsBefore, IsUpTo, Reference}
+use Rattle.dom_traversal.proofs.Cited.{reference_at}
 use Rattle.dom_traversal.proofs.Standing.{AreSorted-inserted}
 use Rattle.dom_traversal.proofs.references.list.Goals as goal
 

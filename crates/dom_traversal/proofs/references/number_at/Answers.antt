@@ -1,9 +1,8 @@
-use Rattle.dom_base.proofs.Std.{◌≤◌, inl, inr, ap, refl, sym, subst, ◌∙◌, arith, same_Some, cases_lt, eqb-false}
-use Rattle.dom_traversal.specs.Definitions.{Reference, reference_at}
+use Rattle.dom_traversal.proofs.Cited.{◌≤◌, inl, inr, ap, refl, sym, subst, ◌∙◌, arith, same_Some, cases_lt, eqb-false, Reference, reference_at}
 use Rattle.dom_traversal.proofs.Standing.{place-between}
-use Rattle.dom_traversal.proofs.references.number_at.Goals as goal
 use Rattle.dom_traversal.proofs.references.number_at.Goals.{else-place-references-via-then-place-references+else-eq}
 use Rattle.dom_traversal.proofs.references.number_at.Goals.{else-place-references-via-else-place-references}
+use Rattle.dom_traversal.proofs.references.number_at.Goals as goal
 
 pub returns-then-are_behind-clause-least : goal.returns-then-are_behind-clause-least
 returns-then-are_behind-clause-least c n le w =

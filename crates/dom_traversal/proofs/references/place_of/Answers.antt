@@ -1,5 +1,4 @@
-use Rattle.dom_base.proofs.Std.{arith, rules, IsPartitionPoint-from_clause}
-use Rattle.dom_traversal.specs.Definitions.{reference_at}
+use Rattle.dom_traversal.proofs.Cited.{arith, rules, IsPartitionPoint-from_clause, reference_at}
 use Rattle.dom_traversal.proofs.Standing.{is_before, before-true, before-false, IsPartitionedBy-before}
 use Rattle.dom_traversal.proofs.references.place_of.Goals as goal
 

@@ -1,5 +1,5 @@
-use Rattle.dom_base.proofs.Std.{◌≡◌, refl, sym, ap, subst, ◌∙◌, not-false, eqb-true}
-use Rattle.dom_traversal.proofs.Trees.{beyond, first_of, IsWithin, IsWithin-key, name_at, no_key, top_places}
+use Rattle.dom_traversal.proofs.Cited.{◌≡◌, refl, sym, ap, subst, ◌∙◌, not-false, eqb-true, beyond, first_of, IsWithin, IsWithin-key, name_at, no_key}
+use Rattle.dom_traversal.proofs.Cited.{top_places}
 use Rattle.dom_traversal.proofs.Climbing.{Climbs, inner-name, next_step, climb_step, climb_ends}
 use Rattle.dom_traversal.proofs.search.beyond.Goals.{In_ok-at}
 use Rattle.dom_traversal.proofs.search.beyond.Goals as goal

@@ -1,5 +1,4 @@
-use Rattle.dom_base.proofs.Std.{◌≡◌, length}
-use Rattle.dom_traversal.proofs.Trees.{beyond, inclusive_ancestors, name_at, StandsIn}
+use Rattle.dom_traversal.proofs.Cited.{◌≡◌, length, beyond, inclusive_ancestors, name_at, StandsIn}
 use Rattle.dom_traversal.proofs.search.beyond.Given as goal
 
 abbrev pub invariant-loop-top : goal.invariant-loop-top

@@ -1,6 +1,5 @@
-use Rattle.dom_base.proofs.Std.{◌≡◌, ◌≤◌, [], ◌∷◌, ◌++◌, length, refl, sym, ap, subst, ◌∙◌, arith, IfOk, Err, ◌↔◌, IsSome, on_ok_weaker, on_err_weaker}
-use Rattle.dom_traversal.proofs.Trees.{Limit, Refused}
-use Rattle.dom_traversal.specs.Definitions.{cursors_of, filter_of, Inside, KeyedTables, with_cursors}
+use Rattle.dom_traversal.proofs.Cited.{◌≡◌, ◌≤◌, [], ◌∷◌, ◌++◌, length, refl, sym, ap, subst, ◌∙◌, arith, IfOk, Err, ◌↔◌, IsSome, on_ok_weaker, on_err_weaker}
+use Rattle.dom_traversal.proofs.Cited.{Limit, Refused, cursors_of, filter_of, Inside, KeyedTables, with_cursors}
 use Rattle.dom_traversal.proofs.Owners.{had-kept, written-kept, with-same, not_limit}
 use Rattle.dom_traversal.proofs.cursors.Cursors.add_walker.Goals as goal
 

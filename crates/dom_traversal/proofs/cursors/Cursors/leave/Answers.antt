@@ -1,5 +1,5 @@
-use Rattle.dom_base.proofs.Std.{◌≡◌, List, refl, sym, ap, subst, ◌∙◌, IsSome}
-use Rattle.dom_traversal.specs.Definitions.{cursors_of, EachItem, Inside, IsIteratorOf, KeyedIterator, KeyedTables, KeyedWalker, with_cursors}
+use Rattle.dom_traversal.proofs.Cited.{◌≡◌, List, refl, sym, ap, subst, ◌∙◌, IsSome, cursors_of, EachItem, Inside, IsIteratorOf, KeyedIterator, KeyedTables}
+use Rattle.dom_traversal.proofs.Cited.{KeyedWalker, with_cursors}
 use Rattle.dom_traversal.proofs.Owners.{had, written, with-own}
 use Rattle.dom_traversal.proofs.cursors.Cursors.leave.Goals as goal
 

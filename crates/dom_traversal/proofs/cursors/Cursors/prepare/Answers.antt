@@ -1,8 +1,6 @@
-use Rattle.dom_base.proofs.Std.{◌≡◌, true, OnErr, sym, ap, ◌∙◌, subst, is_some, Result, Ok, Err, lookup, get}
-use Rattle.dom_base.specs.contracts.OwnerPartialEq.TheImpl as OwnerImpl
-use Rattle.dom_traversal.proofs.Trees.{owner_eq}
-use Rattle.dom_traversal.specs.Definitions.{AllCursors, Inside}
+use Rattle.dom_traversal.proofs.Cited.{◌≡◌, true, OnErr, sym, ap, ◌∙◌, subst, is_some, Result, Ok, Err, lookup, get, owner_eq, AllCursors, Inside}
 use Rattle.dom_traversal.proofs.Owners.{had-none, entry, written-none, none_from}
+use Rattle.dom_base.specs.contracts.OwnerPartialEq.TheImpl as OwnerImpl
 use Rattle.dom_traversal.proofs.cursors.Cursors.prepare.Goals as goal
 
 -- what holds, holds of an error

@@ -1,5 +1,5 @@
-use Rattle.dom_base.proofs.Std.{◌≡◌, true, refl, sym, ap, subst, ◌∙◌, is_some, slice_get, slice_set, IsSome}
-use Rattle.dom_traversal.specs.Definitions.{cursors_of, Inside, KeyedTables, with_cursors}
+use Rattle.dom_traversal.proofs.Cited.{◌≡◌, true, refl, sym, ap, subst, ◌∙◌, is_some, slice_get, slice_set, IsSome, cursors_of, Inside, KeyedTables}
+use Rattle.dom_traversal.proofs.Cited.{with_cursors}
 use Rattle.dom_traversal.proofs.Owners.{had, written}
 use Rattle.dom_traversal.proofs.cursors.Cursors.set_walker.Goals as goal
 

@@ -1,7 +1,5 @@
-use Rattle.dom_base.proofs.Std.{◌≡◌, true, option_map, refl, sym, ap, subst, ◌∙◌, is_some, slice_get, slice_set, ForSome, IsSome}
-use Rattle.dom_traversal.proofs.Trees.{name_at}
-use Rattle.dom_traversal.specs.Definitions.{cursors_of, EachItem, Inside, IsIteratorOf, iterator_at, iterator_found, iterator_view, KeyedTables, stands_before}
-use Rattle.dom_traversal.specs.Definitions.{with_cursors}
+use Rattle.dom_traversal.proofs.Cited.{◌≡◌, true, option_map, refl, sym, ap, subst, ◌∙◌, is_some, slice_get, slice_set, ForSome, IsSome, name_at, cursors_of}
+use Rattle.dom_traversal.proofs.Cited.{EachItem, Inside, IsIteratorOf, iterator_at, iterator_found, iterator_view, KeyedTables, stands_before, with_cursors}
 use Rattle.dom_traversal.proofs.Owners.{had, written}
 use Rattle.dom_traversal.proofs.cursors.Cursors.traverse.Goals as goal
 

@@ -1,6 +1,5 @@
-use Rattle.dom_base.proofs.Std.{◌≡◌, true, option_map, refl, sym, ap, subst, ◌∙◌, is_some, slice_get, slice_set, ForSome, IsSome}
-use Rattle.dom_traversal.proofs.Trees.{name_at, walker_move}
-use Rattle.dom_traversal.specs.Definitions.{cursors_of, EachItem, Inside, IsWalkerOf, KeyedTables, walker_at, walker_view, with_cursors}
+use Rattle.dom_traversal.proofs.Cited.{◌≡◌, true, option_map, refl, sym, ap, subst, ◌∙◌, is_some, slice_get, slice_set, ForSome, IsSome, name_at, walker_move}
+use Rattle.dom_traversal.proofs.Cited.{cursors_of, EachItem, Inside, IsWalkerOf, KeyedTables, walker_at, walker_view, with_cursors}
 use Rattle.dom_traversal.proofs.Owners.{had, written}
 use Rattle.dom_traversal.proofs.cursors.Cursors.walk.Goals as goal
 

@@ -1,5 +1,4 @@
-use Rattle.dom_base.proofs.Std.{◌≡◌, true, sym, subst, is_some, slice_get, ForSome}
-use Rattle.dom_traversal.specs.Definitions.{KeyedTables}
+use Rattle.dom_traversal.proofs.Cited.{◌≡◌, true, sym, subst, is_some, slice_get, ForSome, KeyedTables}
 use Rattle.dom_traversal.proofs.Owners.{had}
 use Rattle.dom_traversal.proofs.cursors.Cursors.walker_at.Goals as goal
 

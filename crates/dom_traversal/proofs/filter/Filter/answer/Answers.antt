@@ -1,6 +1,5 @@
-use Rattle.dom_base.proofs.Std.{◌≡◌, ℕ, Bool, true, false, List, Option, Some, None, refl, ap, ◌∙◌, if◌then◌else◌, option_map}
-use Rattle.dom_traversal.proofs.Trees.{is_element, is_shown, name_at, NameFilter, Node, node_in, Show, Skip, text_eq, verdict_at}
-use Rattle.dom_traversal.specs.Definitions.{name_filter_of, show_of}
+use Rattle.dom_traversal.proofs.Cited.{◌≡◌, ℕ, Bool, true, false, List, Option, Some, None, refl, ap, ◌∙◌, if◌then◌else◌, option_map, is_element, is_shown}
+use Rattle.dom_traversal.proofs.Cited.{name_at, NameFilter, Node, node_in, Show, Skip, text_eq, verdict_at, name_filter_of, show_of}
 use Rattle.dom_traversal.proofs.filter.Filter.answer.Goals as goal
 
 -- what a named filter answers at an element that is shown

@@ -1,5 +1,4 @@
-use Rattle.dom_base.proofs.Std.{None, refl, sym}
-use Rattle.dom_traversal.specs.Definitions.{filter_of}
+use Rattle.dom_traversal.proofs.Cited.{None, refl, sym, filter_of}
 use Rattle.dom_traversal.proofs.Aside.{no_parent_below, rises}
 use Rattle.dom_traversal.proofs.Beside.{HasRisen-begin, beside_found, beside_up, beside_ends}
 use Rattle.dom_traversal.proofs.filter.Filter.beside.Goals as goal

@@ -1,6 +1,4 @@
-use Rattle.dom_base.proofs.Std.{length}
-use Rattle.dom_traversal.proofs.Trees.{ancestors, name_at}
-use Rattle.dom_traversal.specs.Definitions.{filter_of}
+use Rattle.dom_traversal.proofs.Cited.{length, ancestors, name_at, filter_of}
 use Rattle.dom_traversal.proofs.Beside.{HasRisen}
 use Rattle.dom_traversal.proofs.filter.Filter.beside.Given as goal
 

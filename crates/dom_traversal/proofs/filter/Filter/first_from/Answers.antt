@@ -1,6 +1,4 @@
-use Rattle.dom_base.proofs.Std.{sym, ◌∙◌}
-use Rattle.dom_traversal.proofs.Trees.{accepts, following_step, left-behind, length-behind}
-use Rattle.dom_traversal.specs.Definitions.{filter_of}
+use Rattle.dom_traversal.proofs.Cited.{sym, ◌∙◌, accepts, following_step, left-behind, length-behind, filter_of}
 use Rattle.dom_traversal.proofs.filter.Filter.first_from.Goals as goal
 
 pub loop-at-smaller : goal.loop-at-smaller

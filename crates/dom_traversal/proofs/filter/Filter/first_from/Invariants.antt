@@ -1,6 +1,4 @@
-use Rattle.dom_base.proofs.Std.{◌≡◌, length, filter, option_map, ForSome}
-use Rattle.dom_traversal.proofs.Trees.{accepts, first_of, from_node, name_at, StandsIn}
-use Rattle.dom_traversal.specs.Definitions.{filter_of}
+use Rattle.dom_traversal.proofs.Cited.{◌≡◌, length, filter, option_map, ForSome, accepts, first_of, from_node, name_at, StandsIn, filter_of}
 use Rattle.dom_traversal.proofs.filter.Filter.first_from.Given as goal
 
 abbrev pub invariant-loop-at : goal.invariant-loop-at

@@ -1,6 +1,5 @@
-use Rattle.dom_base.proofs.Std.{ap, sym, ◌∙◌, filter, option_map}
-use Rattle.dom_traversal.proofs.Trees.{accepts, ahead_of, last-hit, last_of, left-ahead, length-ahead, name_at, preceding_step, up_to_node}
-use Rattle.dom_traversal.specs.Definitions.{filter_of}
+use Rattle.dom_traversal.proofs.Cited.{ap, sym, ◌∙◌, filter, option_map, accepts, ahead_of, last-hit, last_of, left-ahead, length-ahead, name_at}
+use Rattle.dom_traversal.proofs.Cited.{preceding_step, up_to_node, filter_of}
 use Rattle.dom_traversal.proofs.filter.Filter.last_up_to.Goals as goal
 
 pub loop-at-smaller : goal.loop-at-smaller

@@ -1,6 +1,4 @@
-use Rattle.dom_base.proofs.Std.{◌≡◌, length, filter, option_map, ForSome}
-use Rattle.dom_traversal.proofs.Trees.{accepts, last_of, name_at, StandsIn, up_to_node}
-use Rattle.dom_traversal.specs.Definitions.{filter_of}
+use Rattle.dom_traversal.proofs.Cited.{◌≡◌, length, filter, option_map, ForSome, accepts, last_of, name_at, StandsIn, up_to_node, filter_of}
 use Rattle.dom_traversal.proofs.filter.Filter.last_up_to.Given as goal
 
 abbrev pub invariant-loop-at : goal.invariant-loop-at

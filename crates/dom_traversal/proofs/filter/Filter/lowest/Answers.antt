@@ -1,6 +1,5 @@
-use Rattle.dom_base.proofs.Std.{◌≡◌, true, ◌∷◌, refl, sym, ap, ◌∙◌, and_from, option_map}
-use Rattle.dom_traversal.proofs.Trees.{above-within, Has-forest, is_inclusive_ancestor, IsWithin-forest, IsWithin-itself, name_at, NodeName, none_left}
-use Rattle.dom_traversal.specs.Definitions.{filter_of, is_entered}
+use Rattle.dom_traversal.proofs.Cited.{◌≡◌, true, ◌∷◌, refl, sym, ap, ◌∙◌, and_from, option_map, above-within, Has-forest, is_inclusive_ancestor}
+use Rattle.dom_traversal.proofs.Cited.{IsWithin-forest, IsWithin-itself, name_at, NodeName, none_left, filter_of, is_entered}
 use Rattle.dom_traversal.proofs.Backward.{alone, descends}
 use Rattle.dom_traversal.proofs.filter.Filter.lowest.Goals as goal
 

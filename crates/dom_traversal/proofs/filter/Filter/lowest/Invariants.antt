@@ -1,6 +1,5 @@
-use Rattle.dom_base.proofs.Std.{◌≡◌, ◌<◌, ◌++◌, List, length, true, Some, list_all}
-use Rattle.dom_traversal.proofs.Trees.{ancestors, inclusive_descendants, is_inclusive_ancestor, name_at, NodeName, up_to_tree}
-use Rattle.dom_traversal.specs.Definitions.{filter_of, is_entered}
+use Rattle.dom_traversal.proofs.Cited.{◌≡◌, ◌<◌, ◌++◌, List, length, true, Some, list_all, ancestors, inclusive_descendants, is_inclusive_ancestor, name_at}
+use Rattle.dom_traversal.proofs.Cited.{NodeName, up_to_tree, filter_of, is_entered}
 use Rattle.dom_traversal.proofs.filter.Filter.lowest.Given as goal
 
 abbrev pub invariant-loop-at : goal.invariant-loop-at

@@ -1,6 +1,4 @@
-use Rattle.dom_base.proofs.Std.{sym, ap, ◌∙◌}
-use Rattle.dom_traversal.proofs.Trees.{first_of}
-use Rattle.dom_traversal.specs.Definitions.{filter_of}
+use Rattle.dom_traversal.proofs.Cited.{sym, ap, ◌∙◌, first_of, filter_of}
 use Rattle.dom_traversal.proofs.Aside.{follows_child, behind_leaf}
 use Rattle.dom_traversal.proofs.filter.Filter.onward.Goals as goal
 

@@ -1,6 +1,5 @@
-use Rattle.dom_base.proofs.Std.{◌≡◌, false, refl, sym, ap, subst, ◌∙◌, option_map}
-use Rattle.dom_traversal.proofs.Trees.{behind, first_of, following_step, Iterator, name_at, nodes_ahead, Trees}
-use Rattle.dom_traversal.specs.Definitions.{iterator_view, KeyedIterator}
+use Rattle.dom_traversal.proofs.Cited.{◌≡◌, false, refl, sym, ap, subst, ◌∙◌, option_map, behind, first_of, following_step, Iterator, name_at, nodes_ahead}
+use Rattle.dom_traversal.proofs.Cited.{Trees, iterator_view, KeyedIterator}
 use Rattle.dom_traversal.proofs.iter.Iter.ahead.Goals as goal
 
 nodes_ahead-behind : (ts : Trees) (i : Iterator) → i.before ≡ false → behind ts i.root i.reference ≡ nodes_ahead ts i

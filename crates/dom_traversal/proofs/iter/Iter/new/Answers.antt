@@ -1,4 +1,4 @@
-use Rattle.dom_traversal.proofs.Trees.{above-itself, name_at}
+use Rattle.dom_traversal.proofs.Cited.{above-itself, name_at}
 use Rattle.dom_traversal.proofs.iter.Iter.new.Goals as goal
 
 pub returns-clause-begins : goal.returns-clause-begins

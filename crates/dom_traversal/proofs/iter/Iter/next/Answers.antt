@@ -1,6 +1,5 @@
-use Rattle.dom_base.proofs.Std.{◌≡◌, ◌<◌, false, Some, subst, sym, ap, ◌∙◌, filter, option_map}
-use Rattle.dom_traversal.proofs.Trees.{accepts, first_of, from_node, name_at}
-use Rattle.dom_traversal.specs.Definitions.{iterator_left, KeyedIterator}
+use Rattle.dom_traversal.proofs.Cited.{◌≡◌, ◌<◌, false, Some, subst, sym, ap, ◌∙◌, filter, option_map, accepts, first_of, from_node, name_at, iterator_left}
+use Rattle.dom_traversal.proofs.Cited.{KeyedIterator}
 use Rattle.dom_traversal.proofs.Fewer.{iterator_fewer}
 use Rattle.dom_traversal.proofs.iter.Iter.next.Goals as goal
 

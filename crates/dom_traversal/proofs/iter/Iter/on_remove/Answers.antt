@@ -1,8 +1,7 @@
-use Rattle.dom_base.proofs.Std.{◌≡◌, ℕ, ◌<◌, length, true, false, Option, Some, refl, sym, ap, subst, ◌∙◌, inl, inr, option_map, both_ways}
-use Rattle.dom_traversal.proofs.Trees.{above-chain, above-within, ahead-outside, ahead_of, beyond-outside, Has-forest, In-from, In-not, is_in-from}
-use Rattle.dom_traversal.proofs.Trees.{is_inclusive_ancestor, IsWithin-key, last_of, name_at, NamedTrees, NodeName, none_left, Once-forest, preceding_step}
-use Rattle.dom_traversal.proofs.Trees.{some_ahead, StandAlone, StandOnce, StandsIn, within-top}
-use Rattle.dom_traversal.specs.Definitions.{IsIteratorOf}
+use Rattle.dom_traversal.proofs.Cited.{◌≡◌, ℕ, ◌<◌, length, true, false, Option, Some, refl, sym, ap, subst, ◌∙◌, inl, inr, option_map, both_ways, above-chain}
+use Rattle.dom_traversal.proofs.Cited.{above-within, ahead-outside, ahead_of, beyond-outside, Has-forest, In-from, In-not, is_in-from, is_inclusive_ancestor}
+use Rattle.dom_traversal.proofs.Cited.{IsWithin-key, last_of, name_at, NamedTrees, NodeName, none_left, Once-forest, preceding_step, some_ahead, StandAlone}
+use Rattle.dom_traversal.proofs.Cited.{StandOnce, StandsIn, within-top, IsIteratorOf}
 use Rattle.dom_traversal.proofs.iter.Iter.on_remove.Goals.{Else-not-is_inclusive_ancestor}
 use Rattle.dom_traversal.proofs.iter.Iter.on_remove.Goals as goal
 

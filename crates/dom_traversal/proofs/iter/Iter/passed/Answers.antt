@@ -1,6 +1,5 @@
-use Rattle.dom_base.proofs.Std.{◌≡◌, true, refl, sym, ap, subst, ◌∙◌, option_map}
-use Rattle.dom_traversal.proofs.Trees.{ahead_of, Iterator, last_of, name_at, nodes_passed, preceding_step, Trees}
-use Rattle.dom_traversal.specs.Definitions.{iterator_view, KeyedIterator}
+use Rattle.dom_traversal.proofs.Cited.{◌≡◌, true, refl, sym, ap, subst, ◌∙◌, option_map, ahead_of, Iterator, last_of, name_at, nodes_passed, preceding_step}
+use Rattle.dom_traversal.proofs.Cited.{Trees, iterator_view, KeyedIterator}
 use Rattle.dom_traversal.proofs.iter.Iter.passed.Goals as goal
 
 nodes_passed-ahead_of : (ts : Trees) (i : Iterator) → i.before ≡ true → ahead_of ts i.root i.reference ≡ nodes_passed ts i

@@ -1,5 +1,5 @@
-use Rattle.dom_base.proofs.Std.{◌≡◌, ◌⊎◌, List, length, sym, subst, ap, arith, slice_get_within, Contains}
-use Rattle.dom_traversal.specs.Definitions.{AreListed, KeyedIterator, Reference, reference_at}
+use Rattle.dom_traversal.proofs.Cited.{◌≡◌, ◌⊎◌, List, length, sym, subst, ap, arith, slice_get_within, Contains, AreListed, KeyedIterator, Reference}
+use Rattle.dom_traversal.proofs.Cited.{reference_at}
 use Rattle.dom_traversal.proofs.Listing.{AreListed-added}
 use Rattle.dom_traversal.proofs.tables.OwnTables.add_iter.Goals as goal
 

@@ -1,6 +1,5 @@
-use Rattle.dom_base.proofs.Std.{◌≡◌, ◌⊎◌, ℕ, Some, slice_get, ForSome}
-use Rattle.dom_traversal.proofs.Trees.{In, inclusive_descendants, name_at, StandsIn}
-use Rattle.dom_traversal.specs.Definitions.{IsLeftIf, KeyedIterator, MayHaveLeft}
+use Rattle.dom_traversal.proofs.Cited.{◌≡◌, ◌⊎◌, ℕ, Some, slice_get, ForSome, In, inclusive_descendants, name_at, StandsIn, IsLeftIf, KeyedIterator}
+use Rattle.dom_traversal.proofs.Cited.{MayHaveLeft}
 use Rattle.dom_traversal.proofs.Inside.{from_key}
 use Rattle.dom_traversal.proofs.tables.OwnTables.leave.Given as goal
 

@@ -1,5 +1,4 @@
-use Rattle.dom_base.proofs.Std.{◌≡◌, length, ap, arith, slice_get_within}
-use Rattle.dom_traversal.specs.Definitions.{KeyedTables}
+use Rattle.dom_traversal.proofs.Cited.{◌≡◌, length, ap, arith, slice_get_within, KeyedTables}
 use Rattle.dom_traversal.proofs.Leaving.{may-items, all-left, have_left-all}
 use Rattle.dom_traversal.proofs.tables.OwnTables.leave_each.Goals as goal
 

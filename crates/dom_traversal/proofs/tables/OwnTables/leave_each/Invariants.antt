@@ -1,4 +1,4 @@
-use Rattle.dom_base.proofs.Std.{◌≡◌, ◌≤◌}
+use Rattle.dom_traversal.proofs.Cited.{◌≡◌, ◌≤◌}
 use Rattle.dom_traversal.proofs.Leaving.{HaveLeft}
 use Rattle.dom_traversal.proofs.tables.OwnTables.leave_each.Given as goal
 

@@ -1,5 +1,5 @@
-use Rattle.dom_base.proofs.Std.{◌≡◌, ℕ, ◌<◌, List, Some, length, refl, ap, sym, subst, ◌∙◌, arith, true≢false, slice_get, slice_get_within, Contains}
-use Rattle.dom_traversal.specs.Definitions.{AreListed, IsLeftIf, KeyedIterator, KeyedTables, Reference, reference_at}
+use Rattle.dom_traversal.proofs.Cited.{◌≡◌, ℕ, ◌<◌, List, Some, length, refl, ap, sym, subst, ◌∙◌, arith, true≢false, slice_get, slice_get_within, Contains}
+use Rattle.dom_traversal.proofs.Cited.{AreListed, IsLeftIf, KeyedIterator, KeyedTables, Reference, reference_at}
 use Rattle.dom_traversal.proofs.Leaving.{may-items, have_left-more, have_left-all}
 use Rattle.dom_traversal.proofs.tables.OwnTables.leave_from.Goals as goal
 

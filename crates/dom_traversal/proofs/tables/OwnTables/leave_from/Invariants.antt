@@ -1,4 +1,4 @@
-use Rattle.dom_base.proofs.Std.{◌≡◌, ◌-◌, length}
+use Rattle.dom_traversal.proofs.Cited.{◌≡◌, ◌-◌, length}
 use Rattle.dom_traversal.proofs.Leaving.{HaveLeft}
 use Rattle.dom_traversal.proofs.tables.OwnTables.leave_from.Given as goal
 

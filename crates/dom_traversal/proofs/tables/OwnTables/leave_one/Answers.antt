@@ -1,5 +1,5 @@
-use Rattle.dom_base.proofs.Std.{◌≡◌, ℕ, ◌<◌, Bool, List, Some, length, get_or, ap, sym, subst, ◌∙◌, slice_get, slice_set, Contains, slice_get-get_or}
-use Rattle.dom_traversal.specs.Definitions.{IsLeftIf, KeyedIterator, KeyedTables, MayHaveLeft, reference_at}
+use Rattle.dom_traversal.proofs.Cited.{◌≡◌, ℕ, ◌<◌, Bool, List, Some, length, get_or, ap, sym, subst, ◌∙◌, slice_get, slice_set, Contains, slice_get-get_or}
+use Rattle.dom_traversal.proofs.Cited.{IsLeftIf, KeyedIterator, KeyedTables, MayHaveLeft, reference_at}
 use Rattle.dom_traversal.proofs.Leaving.{left-set, may-set}
 use Rattle.dom_traversal.proofs.Listing.{AreListed-alone, AreListed-moved}
 use Rattle.dom_traversal.proofs.tables.OwnTables.leave_one.Goals as goal

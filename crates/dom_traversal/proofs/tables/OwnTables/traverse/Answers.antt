@@ -1,7 +1,5 @@
-use Rattle.dom_base.proofs.Std.{◌≡◌, ℕ, Bool, Some, List, option_map, get_or, ap, sym, subst, ◌∙◌, slice_get, slice_set, Contains}
-use Rattle.dom_traversal.proofs.Trees.{name_at}
-use Rattle.dom_traversal.specs.Definitions.{IsIteratorOf, iterator_at, iterator_found, iterator_view, KeyedIterator, KeyedTables, KeyedWalker, reference_at}
-use Rattle.dom_traversal.specs.Definitions.{stands_before}
+use Rattle.dom_traversal.proofs.Cited.{◌≡◌, ℕ, Bool, Some, List, option_map, get_or, ap, sym, subst, ◌∙◌, slice_get, slice_set, Contains, name_at, IsIteratorOf}
+use Rattle.dom_traversal.proofs.Cited.{iterator_at, iterator_found, iterator_view, KeyedIterator, KeyedTables, KeyedWalker, reference_at, stands_before}
 use Rattle.dom_traversal.proofs.Items.{got, got_is}
 use Rattle.dom_traversal.proofs.Listing.{AreListed-alone, AreListed-moved, got_in}
 use Rattle.dom_traversal.proofs.tables.OwnTables.traverse.Goals as goal

@@ -1,6 +1,5 @@
-use Rattle.dom_base.proofs.Std.{Some, sym, ap, subst, ◌∙◌, refl, option_map, eqb-true}
-use Rattle.dom_traversal.proofs.Trees.{name_at, none_left, other_key}
-use Rattle.dom_traversal.specs.Definitions.{ComesBack, filter_of, IsWalkerOf, KeyedWalker}
+use Rattle.dom_traversal.proofs.Cited.{Some, sym, ap, subst, ◌∙◌, refl, option_map, eqb-true, name_at, none_left, other_key, ComesBack, filter_of, IsWalkerOf}
+use Rattle.dom_traversal.proofs.Cited.{KeyedWalker}
 use Rattle.dom_traversal.proofs.Climbing.{IsInner}
 use Rattle.dom_traversal.proofs.Backward.{IsLowest, StepsBack, steps_root, steps_parent, steps_sibling, sibling-stands}
 use Rattle.dom_traversal.proofs.walker.Walker.back.Goals as goal

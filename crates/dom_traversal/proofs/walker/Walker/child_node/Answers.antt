@@ -1,6 +1,5 @@
-use Rattle.dom_base.proofs.Std.{◌≡◌, sym, ap, subst, ◌∙◌, option_map, ForSome}
-use Rattle.dom_traversal.proofs.Trees.{name_at, walker_move, within-itself}
-use Rattle.dom_traversal.specs.Definitions.{Begins, child_move, filter_of, IsWalkerOf, KeyedWalker, reached_from, stop_of, walker_view}
+use Rattle.dom_traversal.proofs.Cited.{◌≡◌, sym, ap, subst, ◌∙◌, option_map, ForSome, name_at, walker_move, within-itself, Begins, child_move, filter_of}
+use Rattle.dom_traversal.proofs.Cited.{IsWalkerOf, KeyedWalker, reached_from, stop_of, walker_view}
 use Rattle.dom_traversal.proofs.Climbing.{walker-within}
 use Rattle.dom_traversal.proofs.BeginningBack.{Begins-outer, Child-found}
 use Rattle.dom_traversal.proofs.walker.Walker.child_node.Goals as goal

@@ -1,5 +1,4 @@
-use Rattle.dom_base.proofs.Std.{Some, sym, ap, subst, ◌∙◌, ForSome}
-use Rattle.dom_traversal.specs.Definitions.{BeginsForward, filter_of, IsWalkerOf, KeyedWalker}
+use Rattle.dom_traversal.proofs.Cited.{Some, sym, ap, subst, ◌∙◌, ForSome, BeginsForward, filter_of, IsWalkerOf, KeyedWalker}
 use Rattle.dom_traversal.proofs.Reaching.{Reaches-begin, Reaches-skip, Reaches-reject, Reaches-shorter-skip, Reaches-shorter-reject}
 use Rattle.dom_traversal.proofs.walker.Walker.first_reached.Goals as goal
 

@@ -1,6 +1,4 @@
-use Rattle.dom_base.proofs.Std.{length, option_map}
-use Rattle.dom_traversal.proofs.Trees.{from_node, name_at}
-use Rattle.dom_traversal.specs.Definitions.{filter_of, KeyedWalker}
+use Rattle.dom_traversal.proofs.Cited.{length, option_map, from_node, name_at, filter_of, KeyedWalker}
 use Rattle.dom_traversal.proofs.Reaching.{Reaches, stop_from}
 use Rattle.dom_traversal.proofs.walker.Walker.first_reached.Given as goal
 

@@ -1,6 +1,5 @@
-use Rattle.dom_base.proofs.Std.{◌≡◌, Some, sym, subst, filter, option_map, ForSome}
-use Rattle.dom_traversal.proofs.Trees.{last_of, name_at, up_to_tree}
-use Rattle.dom_traversal.specs.Definitions.{BeginsBackward, filter_of, is_candidate, IsWalkerOf, KeyedWalker, stop_of, walker_view}
+use Rattle.dom_traversal.proofs.Cited.{◌≡◌, Some, sym, subst, filter, option_map, ForSome, last_of, name_at, up_to_tree, BeginsBackward, filter_of}
+use Rattle.dom_traversal.proofs.Cited.{is_candidate, IsWalkerOf, KeyedWalker, stop_of, walker_view}
 use Rattle.dom_traversal.proofs.ReachingBack.{ReachesBack-begin, ReachesBack-hit, ReachesBack-step, ReachesBack-shorter, LowestKey, low_stands}
 use Rattle.dom_traversal.proofs.walker.Walker.last_reached.Goals.{After-lowest-low}
 use Rattle.dom_traversal.proofs.walker.Walker.last_reached.Goals as goal

@@ -1,6 +1,4 @@
-use Rattle.dom_base.proofs.Std.{length, option_map}
-use Rattle.dom_traversal.proofs.Trees.{name_at, up_to_tree}
-use Rattle.dom_traversal.specs.Definitions.{filter_of, KeyedWalker}
+use Rattle.dom_traversal.proofs.Cited.{length, option_map, name_at, up_to_tree, filter_of, KeyedWalker}
 use Rattle.dom_traversal.proofs.Reaching.{stop_from}
 use Rattle.dom_traversal.proofs.ReachingBack.{ReachesBack}
 use Rattle.dom_traversal.proofs.walker.Walker.last_reached.Given as goal

@@ -1,5 +1,4 @@
-use Rattle.dom_base.proofs.Std.{◌<◌, subst, sym}
-use Rattle.dom_traversal.specs.Definitions.{KeyedWalker, walker_left}
+use Rattle.dom_traversal.proofs.Cited.{◌<◌, subst, sym, KeyedWalker, walker_left}
 use Rattle.dom_traversal.proofs.Fewer.{walker_fewer}
 use Rattle.dom_traversal.proofs.walker.Walker.next.Goals as goal
 

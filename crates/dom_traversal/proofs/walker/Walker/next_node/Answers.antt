@@ -1,6 +1,5 @@
-use Rattle.dom_base.proofs.Std.{◌<◌, length, Option, Some, sym, ap, subst, ◌∙◌, option_map}
-use Rattle.dom_traversal.proofs.Trees.{above-within, from_node, name_at, NodeName, Walker}
-use Rattle.dom_traversal.specs.Definitions.{filter_of, IsWalkerOf, walker_view}
+use Rattle.dom_traversal.proofs.Cited.{◌<◌, length, Option, Some, sym, ap, subst, ◌∙◌, option_map, above-within, from_node, name_at, NodeName, Walker}
+use Rattle.dom_traversal.proofs.Cited.{filter_of, IsWalkerOf, walker_view}
 use Rattle.dom_traversal.proofs.Climbing.{walker-within}
 use Rattle.dom_traversal.proofs.Forward.{shorter-skip, shorter-reject}
 use Rattle.dom_traversal.proofs.Passing.{Comes-begin, ComesNext, ComesNext-skip, ComesNext-reject}

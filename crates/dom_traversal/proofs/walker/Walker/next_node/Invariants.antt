@@ -1,6 +1,5 @@
-use Rattle.dom_base.proofs.Std.{◌<◌, length, option_map, ForSome}
-use Rattle.dom_traversal.proofs.Trees.{accepts, behind, first_of, from_node, name_at, Walker, walker_nodes}
-use Rattle.dom_traversal.specs.Definitions.{filter_of, is_passable, walker_view}
+use Rattle.dom_traversal.proofs.Cited.{◌<◌, length, option_map, ForSome, accepts, behind, first_of, from_node, name_at, Walker, walker_nodes, filter_of}
+use Rattle.dom_traversal.proofs.Cited.{is_passable, walker_view}
 use Rattle.dom_traversal.proofs.Forward.{Comes}
 use Rattle.dom_traversal.proofs.walker.Walker.next_node.Given as goal
 

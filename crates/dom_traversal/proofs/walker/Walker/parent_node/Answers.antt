@@ -1,10 +1,8 @@
-use Rattle.dom_base.proofs.Std.{sym, ap, subst, ◌∙◌, refl}
-use Rattle.dom_base.specs.declared.Move.TheVariants as moves
-use Rattle.dom_traversal.proofs.Trees.{name_at, walker_move}
-use Rattle.dom_traversal.specs.Definitions.{filter_of, IsWalkerOf, KeyedWalker, walker_view}
+use Rattle.dom_traversal.proofs.Cited.{sym, ap, subst, ◌∙◌, refl, name_at, walker_move, filter_of, IsWalkerOf, KeyedWalker, walker_view}
 use Rattle.dom_traversal.proofs.Climbing.{inner-name, inner-within, climb_ends, parent_step}
 use Rattle.dom_traversal.proofs.Beginning.{move-step}
 use Rattle.dom_traversal.proofs.Parents.{above-hit, above-miss}
+use Rattle.dom_base.specs.declared.Move.TheVariants as moves
 use Rattle.dom_traversal.proofs.walker.Walker.parent_node.Goals as goal
 
 pub returns-in_err-at-clause-value : goal.returns-in_err-at-clause-value

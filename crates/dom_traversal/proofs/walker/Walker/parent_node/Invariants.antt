@@ -1,6 +1,4 @@
-use Rattle.dom_base.proofs.Std.{◌≡◌, length}
-use Rattle.dom_traversal.proofs.Trees.{inclusive_ancestors, name_at, StandsIn}
-use Rattle.dom_traversal.specs.Definitions.{filter_of, KeyedWalker, walker_view}
+use Rattle.dom_traversal.proofs.Cited.{◌≡◌, length, inclusive_ancestors, name_at, StandsIn, filter_of, KeyedWalker, walker_view}
 use Rattle.dom_traversal.proofs.Parents.{above_from}
 use Rattle.dom_traversal.proofs.walker.Walker.parent_node.Given as goal
 

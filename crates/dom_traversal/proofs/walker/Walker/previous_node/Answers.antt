@@ -1,10 +1,9 @@
-use Rattle.dom_base.proofs.Std.{◌≡◌, ℕ, true, sym, ap, subst, ◌∙◌, Option, option_map}
-use Rattle.dom_base.specs.declared.Move.TheVariants as moves
-use Rattle.dom_traversal.proofs.Trees.{accepts, is_inclusive_ancestor, last_of, name_at, up_to_node, walker_nodes}
-use Rattle.dom_traversal.specs.Definitions.{ComesBack, filter_of, IsWalkerOf, KeyedWalker, walker_view}
+use Rattle.dom_traversal.proofs.Cited.{◌≡◌, ℕ, true, sym, ap, subst, ◌∙◌, Option, option_map, accepts, is_inclusive_ancestor, last_of, name_at, up_to_node}
+use Rattle.dom_traversal.proofs.Cited.{walker_nodes, ComesBack, filter_of, IsWalkerOf, KeyedWalker, walker_view}
 use Rattle.dom_traversal.proofs.Climbing.{walker-within}
 use Rattle.dom_traversal.proofs.Backward.{Returns-begin, ComesBack-key, back-hit, back-miss}
 use Rattle.dom_traversal.proofs.Beginning.{move-step}
+use Rattle.dom_base.specs.declared.Move.TheVariants as moves
 use Rattle.dom_traversal.proofs.walker.Walker.previous_node.Goals as goal
 
 pub back-at-requires-clause-comes : goal.back-at-requires-clause-comes

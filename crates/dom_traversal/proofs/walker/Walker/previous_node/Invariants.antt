@@ -1,6 +1,4 @@
-use Rattle.dom_base.proofs.Std.{◌≡◌, length, option_map, ForSome}
-use Rattle.dom_traversal.proofs.Trees.{ahead_of, last_of, name_at, up_to_node, walker_nodes}
-use Rattle.dom_traversal.specs.Definitions.{ComesBack, walker_view}
+use Rattle.dom_traversal.proofs.Cited.{◌≡◌, length, option_map, ForSome, ahead_of, last_of, name_at, up_to_node, walker_nodes, ComesBack, walker_view}
 use Rattle.dom_traversal.proofs.walker.Walker.previous_node.Given as goal
 
 abbrev pub invariant-loop-at : goal.invariant-loop-at

@@ -1,5 +1,4 @@
-use Rattle.dom_base.proofs.Std.{subst, ForSome}
-use Rattle.dom_traversal.specs.Definitions.{Begins, Direction}
+use Rattle.dom_traversal.proofs.Cited.{subst, ForSome, Begins, Direction}
 use Rattle.dom_traversal.proofs.walker.Walker.reached.Goals as goal
 
 pub first_reached-requires-clause-begins : goal.first_reached-requires-clause-begins

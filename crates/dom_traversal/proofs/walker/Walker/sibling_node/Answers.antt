@@ -1,6 +1,5 @@
-use Rattle.dom_base.proofs.Std.{◌≡◌, sym, ap, subst, ◌∙◌, option_map, ForSome}
-use Rattle.dom_traversal.proofs.Trees.{name_at, walker_move}
-use Rattle.dom_traversal.specs.Definitions.{Begins, filter_of, IsWalkerOf, KeyedWalker, reached_from, sibling_move, stop_of, walker_view}
+use Rattle.dom_traversal.proofs.Cited.{◌≡◌, sym, ap, subst, ◌∙◌, option_map, ForSome, name_at, walker_move, Begins, filter_of, IsWalkerOf, KeyedWalker}
+use Rattle.dom_traversal.proofs.Cited.{reached_from, sibling_move, stop_of, walker_view}
 use Rattle.dom_traversal.proofs.Climbing.{walker-inner}
 use Rattle.dom_traversal.proofs.Aside.{IsBelow-inner, inner-below, stop-some}
 use Rattle.dom_traversal.proofs.BeginningBack.{Begins-beside, Sibling-found}
