@@ -1,12 +1,11 @@
 -- The plan of an insertion into a live range asks for the trees and the live ranges alone.
-use Rattle.dom_base.proofs.Std.{◌≡◌, ℕ, ◌+◌, ◌-◌, Bool, true, false, List, [], ◌∷◌, ◌++◌, drop, length, Option, Some, None, refl, ap, ◌∙◌, if◌then◌else◌}
-use Rattle.dom_base.proofs.Std.{option_map_or}
-use Rattle.dom_model.proofs.Model.{NodeName, Plan, ◌and_then◌, in_turn, doing, steps_of, Observing, observed, suppressed, telling, remove_plan}
-use Rattle.dom_model.proofs.Model.{changing_document, adopt_plan, document_below, placed_nodes, emptying, making_room, placing, sibling_before, inserting_nodes}
-use Rattle.dom_model.proofs.Model.{insert_plan, reference_child, pre_insert_plan, is_empty, child_list, Part, next_name, insertion_parent, start_reference}
-use Rattle.dom_model.proofs.Model.{ending_at, inserting_before, inserting_at, inserting_into_range, Range, at, Step, make, place, split_at, queue_record, after}
-use Rattle.dom_model.proofs.Model.{replacing_data, new_text_node, placing_tail, splitting, node_in, kind_of, is_text, is_fragment, parent_of, index_of}
-use Rattle.dom_model.proofs.Model.{length_of, next_sibling}
+use Rattle.dom_mutation.proofs.Cited.{◌≡◌, ℕ, ◌+◌, ◌-◌, Bool, true, false, List, [], ◌∷◌, ◌++◌, drop, length, Option, Some, None, refl, ap, ◌∙◌, if◌then◌else◌}
+use Rattle.dom_mutation.proofs.Cited.{option_map_or, NodeName, Plan, ◌and_then◌, in_turn, doing, steps_of, Observing, observed, suppressed, telling}
+use Rattle.dom_mutation.proofs.Cited.{remove_plan, changing_document, adopt_plan, document_below, placed_nodes, emptying, making_room, placing, sibling_before}
+use Rattle.dom_mutation.proofs.Cited.{inserting_nodes, insert_plan, reference_child, pre_insert_plan, is_empty, child_list, Part, next_name, insertion_parent}
+use Rattle.dom_mutation.proofs.Cited.{start_reference, ending_at, inserting_before, inserting_at, inserting_into_range, Range, at, Step, make, place, split_at}
+use Rattle.dom_mutation.proofs.Cited.{queue_record, after, replacing_data, new_text_node, placing_tail, splitting, node_in, kind_of, is_text, is_fragment}
+use Rattle.dom_mutation.proofs.Cited.{parent_of, index_of, length_of, next_sibling}
 use Rattle.dom_mutation.proofs.ReadyEnds.{bare, bare-after}
 
 -- a plan makes the same steps with the other tables left out

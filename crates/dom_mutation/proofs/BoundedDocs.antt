@@ -1,18 +1,13 @@
 -- After a plan, or a part of one, live ranges' offsets are within lengths in the state that it leaves, if they were: so the next
 -- step that asks for that may be made.
-use Rattle.dom_base.proofs.Std.{◌≡◌, ℕ, ◌+◌, ◌<◌, ◌≤◌, true, false, None, Some, List, [], Option, length, refl, subst, sym, ap, arith, ltb-false}
-use Rattle.dom_model.proofs.Model.{NodeName, Owner, Plan, Observing, suppressed, in_turn, doing, remove_plan, emptying, past_limit, DomString, Change}
-use Rattle.dom_model.proofs.Model.{child_list, make, queue_record, after, replacing_data, new_text_node, Part, next_name, Node, has_data, kind_of, children_of}
-use Rattle.dom_model.proofs.Model.{parent_of, index_of, World, part_of}
-use Rattle.dom_worlds.specs.Definitions.{HasBounds, IsPart}
+use Rattle.dom_mutation.proofs.Cited.{◌≡◌, ℕ, ◌+◌, ◌<◌, ◌≤◌, true, false, None, Some, List, [], Option, length, refl, subst, sym, ap, arith, ltb-false}
+use Rattle.dom_mutation.proofs.Cited.{NodeName, Owner, Plan, Observing, suppressed, in_turn, doing, remove_plan, emptying, past_limit, DomString, Change}
+use Rattle.dom_mutation.proofs.Cited.{child_list, make, queue_record, after, replacing_data, new_text_node, Part, next_name, Node, has_data, kind_of}
+use Rattle.dom_mutation.proofs.Cited.{children_of, parent_of, index_of, World, part_of, HasBounds, IsPart, name_at, DocState, owner_in, planned, PlansOwn}
+use Rattle.dom_mutation.proofs.Cited.{IsAlone, removals-keep, emptying-keeps, index_few, plan_alone, plans_then, plans_each, plans_removing, plans_data}
 use Rattle.dom_worlds.proofs.RangeLemmas.{make-keeps, queue_record-keeps, removal-keeps, data-keeps}
-use Rattle.dom_tree.specs.Definitions.{name_at}
-use Rattle.dom_parts.specs.Definitions.{DocState, owner_in, planned, PlansOwn, IsAlone}
-use Rattle.dom_parts.proofs.BoundedPlans.{removals-keep, emptying-keeps, index_few}
 use Rattle.dom_parts.proofs.OwnParts.{children_few}
-use Rattle.dom_parts.proofs.Made.{plan_alone}
 use Rattle.dom_mutation.proofs.Grown.{IsMade, same_name}
-use Rattle.dom_parts.proofs.OwnPlans.{plans_then, plans_each, plans_removing, plans_data}
 
 module _ (o : Owner) (d : DocState) (alone : IsAlone d.world o) (part : IsPart (part_of d.world o)) (bounds : HasBounds (part_of d.world o)) where
   -- after a plan that keeps the bounds in the owner's part

@@ -1,15 +1,11 @@
 -- A node's children give way to a new Text, or to none.
-use Rattle.dom_base.proofs.Std.{◌≡◌, ℕ, ◌<◌, Bool, true, false, not, ◌&&◌, List, [], ◌∷◌, length, map, Option, Some, None, refl, sym, ap, subst, ◌∙◌, arith}
-use Rattle.dom_base.proofs.Std.{◌==◌, if◌then◌else◌, eqb-true}
-use Rattle.dom_model.proofs.Model.{NodeName, Owner, DomString, name_eq, is_empty, is_in, Trees, children_of, parent_of, inclusive_ancestors}
-use Rattle.dom_model.proofs.Model.{is_inclusive_ancestor, child_list, next_name, Step, make, queue_record, World, part_of, world_after, Plan, ◌and_then◌, doing}
-use Rattle.dom_model.proofs.Model.{steps_of, only_if, in_turn, suppressed, remove_plan, insert_plan, document_below, new_text_node, replacing_children}
-use Rattle.dom_model.proofs.Model.{owner-part_of}
-use Rattle.dom_tree.specs.Definitions.{name_at}
-use Rattle.dom_parts.specs.Definitions.{DocState, made, planned, stepped, name_in, owner_in, trees_in, MayMove, NoneAbove, putting_text, PlansOwn, IsAlone}
-use Rattle.dom_laws.proofs.Laws.{lacks_to, Each, each_all, children_parent}
-use Rattle.dom_parts.proofs.Made.{made_then, made_turn, planned_then, alone_made}
-use Rattle.dom_parts.proofs.OwnPlans.{plans_then, plans_turn, plans_each, plans_removing, plans_inserting}
+use Rattle.dom_mutation.proofs.Cited.{◌≡◌, ℕ, ◌<◌, Bool, true, false, not, ◌&&◌, List, [], ◌∷◌, length, map, Option, Some, None, refl, sym, ap, subst, ◌∙◌}
+use Rattle.dom_mutation.proofs.Cited.{arith, ◌==◌, if◌then◌else◌, eqb-true, NodeName, Owner, DomString, name_eq, is_empty, is_in, Trees, children_of, parent_of}
+use Rattle.dom_mutation.proofs.Cited.{inclusive_ancestors, is_inclusive_ancestor, child_list, next_name, Step, make, queue_record, World, part_of, world_after}
+use Rattle.dom_mutation.proofs.Cited.{Plan, ◌and_then◌, doing, steps_of, only_if, in_turn, suppressed, remove_plan, insert_plan, document_below, new_text_node}
+use Rattle.dom_mutation.proofs.Cited.{replacing_children, owner-part_of, name_at, DocState, made, planned, stepped, name_in, owner_in, trees_in, MayMove}
+use Rattle.dom_mutation.proofs.Cited.{NoneAbove, putting_text, PlansOwn, IsAlone, lacks_to, Each, each_all, children_parent, made_then, made_turn, planned_then}
+use Rattle.dom_mutation.proofs.Cited.{alone_made, plans_then, plans_turn, plans_each, plans_removing, plans_inserting}
 use Rattle.dom_mutation.proofs.Placed.{Counted, once_in}
 use Rattle.dom_mutation.proofs.Replaced.{child_below}
 use Rattle.dom_mutation.proofs.Grown.{IsMade, same_name, new_name, same_children, alone_new}

@@ -1,14 +1,11 @@
 -- Where a Text gets the data of those directly after it, their indices and lengths stay: so the joins that are made then are
 -- those that were planned before.
-use Rattle.dom_base.proofs.Std.{◌≡◌, ℕ, ◌+◌, Bool, true, false, cond, List, [], ◌∷◌, drop, length, Option, Some, None, refl, ap, ◌∙◌, flat_map, min, ◌-◌}
-use Rattle.dom_base.proofs.Std.{AllByRecursion, option_map_or}
-use Rattle.dom_model.proofs.Model.{NodeName, name_eq, first_of, items_before, Part, join_at, after, replacing_data, joins, contiguous_texts_after, Trees, none}
-use Rattle.dom_model.proofs.Model.{tree, Node, node_in, kind_of, names_of, roots, subtree, trees_below, children_of, parent_of, index_of, length_of, map_nodes}
-use Rattle.dom_model.proofs.Model.{change_node, with_data_replaced}
-use Rattle.dom_worlds.specs.Definitions.{IsPart}
-use Rattle.dom_worlds.proofs.CommandLemmas.{has_node-times}
+use Rattle.dom_mutation.proofs.Cited.{◌≡◌, ℕ, ◌+◌, Bool, true, false, cond, List, [], ◌∷◌, drop, length, Option, Some, None, refl, ap, ◌∙◌, flat_map, min, ◌-◌}
+use Rattle.dom_mutation.proofs.Cited.{AllByRecursion, option_map_or, NodeName, name_eq, first_of, items_before, Part, join_at, after, replacing_data, joins}
+use Rattle.dom_mutation.proofs.Cited.{contiguous_texts_after, Trees, none, tree, Node, node_in, kind_of, names_of, roots, subtree, trees_below, children_of}
+use Rattle.dom_mutation.proofs.Cited.{parent_of, index_of, length_of, map_nodes, change_node, with_data_replaced, IsPart, has_node-times, subtree_mapped}
+use Rattle.dom_mutation.proofs.Cited.{path_mapped}
 use Rattle.dom_worlds.proofs.RangeLemmas.{text-data, joining-fits}
-use Rattle.dom_laws.proofs.Laws.{subtree_mapped, path_mapped}
 use Rattle.dom_mutation.proofs.NormalizedEach.{IsTextOf}
 
 -- ---- children and indices, where nodes get other contents

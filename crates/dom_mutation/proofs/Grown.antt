@@ -1,15 +1,12 @@
 -- A document with one Text more: what is read of the other nodes stays, and the new one stands alone.
-use Rattle.dom_base.proofs.Std.{◌≡◌, ℕ, ◌+◌, ◌<◌, ◌-◌, inl, inr, false, List, [], ◌∷◌, ◌++◌, drop, length, Option, None, refl, sym, ap, subst, ◌∙◌, arith}
-use Rattle.dom_base.proofs.Std.{cases_Bool, cond-false, false_from_ne_true, length_push, get_or-append, get_or-append_seam}
-use Rattle.dom_model.proofs.Model.{NodeName, Owner, Page, DomString, name_eq, name_before, node_of, first_of, is_in, Trees, none, tree, Node, subtree, or_else}
-use Rattle.dom_model.proofs.Model.{names_of, roots, trees_below, node_in, parent_of, children_of, times_in, inclusive_ancestors, is_inclusive_ancestor}
-use Rattle.dom_model.proofs.Model.{with_node, put_root, Part, next_name, make, World, part_of, ◌and_then◌, doing, new_text_node, placing_tail, replacing_data}
-use Rattle.dom_model.proofs.Model.{splitting, name_eq-same, name_eq-true, owner-part_of}
-use Rattle.dom_tree.specs.Definitions.{name_at}
-use Rattle.dom_laws.proofs.Laws.{times_in-none, times_in-tree, one-true, Once, lacks_to, path_after, path_lacks, path_put_root, path_root}
-use Rattle.dom_parts.specs.Definitions.{DocState, made, planned, name_in, owner_in, trees_in, cutting_tail, IsAlone}
-use Rattle.dom_parts.proofs.Made.{made_then, alone_after}
-use Rattle.dom_parts.proofs.OwnPlans.{plans_then, plans_tail}
+use Rattle.dom_mutation.proofs.Cited.{◌≡◌, ℕ, ◌+◌, ◌<◌, ◌-◌, inl, inr, false, List, [], ◌∷◌, ◌++◌, drop, length, Option, None, refl, sym, ap, subst, ◌∙◌, arith}
+use Rattle.dom_mutation.proofs.Cited.{cases_Bool, cond-false, false_from_ne_true, length_push, get_or-append, get_or-append_seam, NodeName, Owner, Page}
+use Rattle.dom_mutation.proofs.Cited.{DomString, name_eq, name_before, node_of, first_of, is_in, Trees, none, tree, Node, subtree, or_else, names_of, roots}
+use Rattle.dom_mutation.proofs.Cited.{trees_below, node_in, parent_of, children_of, times_in, inclusive_ancestors, is_inclusive_ancestor, with_node, put_root}
+use Rattle.dom_mutation.proofs.Cited.{Part, next_name, make, World, part_of, ◌and_then◌, doing, new_text_node, placing_tail, replacing_data, splitting}
+use Rattle.dom_mutation.proofs.Cited.{name_eq-same, name_eq-true, owner-part_of, name_at, times_in-none, times_in-tree, one-true, Once, lacks_to, path_after}
+use Rattle.dom_mutation.proofs.Cited.{path_lacks, path_put_root, path_root, DocState, made, planned, name_in, owner_in, trees_in, cutting_tail, IsAlone}
+use Rattle.dom_mutation.proofs.Cited.{made_then, alone_after, plans_then, plans_tail}
 use Rattle.dom_mutation.proofs.Placed.{Counted, once_in}
 
 -- ---- a tree of one node among others

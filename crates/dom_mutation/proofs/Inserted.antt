@@ -1,13 +1,11 @@
 -- Insertions as their plans: of one node, and of a fragment's children.
-use Rattle.dom_base.proofs.Std.{◌≡◌, ℕ, ◌<◌, ◌≤◌, Bool, true, false, List, [], ◌∷◌, length, map, Option, Some, refl, sym, ap, subst, ◌∙◌, arith, if◌then◌else◌}
-use Rattle.dom_base.proofs.Std.{◌==◌, AllByRecursion, ForSome, cond-false}
-use Rattle.dom_model.proofs.Model.{NodeName, Owner, is_empty, Trees, none, tree, roots, names_of, trees_below, subtree, children_of, kind_of, is_fragment}
-use Rattle.dom_model.proofs.Model.{inclusive_ancestors, times_in, is_inclusive_ancestor, child_list, Part, Step, part_of, world_after, Plan, Observing}
-use Rattle.dom_model.proofs.Model.{◌and_then◌, in_turn, steps_of, telling, emptying, making_room, placing, sibling_before, insert_plan, name_eq-same}
-use Rattle.dom_laws.proofs.Laws.{times_in-tree, one-true, Lacks, lacks_from, lacks_to, below_lacks, Each, each_all, parent_path}
-use Rattle.dom_parts.specs.Definitions.{DocState, planned, placed_all, name_in, owner_in, trees_in, MayMove, IsChild, NoneAbove, PlansOwn, IsAlone}
-use Rattle.dom_parts.proofs.Made.{planned_then}
-use Rattle.dom_parts.proofs.OwnPlans.{plans_then, plans_turn, plans_each_own, plans_room, plans_placing, plans_emptying, children_own}
+use Rattle.dom_mutation.proofs.Cited.{◌≡◌, ℕ, ◌<◌, ◌≤◌, Bool, true, false, List, [], ◌∷◌, length, map, Option, Some, refl, sym, ap, subst, ◌∙◌, arith}
+use Rattle.dom_mutation.proofs.Cited.{if◌then◌else◌, ◌==◌, AllByRecursion, ForSome, cond-false, NodeName, Owner, is_empty, Trees, none, tree, roots, names_of}
+use Rattle.dom_mutation.proofs.Cited.{trees_below, subtree, children_of, kind_of, is_fragment, inclusive_ancestors, times_in, is_inclusive_ancestor, child_list}
+use Rattle.dom_mutation.proofs.Cited.{Part, Step, part_of, world_after, Plan, Observing, ◌and_then◌, in_turn, steps_of, telling, emptying, making_room, placing}
+use Rattle.dom_mutation.proofs.Cited.{sibling_before, insert_plan, name_eq-same, times_in-tree, one-true, Lacks, lacks_from, lacks_to, below_lacks, Each}
+use Rattle.dom_mutation.proofs.Cited.{each_all, parent_path, DocState, planned, placed_all, name_in, owner_in, trees_in, MayMove, IsChild, NoneAbove, PlansOwn}
+use Rattle.dom_mutation.proofs.Cited.{IsAlone, planned_then, plans_then, plans_turn, plans_each_own, plans_room, plans_placing, plans_emptying, children_own}
 use Rattle.dom_mutation.proofs.Placed.{Counted, once_in, before_lacks}
 use Rattle.dom_mutation.proofs.Turns.{Stays}
 

@@ -1,16 +1,13 @@
 -- Normalization: the Texts directly after a Text, their data, and the Texts below a node.
-use Rattle.dom_base.proofs.Std.{◌≡◌, ℕ, suc, ◌<◌, ◌≤◌, inl, inr, Bool, true, false, List, [], ◌∷◌, ◌++◌, drop, length, map, Option, Some, None, option_map}
-use Rattle.dom_base.proofs.Std.{refl, sym, ap, subst, ◌∙◌, arith, ◌==◌, filter, flat_map, take_while, if◌then◌else◌, AllByRecursion, ForSome, option_map_or}
-use Rattle.dom_base.proofs.Std.{cases_Bool, cond-true, cond-false, or_left, map-append, append-nil, append_assoc, drop-append-le, filter-append}
-use Rattle.dom_base.proofs.Std.{take_while-cons}
-use Rattle.dom_model.proofs.Model.{NodeName, Owner, DomString, name_eq, first_of, is_empty, is_in, items_before, items_after, Trees, kind_of, is_text, node_in}
-use Rattle.dom_model.proofs.Model.{length_of, siblings, children_of, parent_of, next_sibling, inclusive_ancestors, times_in, is_inclusive_ancestor, subtree}
-use Rattle.dom_model.proofs.Model.{inclusive_descendants, Step, part_of, world_after, observed, remove_plan, contiguous_texts_after, joining, normalizing_text}
-use Rattle.dom_model.proofs.Model.{name_eq-same}
-use Rattle.dom_tree.specs.Definitions.{name_at}
-use Rattle.dom_parts.specs.Definitions.{DocState, planned, name_in, owner_in, trees_in, IsOwnNode}
-use Rattle.dom_laws.proofs.Laws.{Lacks, swapped, path_none, path_gone, path_head, Once, none_or_some, once_subtree, NoTwice, children_once, next_child}
-use Rattle.dom_laws.proofs.Laws.{names_once, walked, StandsIn, left, Walks, walks, first_inside}
+use Rattle.dom_mutation.proofs.Cited.{◌≡◌, ℕ, suc, ◌<◌, ◌≤◌, inl, inr, Bool, true, false, List, [], ◌∷◌, ◌++◌, drop, length, map, Option, Some, None}
+use Rattle.dom_mutation.proofs.Cited.{option_map, refl, sym, ap, subst, ◌∙◌, arith, ◌==◌, filter, flat_map, take_while, if◌then◌else◌, AllByRecursion, ForSome}
+use Rattle.dom_mutation.proofs.Cited.{option_map_or, cases_Bool, cond-true, cond-false, or_left, map-append, append-nil, append_assoc, drop-append-le}
+use Rattle.dom_mutation.proofs.Cited.{filter-append, take_while-cons, NodeName, Owner, DomString, name_eq, first_of, is_empty, is_in, items_before, items_after}
+use Rattle.dom_mutation.proofs.Cited.{Trees, kind_of, is_text, node_in, length_of, siblings, children_of, parent_of, next_sibling, inclusive_ancestors}
+use Rattle.dom_mutation.proofs.Cited.{times_in, is_inclusive_ancestor, subtree, inclusive_descendants, Step, part_of, world_after, observed, remove_plan}
+use Rattle.dom_mutation.proofs.Cited.{contiguous_texts_after, joining, normalizing_text, name_eq-same, name_at, DocState, planned, name_in, owner_in, trees_in}
+use Rattle.dom_mutation.proofs.Cited.{IsOwnNode, Lacks, swapped, path_none, path_gone, path_head, Once, none_or_some, once_subtree, NoTwice, children_once}
+use Rattle.dom_mutation.proofs.Cited.{next_child, names_once, walked, StandsIn, left, Walks, walks, first_inside}
 use Rattle.dom_mutation.proofs.Placed.{Counted, once_in}
 use Rattle.dom_mutation.proofs.Listing.{all_push}
 use Rattle.dom_mutation.proofs.Replaced.{lacks_after}

@@ -1,17 +1,11 @@
 -- A Text got the data of those directly after it: the live ranges' offsets are within lengths then, each join fits, and the joins
 -- are those that were planned before.
-use Rattle.dom_base.proofs.Std.{◌≡◌, ℕ, true, List, map, Some, sym, ap, subst, ◌∙◌, flat_map}
-use Rattle.dom_model.proofs.Model.{NodeName, DomString, Part, after, replacing_data, joins, contiguous_texts_after, node_in, has_node, is_text, kind_of}
-use Rattle.dom_model.proofs.Model.{parent_of, length_of, part_of}
-use Rattle.dom_worlds.specs.Definitions.{HasBounds, IsPart}
+use Rattle.dom_mutation.proofs.Cited.{◌≡◌, ℕ, true, List, map, Some, sym, ap, subst, ◌∙◌, flat_map, NodeName, DomString, Part, after, replacing_data, joins}
+use Rattle.dom_mutation.proofs.Cited.{contiguous_texts_after, node_in, has_node, is_text, kind_of, parent_of, length_of, part_of, HasBounds, IsPart, name_at}
+use Rattle.dom_mutation.proofs.Cited.{DocState, JoinsFit, name_in, owner_in, trees_in, planned, IsAlone, joining-joins_fit, plan_alone, plans_data}
 use Rattle.dom_worlds.proofs.RangeLemmas.{text-data}
-use Rattle.dom_tree.specs.Definitions.{name_at}
-use Rattle.dom_parts.specs.Definitions.{DocState, JoinsFit, name_in, owner_in, trees_in, planned, IsAlone}
 use Rattle.dom_mutation.proofs.BoundedDocs.{bounds_grown}
-use Rattle.dom_parts.proofs.BoundedPlans.{joining-joins_fit}
 use Rattle.dom_mutation.proofs.ExactJoins.{joins_after}
-use Rattle.dom_parts.proofs.Made.{plan_alone}
-use Rattle.dom_parts.proofs.OwnPlans.{plans_data}
 
 -- the joins are those that were planned, each fits, and the live ranges' offsets are within lengths
 pub record IsGrown (d e : DocState) (node parent size : ℕ) (ks : List ℕ) : Type 0 where
@@ -51,28 +45,19 @@ module _ (d e : DocState) (node parent size : ℕ) (units : DomString) (ks : Lis
   trees_e : trees_in e node ≡ (after p (replacing_data x (length_of p.trees x) 0 all p)).trees
   trees_e = ap (λ (ns : List NodeName). (part_of e.world (name_at ns node).owner).trees) names ∙ grown
 
-  joining_exact : joins (trees_in e node) (name_in e node) (name_in e parent) size (map (name_in e) ks) ≡
-      joins (trees_in d node) (name_in e node) (name_in e parent) size (map (name_in e) ks)
-  joining_exact =
-      ap (λ ts. joins ts (name_in e node) (name_in e parent) size (map (name_in e) ks)) trees_e
-      ∙ subst (λ (ns : List NodeName). joins (after p (replacing_data x (length_of p.trees x) 0 all p)).trees (name_at ns node)
-      (name_at ns parent) size (map (name_at ns) ks) ≡ joins p.trees (name_at ns node) (name_at ns parent) size (map (name_at ns) ks)) (sym names)
-      (ap (joins (after p (replacing_data x (length_of p.trees x) 0 all p)).trees x (name_in d parent) size) listed
-      ∙ (joins_after x (name_in d parent) size part record { there = there; text = text } up ∙ ap (joins p.trees x (name_in d parent) size) (sym listed)))
-
-  joining_fits : JoinsFit (trees_in e node) (name_in e node) size (map (name_in e) ks)
-  joining_fits =
-      subst (λ ts. JoinsFit ts (name_in e node) size (map (name_in e) ks)) (sym trees_e)
-      (subst (λ (ns : List NodeName). JoinsFit (after p (replacing_data x (length_of p.trees x) 0 all p)).trees (name_at ns node) size
-      (map (name_at ns) ks)) (sym names)
-      (subst (λ n. JoinsFit (after p (replacing_data x (length_of p.trees x) 0 all p)).trees x n (map (name_in d) ks)) (sym sized)
-      (subst (JoinsFit (after p (replacing_data x (length_of p.trees x) 0 all p)).trees x (length_of p.trees x)) (sym listed)
-      (joining-joins_fit x (name_in d parent) part there text up))))
-
   pub grown_for : IsGrown d e node parent size ks
   grown_for = record {
-    exact = joining_exact;
-    fit = joining_fits;
+    exact = ap (λ ts. joins ts (name_in e node) (name_in e parent) size (map (name_in e) ks)) trees_e
+        ∙ subst (λ (ns : List NodeName). joins (after p (replacing_data x (length_of p.trees x) 0 all p)).trees (name_at ns node)
+        (name_at ns parent) size (map (name_at ns) ks) ≡ joins p.trees (name_at ns node) (name_at ns parent) size (map (name_at ns) ks)) (sym names)
+        (ap (joins (after p (replacing_data x (length_of p.trees x) 0 all p)).trees x (name_in d parent) size) listed
+        ∙ (joins_after x (name_in d parent) size part record { there = there; text = text } up ∙ ap (joins p.trees x (name_in d parent) size) (sym listed)));
+    fit = subst (λ ts. JoinsFit ts (name_in e node) size (map (name_in e) ks)) (sym trees_e)
+        (subst (λ (ns : List NodeName). JoinsFit (after p (replacing_data x (length_of p.trees x) 0 all p)).trees (name_at ns node) size
+        (map (name_at ns) ks)) (sym names)
+        (subst (λ n. JoinsFit (after p (replacing_data x (length_of p.trees x) 0 all p)).trees x n (map (name_in d) ks)) (sym sized)
+        (subst (JoinsFit (after p (replacing_data x (length_of p.trees x) 0 all p)).trees x (length_of p.trees x)) (sym listed)
+        (joining-joins_fit x (name_in d parent) part there text up))));
     bounds = subst (λ (ns : List NodeName). HasBounds (part_of e.world (name_at ns node).owner)) (sym names)
         (bounds_grown (owner_in d node) d alone part bounds x size 0 units (text-data (kind_of p.trees x) text) made);
   }

@@ -1,10 +1,8 @@
 -- The loop that lists a node's children.
-use Rattle.dom_base.proofs.Std.{◌≡◌, ℕ, ◌<◌, inl, inr, true, List, [], ◌∷◌, ◌++◌, length, map, Option, Some, None, option_map, refl, sym, ap, subst, ◌∙◌}
-use Rattle.dom_base.proofs.Std.{AllByRecursion, ForSome, map-append}
-use Rattle.dom_model.proofs.Model.{NodeName, name_eq, first_of, items_after, items_before, is_in, parent_of, children_of, next_sibling, part_of, name_eq-same}
-use Rattle.dom_model.proofs.Model.{name_eq-true}
-use Rattle.dom_parts.specs.Definitions.{DocState, name_in, owner_in, trees_in, IsOwnNode}
-use Rattle.dom_laws.proofs.Laws.{Each, children_parent, children_once, next_walked, walked, left, StandsIn, Walks, walks}
+use Rattle.dom_mutation.proofs.Cited.{◌≡◌, ℕ, ◌<◌, inl, inr, true, List, [], ◌∷◌, ◌++◌, length, map, Option, Some, None, option_map, refl, sym, ap, subst, ◌∙◌}
+use Rattle.dom_mutation.proofs.Cited.{AllByRecursion, ForSome, map-append, NodeName, name_eq, first_of, items_after, items_before, is_in, parent_of}
+use Rattle.dom_mutation.proofs.Cited.{children_of, next_sibling, part_of, name_eq-same, name_eq-true, DocState, name_in, owner_in, trees_in, IsOwnNode, Each}
+use Rattle.dom_mutation.proofs.Cited.{children_parent, children_once, next_walked, walked, left, StandsIn, Walks, walks}
 use Rattle.dom_mutation.proofs.Placed.{Counted, once_in}
 
 -- how far it has come: these keys are listed, and it stands there

@@ -1,17 +1,12 @@
 -- Where code units of a node that is no Text or Comment are to go, its children stay, and live ranges past them fall back: their ends are
 -- within their nodes still.
-use Rattle.dom_base.proofs.Std.{◌≡◌, ℕ, ◌+◌, ◌-◌, false, not, ◌||◌, List, [], ◌∷◌, map, length, Option, Some, None, option_map, refl, sym, ap, ◌∙◌, arith}
-use Rattle.dom_base.proofs.Std.{true≢false, if◌then◌else◌, nat_le, min, AllByRecursion, cond-false, or_parts, not-false, leb-false}
-use Rattle.dom_model.proofs.Model.{NodeName, name_eq, character_data, Part, Boundary, Range, at, map_ends, after_replace_data, queue_record, replace_data}
-use Rattle.dom_model.proofs.Model.{part_step, after, replacing_data, Trees, Node, times_in, node_in, kind_of, has_data, length_of, map_nodes}
-use Rattle.dom_model.proofs.Model.{with_data_replaced, name_eq-true}
-use Rattle.dom_worlds.specs.Definitions.{HasBounds, IsPart}
+use Rattle.dom_mutation.proofs.Cited.{◌≡◌, ℕ, ◌+◌, ◌-◌, false, not, ◌||◌, List, [], ◌∷◌, map, length, Option, Some, None, option_map, refl, sym, ap, ◌∙◌, arith}
+use Rattle.dom_mutation.proofs.Cited.{true≢false, if◌then◌else◌, nat_le, min, AllByRecursion, cond-false, or_parts, not-false, leb-false, NodeName, name_eq}
+use Rattle.dom_mutation.proofs.Cited.{character_data, Part, Boundary, Range, at, map_ends, after_replace_data, queue_record, replace_data, part_step, after}
+use Rattle.dom_mutation.proofs.Cited.{replacing_data, Trees, Node, times_in, node_in, kind_of, has_data, length_of, map_nodes, with_data_replaced, name_eq-true}
+use Rattle.dom_mutation.proofs.Cited.{HasBounds, IsPart, kids-absent, kids-map_nodes, node-map_nodes, length-kids, length-absent, times-map_nodes, name-node_in}
+use Rattle.dom_mutation.proofs.Cited.{KeepsNames, some-keeps, leads-replacing_data, by_cases, which_way, Once, by_times}
 use Rattle.dom_worlds.proofs.RangeLemmas.{Under, RangeUnder, reach, nowhere, HasRoom, length-like, ranges-more, room-of, bounds-of}
-use Rattle.dom_worlds.proofs.TreeLemmas.{kids-absent, kids-map_nodes, node-map_nodes, length-kids, length-absent, times-map_nodes}
-use Rattle.dom_worlds.proofs.CommandLemmas.{name-node_in}
-use Rattle.dom_worlds.proofs.PlanLemmas.{KeepsNames, some-keeps, leads-replacing_data}
-use Rattle.dom_worlds.proofs.ListLemmas.{by_cases, which_way}
-use Rattle.dom_laws.proofs.Laws.{Once, by_times}
 
 -- ends that fall back
 module _ (c : NodeName → ℕ) (x : NodeName) (offset count : ℕ) where

@@ -1,7 +1,5 @@
 -- Keys of nodes stay keys of nodes where the names stay, and nodes that may be moved are nodes.
-use Rattle.dom_base.proofs.Std.{◌≡◌, ℕ, ◌<◌, List, [], ◌∷◌, length, Option, sym, subst, AllByRecursion}
-use Rattle.dom_model.proofs.Model.{NodeName}
-use Rattle.dom_parts.specs.Definitions.{DocState, AreNodes, MayMove, owner_in}
+use Rattle.dom_mutation.proofs.Cited.{◌≡◌, ℕ, ◌<◌, List, [], ◌∷◌, length, Option, sym, subst, AllByRecursion, NodeName, DocState, AreNodes, MayMove, owner_in}
 
 pub nodes_kept : (d e : DocState) → e.names ≡ d.names → (ks : List ℕ) → AreNodes d ks → AreNodes e ks
 nodes_kept d e same ks all = subst (λ (ns : List NodeName). AllByRecursion (λ k. k < length ns) ks) (sym same) all

@@ -1,16 +1,9 @@
 -- Loops that normalize Texts, one after another.
-use Rattle.dom_base.proofs.Std.{◌≡◌, ℕ, suc, Bool, true, false, ◌+◌, ◌<◌, get_or, drop-cons, add-one, List, [], ◌∷◌, drop, length, map, refl, sym, ap, subst}
-use Rattle.dom_base.proofs.Std.{◌∙◌, AllByRecursion, filter, if◌then◌else◌}
-use Rattle.dom_model.proofs.Model.{NodeName, in_turn, after, normalizing_text, has_node, kind_of, is_text, Part, part_of}
-use Rattle.dom_worlds.specs.Definitions.{HasBounds, IsPart}
-use Rattle.dom_tree.specs.Definitions.{name_at}
-use Rattle.dom_parts.specs.Definitions.{DocState, IsOwnNode, name_in, owner_in, trees_in, planned, IsAlone}
-use Rattle.dom_worlds.proofs.CommandLemmas.{has_node-times}
-use Rattle.dom_worlds.proofs.PlanLemmas.{leads-normalizing_text}
-use Rattle.dom_parts.proofs.BoundedPlans.{normalized_text-keeps, normalized_text-leaves}
-use Rattle.dom_laws.proofs.Laws.{all_drop}
-use Rattle.dom_parts.proofs.Made.{alone_made, plan_alone, planned_turn}
-use Rattle.dom_parts.proofs.OwnPlans.{plans_normalizing_text}
+use Rattle.dom_mutation.proofs.Cited.{◌≡◌, ℕ, suc, Bool, true, false, ◌+◌, ◌<◌, get_or, drop-cons, add-one, List, [], ◌∷◌, drop, length, map, refl, sym, ap}
+use Rattle.dom_mutation.proofs.Cited.{subst, ◌∙◌, AllByRecursion, filter, if◌then◌else◌, NodeName, in_turn, after, normalizing_text, has_node, kind_of, is_text}
+use Rattle.dom_mutation.proofs.Cited.{Part, part_of, HasBounds, IsPart, name_at, DocState, IsOwnNode, name_in, owner_in, trees_in, planned, IsAlone}
+use Rattle.dom_mutation.proofs.Cited.{has_node-times, leads-normalizing_text, normalized_text-keeps, normalized_text-leaves, all_drop, alone_made, plan_alone}
+use Rattle.dom_mutation.proofs.Cited.{planned_turn, plans_normalizing_text}
 
 -- ---- one Text after another
 

@@ -1,14 +1,12 @@
 -- The trees after adoptions and placings, and what they keep.
-use Rattle.dom_base.proofs.Std.{◌≡◌, ℕ, ◌<◌, ◌≤◌, ◌⊎◌, inl, inr, Bool, true, false, not, List, [], ◌∷◌, drop, length, Option, Some, None, option_map, refl, sym}
-use Rattle.dom_base.proofs.Std.{ap, subst, ◌∙◌, if◌then◌else◌, count_by, option_map_or, ForSome}
-use Rattle.dom_model.proofs.Model.{NodeName, Owner, name_eq, first_of, is_in, Trees, nodes, next_sibling, parent_of, inclusive_ancestors, is_inclusive_ancestor}
-use Rattle.dom_model.proofs.Model.{taken_out, placed, change_subtree, with_document, Part, place, take_out, set_document, after, part_step, leave, part_of}
-use Rattle.dom_model.proofs.Model.{Observing, observed, suppressed, remove_plan, removing_from, changing_document, adopt_plan, has_document, only_if}
-use Rattle.dom_tree.specs.Definitions.{name_at}
-use Rattle.dom_parts.specs.Definitions.{DocState, planned, stepped, name_in, owner_in, trees_in, MayMove, IsChild, KeepsPaths, IsAlone}
-use Rattle.dom_laws.proofs.Laws.{Lacks, lacks_from, Once, once_counted, path_taken, path_placed, parent_taken, path_mapped, parent_path, next_child}
-use Rattle.dom_parts.proofs.Made.{after_append, trees_after, alone_made}
-use Rattle.dom_parts.proofs.OwnPlans.{plans_removing, plans_adopting}
+use Rattle.dom_mutation.proofs.Cited.{◌≡◌, ℕ, ◌<◌, ◌≤◌, ◌⊎◌, inl, inr, Bool, true, false, not, List, [], ◌∷◌, drop, length, Option, Some, None, option_map}
+use Rattle.dom_mutation.proofs.Cited.{refl, sym, ap, subst, ◌∙◌, if◌then◌else◌, count_by, option_map_or, ForSome, NodeName, Owner, name_eq, first_of, is_in}
+use Rattle.dom_mutation.proofs.Cited.{Trees, nodes, next_sibling, parent_of, inclusive_ancestors, is_inclusive_ancestor, taken_out, placed, change_subtree}
+use Rattle.dom_mutation.proofs.Cited.{with_document, Part, place, take_out, set_document, after, part_step, leave, part_of, Observing, observed, suppressed}
+use Rattle.dom_mutation.proofs.Cited.{remove_plan, removing_from, changing_document, adopt_plan, has_document, only_if, name_at, DocState, planned, stepped}
+use Rattle.dom_mutation.proofs.Cited.{name_in, owner_in, trees_in, MayMove, IsChild, KeepsPaths, IsAlone, Lacks, lacks_from, Once, once_counted, path_taken}
+use Rattle.dom_mutation.proofs.Cited.{path_placed, parent_taken, path_mapped, parent_path, next_child, after_append, trees_after, alone_made, plans_removing}
+use Rattle.dom_mutation.proofs.Cited.{plans_adopting}
 
 -- a removal
 abbrev Removed : NodeName → Trees → Trees → Type 0

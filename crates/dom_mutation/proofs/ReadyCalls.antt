@@ -1,13 +1,11 @@
 -- What a call of a `Doc` leaves is ready, by what its contract says of the world.
-use Rattle.dom_base.proofs.Std.{◌≡◌, ◌↔◌, ◌<◌, ℕ, zero, suc, Bool, true, false, true≢false, List, [], ◌∷◌, length, Option, Some, Ok, Err, refl, sym, ap, ◌∙◌}
-use Rattle.dom_base.proofs.Std.{subst, OnOk, OnErr, IfOk, Result, IsTrue, is_some, slice_get, slice_set, AllByRecursion, option_flatten, on_ok_weaker}
-use Rattle.dom_model.proofs.Model.{NodeName, Owner, Refusal, IndexSize, Plan, doing, Command, NodeWord, own, effect, named, past_end, node_of, Value, Said}
-use Rattle.dom_model.proofs.Model.{nothing, Part, first_node, range_at, Range, Step, make, set_document, set_range, part_step, after, Trees, Node, has_node}
-use Rattle.dom_model.proofs.Model.{is_shadow, notified, World, part_of, with_part, owner-part_of, owner-part_step, part_of-stepped}
-use Rattle.dom_worlds.specs.Definitions.{EndsWithin, EndsIn, IsNodeIn, IsPart}
-use Rattle.dom_worlds.proofs.PlanLemmas.{Fits, MadeIn}
-use Rattle.dom_parts.specs.Definitions.{SetsEnd, DocState, Makes, MakesSaying, made, planned, stepped, name_in, owner_in, trees_in, IsAlone, SetsOwnDocuments}
-use Rattle.dom_mutation.specs.Definitions.{IsReadyPart, AreReady, IsReady, MayStand}
+use Rattle.dom_mutation.proofs.Cited.{◌≡◌, ◌↔◌, ◌<◌, ℕ, zero, suc, Bool, true, false, true≢false, List, [], ◌∷◌, length, Option, Some, Ok, Err, refl, sym, ap}
+use Rattle.dom_mutation.proofs.Cited.{◌∙◌, subst, OnOk, OnErr, IfOk, Result, IsTrue, is_some, slice_get, slice_set, AllByRecursion, option_flatten}
+use Rattle.dom_mutation.proofs.Cited.{on_ok_weaker, NodeName, Owner, Refusal, IndexSize, Plan, doing, Command, NodeWord, own, effect, named, past_end, node_of}
+use Rattle.dom_mutation.proofs.Cited.{Value, Said, nothing, Part, first_node, range_at, Range, Step, make, set_document, set_range, part_step, after, Trees}
+use Rattle.dom_mutation.proofs.Cited.{Node, has_node, is_shadow, notified, World, part_of, with_part, owner-part_of, owner-part_step, part_of-stepped}
+use Rattle.dom_mutation.proofs.Cited.{EndsWithin, EndsIn, IsNodeIn, IsPart, Fits, MadeIn, SetsEnd, DocState, Makes, MakesSaying, made, planned, stepped}
+use Rattle.dom_mutation.proofs.Cited.{name_in, owner_in, trees_in, IsAlone, SetsOwnDocuments, IsReadyPart, AreReady, IsReady, MayStand}
 use Rattle.dom_mutation.proofs.ReadyPlans.{KeepReady, ready-make, ready-set_range}
 use Rattle.dom_mutation.proofs.ReadyTables.{ReadyEffect, ready-makes, ready-same}
 use Rattle.dom_mutation.proofs.ReadyWorlds.{ready-made, ready-written}

@@ -1,12 +1,10 @@
 -- Steps keep both ends of a live range at nodes of one tree, whatever else the part holds. The laws for this speak of all tables, so
 -- they are read of a part without the others.
-use Rattle.dom_base.proofs.Std.{◌≡◌, ℕ, List, [], ◌∷◌, ◌++◌, fold, Option, Some, None, refl, sym, ap, subst, ◌∙◌, nat_eq, slice_set, AllByRecursion}
-use Rattle.dom_base.proofs.Std.{option_map_or}
-use Rattle.dom_model.proofs.Model.{NodeName, append_once, Registration, target_of, Change, Part, queue_of, Step, make, make_room, place, take_out, set_document}
-use Rattle.dom_model.proofs.Model.{set_attribute, replace_data, split_at, join_at, set_range, queue_record, part_step, leave, after, record_in}
-use Rattle.dom_model.proofs.Model.{inclusive_ancestors, parent_of, none_interested, none_transient}
-use Rattle.dom_worlds.specs.Definitions.{HasBounds, EndsIn, HasTables, IsPart}
-use Rattle.dom_worlds.proofs.PlanLemmas.{tables-after, Fits, MadeIn}
+use Rattle.dom_mutation.proofs.Cited.{◌≡◌, ℕ, List, [], ◌∷◌, ◌++◌, fold, Option, Some, None, refl, sym, ap, subst, ◌∙◌, nat_eq, slice_set, AllByRecursion}
+use Rattle.dom_mutation.proofs.Cited.{option_map_or, NodeName, append_once, Registration, target_of, Change, Part, queue_of, Step, make, make_room, place}
+use Rattle.dom_mutation.proofs.Cited.{take_out, set_document, set_attribute, replace_data, split_at, join_at, set_range, queue_record, part_step, leave, after}
+use Rattle.dom_mutation.proofs.Cited.{record_in, inclusive_ancestors, parent_of, none_interested, none_transient, HasBounds, EndsIn, HasTables, IsPart}
+use Rattle.dom_mutation.proofs.Cited.{tables-after, Fits, MadeIn}
 
 -- the part with its trees and live ranges alone
 abbrev pub bare : Part → Part

@@ -1,12 +1,9 @@
 -- A part with one node alone is ready, and so is one without nodes: the first world, what was given up, and a world with one component
 -- more.
-use Rattle.dom_base.proofs.Std.{◌≡◌, List, [], ◌∷◌, ◌++◌, drop, length, Option, None, refl}
-use Rattle.dom_model.proofs.Model.{Kind, Document, Shadow, NodeName, Owner, Page, Component, first_world, part_with_root, new_root, attaching, name_eq, node_of}
-use Rattle.dom_model.proofs.Model.{first_of, Part, empty_part, Trees, none, tree, Node, node_in, names_of, roots, trees_below, children_of, parent_of, World}
-use Rattle.dom_model.proofs.Model.{part_of, with_part, component_made, owner-part_of}
-use Rattle.dom_worlds.proofs.ListLemmas.{either_way}
-use Rattle.dom_parts.specs.Definitions.{nothing_left}
-use Rattle.dom_mutation.specs.Definitions.{IsReadyPart, AreReady, IsReady}
+use Rattle.dom_mutation.proofs.Cited.{◌≡◌, List, [], ◌∷◌, ◌++◌, drop, length, Option, None, refl, Kind, Document, Shadow, NodeName, Owner, Page, Component}
+use Rattle.dom_mutation.proofs.Cited.{first_world, part_with_root, new_root, attaching, name_eq, node_of, first_of, Part, empty_part, Trees, none, tree, Node}
+use Rattle.dom_mutation.proofs.Cited.{node_in, names_of, roots, trees_below, children_of, parent_of, World, part_of, with_part, component_made, owner-part_of}
+use Rattle.dom_mutation.proofs.Cited.{either_way, nothing_left, IsReadyPart, AreReady, IsReady}
 use Rattle.dom_mutation.proofs.ReadyTables.{ready-same}
 use Rattle.dom_mutation.proofs.ReadyWorlds.{ready-written}
 

@@ -1,28 +1,22 @@
 -- The plans of changes keep an owner's part ready for calls.
-use Rattle.dom_base.proofs.Std.{◌≡◌, ◌<◌, ℕ, length, Bool, true, false, not, ◌||◌, List, [], ◌∷◌, drop, filter, Option, Some, None, refl, sym, ap, ◌∙◌, arith}
-use Rattle.dom_base.proofs.Std.{true≢false, subst, IsTrue, if◌then◌else◌, option_map_or, not-false}
-use Rattle.dom_model.proofs.Model.{Kind, Document, Fragment, Shadow, Element, Text, Comment, NodeName, Hierarchy, NotFound, Plan, observed, remove_plan}
-use Rattle.dom_model.proofs.Model.{adopt_plan, insert_plan, replace_plan, setting_attribute, unsetting_attribute, of_range, plan_of_range, extracting, Word}
-use Rattle.dom_model.proofs.Model.{DomString, name_eq, Part, range_at, deleting, insert_node_refusal, insertion_parent, start_reference, cannot_take_node}
-use Rattle.dom_model.proofs.Model.{inserting_into_range, Range, Step, make, set_document, set_range, after, replacing_data, replacing_all_data}
-use Rattle.dom_model.proofs.Model.{replacing_children, splitting, normalizing, setting_text, Trees, Node, has_node, kind_of, has_data, is_document, is_text}
-use Rattle.dom_model.proofs.Model.{is_shadow, child_nodes, is_inclusive_ancestor, first_refusal, has_parent, may_be_parent, may_be_inserted, placing_tests}
-use Rattle.dom_model.proofs.Model.{pre_insert_refusal, replace_refusal, parent-open}
-use Rattle.dom_worlds.specs.Definitions.{HasBounds, IsWithin, EndsIn, HasEnds, IsPart}
-use Rattle.dom_worlds.proofs.CommandLemmas.{next-test, has_node-times, parent-of_range}
+use Rattle.dom_mutation.proofs.Cited.{◌≡◌, ◌<◌, ℕ, length, Bool, true, false, not, ◌||◌, List, [], ◌∷◌, drop, filter, Option, Some, None, refl, sym, ap, ◌∙◌}
+use Rattle.dom_mutation.proofs.Cited.{arith, true≢false, subst, IsTrue, if◌then◌else◌, option_map_or, not-false, Kind, Document, Fragment, Shadow, Element}
+use Rattle.dom_mutation.proofs.Cited.{Text, Comment, NodeName, Hierarchy, NotFound, Plan, observed, remove_plan, adopt_plan, insert_plan, replace_plan}
+use Rattle.dom_mutation.proofs.Cited.{setting_attribute, unsetting_attribute, of_range, plan_of_range, extracting, Word, DomString, name_eq, Part, range_at}
+use Rattle.dom_mutation.proofs.Cited.{deleting, insert_node_refusal, insertion_parent, start_reference, cannot_take_node, inserting_into_range, Range, Step}
+use Rattle.dom_mutation.proofs.Cited.{make, set_document, set_range, after, replacing_data, replacing_all_data, replacing_children, splitting, normalizing}
+use Rattle.dom_mutation.proofs.Cited.{setting_text, Trees, Node, has_node, kind_of, has_data, is_document, is_text, is_shadow, child_nodes}
+use Rattle.dom_mutation.proofs.Cited.{is_inclusive_ancestor, first_refusal, has_parent, may_be_parent, may_be_inserted, placing_tests, pre_insert_refusal}
+use Rattle.dom_mutation.proofs.Cited.{replace_refusal, parent-open, HasBounds, IsWithin, EndsIn, HasEnds, IsPart, next-test, has_node-times, parent-of_range}
+use Rattle.dom_mutation.proofs.Cited.{inside-no_ancestor, times-has_node, roots-equal, Keeps, keeps-removing, keeps-adopting, keeps-inserting, keeps-replacing}
+use Rattle.dom_mutation.proofs.Cited.{keeps-setting_attribute, keeps-unsetting_attribute, keeps-replacing_data, keeps-splitting, keeps-normalizing}
+use Rattle.dom_mutation.proofs.Cited.{keeps-setting_text, keeps-extracting, keeps-deleting, keeps-inserting_into_range, leads-deleting, leads-extracting}
+use Rattle.dom_mutation.proofs.Cited.{leads-inserting_into_range, MayGo, leads-removing, leads-adopting, leads-inserting, ends-at, leads-replacing}
+use Rattle.dom_mutation.proofs.Cited.{leads-setting_attribute, leads-unsetting_attribute, leads-replacing_data, leads-splitting, leads-normalizing}
+use Rattle.dom_mutation.proofs.Cited.{leads-setting_text, MadeIn, not_taken, by_cases, IsReadyPart}
 use Rattle.dom_worlds.proofs.RangeLemmas.{under-at, RangeUnder, reach, nowhere, room-of, make-keeps, set_document-keeps, set_range-keeps, removal-keeps}
 use Rattle.dom_worlds.proofs.RangeLemmas.{adoption-keeps, insertion-keeps, replacement-keeps, attribute-keeps, attribute_removal-keeps, data-keeps, split-keeps}
 use Rattle.dom_worlds.proofs.RangeLemmas.{normalization-keeps, text_content-keeps, deletion-keeps, extraction-keeps, range_insertion-keeps}
-use Rattle.dom_worlds.proofs.TreeLemmas.{inside-no_ancestor, times-has_node, roots-equal}
-use Rattle.dom_worlds.proofs.PlanLemmas.{Keeps, keeps-removing, keeps-adopting, keeps-inserting, keeps-replacing, keeps-setting_attribute}
-use Rattle.dom_worlds.proofs.PlanLemmas.{keeps-unsetting_attribute, keeps-replacing_data, keeps-splitting, keeps-normalizing, keeps-setting_text}
-use Rattle.dom_worlds.proofs.PlanLemmas.{keeps-extracting, keeps-deleting, keeps-inserting_into_range, leads-deleting, leads-extracting}
-use Rattle.dom_worlds.proofs.PlanLemmas.{leads-inserting_into_range, MayGo, leads-removing, leads-adopting, leads-inserting, ends-at, leads-replacing}
-use Rattle.dom_worlds.proofs.PlanLemmas.{leads-setting_attribute, leads-unsetting_attribute, leads-replacing_data, leads-splitting, leads-normalizing}
-use Rattle.dom_worlds.proofs.PlanLemmas.{leads-setting_text, MadeIn}
-use Rattle.dom_worlds.proofs.ShadowTreeLemmas.{not_taken}
-use Rattle.dom_worlds.proofs.ListLemmas.{by_cases}
-use Rattle.dom_mutation.specs.Definitions.{IsReadyPart}
 use Rattle.dom_mutation.proofs.NoData.{no_data-keeps}
 use Rattle.dom_mutation.proofs.ReadyEnds.{bare, bare-part, bare-bounds, bounds-bare, bare-tables, bare-after, made-bare, ends-after}
 use Rattle.dom_mutation.proofs.ReadyRoots.{LoneRoots, lone-rules, lone-before, lone-after}

@@ -1,21 +1,14 @@
 -- Steps that place no shadow root, and make none, leave each shadow root without a parent: which nodes are shadow roots is said by the
 -- part before them.
-use Rattle.dom_base.proofs.Std.{◌≡◌, ◌≤◌, true, false, List, drop, Option, Some, None, refl, sym, ap, ◌∙◌, arith, true≢false, subst, if◌then◌else◌, ⊤}
-use Rattle.dom_base.proofs.Std.{AllByRecursion, option_map_or, and_parts}
-use Rattle.dom_model.proofs.Model.{Shadow, NodeName, common_ancestor, name_eq, is_in, first_of, Part, next_name, Step, make, place, take_out, set_document}
-use Rattle.dom_model.proofs.Model.{set_attribute, replace_data, part_step, leave, after, Trees, none, tree, Node, no_node, node_in, kind_of, is_shadow}
-use Rattle.dom_model.proofs.Model.{has_data, parent_of, children_of, subtree, times_in, trees_below, inclusive_descendants, map_nodes, with_name, with_document}
-use Rattle.dom_model.proofs.Model.{with_data_replaced, with_attribute, name_eq-same, name_eq-true}
-use Rattle.dom_worlds.specs.Definitions.{IsPart, AllNodes, IsShadowAt}
-use Rattle.dom_worlds.proofs.PlanLemmas.{common_below, whole-pieces, KeepsNames, some-keeps, attribute-keeps, part-step, Allowed, IsOwn, own-step, next-other}
-use Rattle.dom_worlds.proofs.PlanLemmas.{IsKept, kept-after}
-use Rattle.dom_worlds.proofs.ShadowTreeLemmas.{shadow-kind, kind-root, found-absent}
-use Rattle.dom_worlds.proofs.TreeLemmas.{roots-there, no_parent-root, read-all, nodes-then, nodes-named, nodes-with_node, nodes-placed, nodes-taken_out}
-use Rattle.dom_worlds.proofs.TreeLemmas.{nodes-map_nodes, root-below_none}
-use Rattle.dom_worlds.proofs.ListLemmas.{all-then, by_cases}
-use Rattle.dom_worlds.proofs.CommandLemmas.{node-read, name-node_in, fragment-no_shadow}
-use Rattle.dom_worlds.proofs.WorldLemmas.{root-alone}
-use Rattle.dom_laws.proofs.Laws.{by_times}
+use Rattle.dom_mutation.proofs.Cited.{◌≡◌, ◌≤◌, true, false, List, drop, Option, Some, None, refl, sym, ap, ◌∙◌, arith, true≢false, subst, if◌then◌else◌, ⊤}
+use Rattle.dom_mutation.proofs.Cited.{AllByRecursion, option_map_or, and_parts, Shadow, NodeName, common_ancestor, name_eq, is_in, first_of, Part, next_name}
+use Rattle.dom_mutation.proofs.Cited.{Step, make, place, take_out, set_document, set_attribute, replace_data, part_step, leave, after, Trees, none, tree, Node}
+use Rattle.dom_mutation.proofs.Cited.{no_node, node_in, kind_of, is_shadow, has_data, parent_of, children_of, subtree, times_in, trees_below}
+use Rattle.dom_mutation.proofs.Cited.{inclusive_descendants, map_nodes, with_name, with_document, with_data_replaced, with_attribute, name_eq-same}
+use Rattle.dom_mutation.proofs.Cited.{name_eq-true, IsPart, AllNodes, IsShadowAt, common_below, whole-pieces, KeepsNames, some-keeps, attribute-keeps}
+use Rattle.dom_mutation.proofs.Cited.{part-step, Allowed, IsOwn, own-step, next-other, IsKept, kept-after, shadow-kind, kind-root, found-absent, roots-there}
+use Rattle.dom_mutation.proofs.Cited.{no_parent-root, read-all, nodes-then, nodes-named, nodes-with_node, nodes-placed, nodes-taken_out, nodes-map_nodes}
+use Rattle.dom_mutation.proofs.Cited.{root-below_none, all-then, by_cases, node-read, name-node_in, fragment-no_shadow, root-alone, by_times}
 
 -- no shadow root has a parent
 abbrev pub LoneRoots : Trees → Type 0

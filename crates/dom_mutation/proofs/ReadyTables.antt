@@ -1,21 +1,15 @@
 -- Commands that change tables alone keep an owner's part ready: those on iterators, walkers and observers leave its trees and live ranges,
 -- and those on live ranges set ends within nodes of one tree.
-use Rattle.dom_base.proofs.Std.{◌≡◌, ℕ, Bool, true, false, not, ◌&&◌, List, [], ◌∷◌, Option, Some, None, option_map, refl, sym, arith, subst, IsTrue, slice_get}
-use Rattle.dom_base.proofs.Std.{AllByRecursion, option_map_or, ltb-false}
-use Rattle.dom_model.proofs.Model.{Move, NodeName, Owner, Command, NodeWord, effect, named, past_end, Effect, tables, changes, answers, moves_iterator}
-use Rattle.dom_model.proofs.Model.{sets_walker, node_or_null, with_range, collapsed_to, both_at, Value, Said, nothing, Part, first_node, range_at, Boundary}
-use Rattle.dom_model.proofs.Model.{same_root, is_before, Range, at, from_to, with_start, with_end, Walker, iterator_next_node, iterator_previous_node}
-use Rattle.dom_model.proofs.Model.{walker_move, Trees, length_of, World, part_of, owner-part_of}
-use Rattle.dom_worlds.specs.Definitions.{IsWithin, EndsWithin, IsNodeIn, HasEnds, EndsIn, IsPart}
+use Rattle.dom_mutation.proofs.Cited.{◌≡◌, ℕ, Bool, true, false, not, ◌&&◌, List, [], ◌∷◌, Option, Some, None, option_map, refl, sym, arith, subst, IsTrue}
+use Rattle.dom_mutation.proofs.Cited.{slice_get, AllByRecursion, option_map_or, ltb-false, Move, NodeName, Owner, Command, NodeWord, effect, named, past_end}
+use Rattle.dom_mutation.proofs.Cited.{Effect, tables, changes, answers, moves_iterator, sets_walker, node_or_null, with_range, collapsed_to, both_at, Value}
+use Rattle.dom_mutation.proofs.Cited.{Said, nothing, Part, first_node, range_at, Boundary, same_root, is_before, Range, at, from_to, with_start, with_end}
+use Rattle.dom_mutation.proofs.Cited.{Walker, iterator_next_node, iterator_previous_node, walker_move, Trees, length_of, World, part_of, owner-part_of}
+use Rattle.dom_mutation.proofs.Cited.{IsWithin, EndsWithin, IsNodeIn, HasEnds, EndsIn, IsPart, all-append, all-set, either_way, ends-at, roots-same}
+use Rattle.dom_mutation.proofs.Cited.{ends-with_start, ends-with_end, ends-collapsed, IsReadyPart, AreReady, MakesSaying}
 use Rattle.dom_worlds.proofs.RangeLemmas.{under-at, RangeUnder, reach, nowhere, room-of}
-use Rattle.dom_worlds.proofs.ListLemmas.{all-append, all-set, either_way}
-use Rattle.dom_worlds.proofs.PlanLemmas.{ends-at}
-use Rattle.dom_worlds.proofs.TreeLemmas.{roots-same}
-use Rattle.dom_worlds.proofs.CommandLemmas.{ends-with_start, ends-with_end, ends-collapsed}
-use Rattle.dom_mutation.specs.Definitions.{IsReadyPart, AreReady}
 use Rattle.dom_mutation.proofs.ReadyEnds.{bare, bare-tables}
 use Rattle.dom_mutation.proofs.ReadyWorlds.{ready-written}
-use Rattle.dom_parts.specs.Definitions.{MakesSaying}
 
 -- a part with the same trees and live ranges
 pub ready-same : (p q : Part) → q.trees ≡ p.trees → q.ranges ≡ p.ranges → IsReadyPart p → IsReadyPart q

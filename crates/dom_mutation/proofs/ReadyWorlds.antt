@@ -1,15 +1,11 @@
 -- What is ready stays so in the world: an owner's plan changes its own part as it does alone, and of other parts the node documents
 -- alone; and where an owner's part is written, the others stay.
-use Rattle.dom_base.proofs.Std.{◌≡◌, ◌≢◌, Bool, true, false, List, [], ◌∷◌, fold, Option, Some, None, sym, ◌∙◌, subst}
-use Rattle.dom_model.proofs.Model.{NodeName, Owner, Plan, owner_eq, max_depth, Part, signals, with_signal, Step, place, take_out, set_document, set_attribute}
-use Rattle.dom_model.proofs.Model.{queue_record, part_step, after, is_taken, parent_of, World, part_of, with_part, components_below, shadow_root_of, world_step}
-use Rattle.dom_model.proofs.Model.{world_after, stepped, with_removal_signals, with_notify_if, with_shadow_document, owner_eq-true, owner_eq-false}
-use Rattle.dom_model.proofs.Model.{owner-part_of, owner-part_step, part_of-stepped-other}
-use Rattle.dom_worlds.specs.Definitions.{IsPart}
-use Rattle.dom_worlds.proofs.PlanLemmas.{part-step, MadeIn}
-use Rattle.dom_worlds.proofs.WorldLemmas.{each-part}
-use Rattle.dom_worlds.proofs.ListLemmas.{by_cases}
-use Rattle.dom_mutation.specs.Definitions.{IsReadyPart, AreReady}
+use Rattle.dom_mutation.proofs.Cited.{◌≡◌, ◌≢◌, Bool, true, false, List, [], ◌∷◌, fold, Option, Some, None, sym, ◌∙◌, subst, NodeName, Owner, Plan, owner_eq}
+use Rattle.dom_mutation.proofs.Cited.{max_depth, Part, signals, with_signal, Step, place, take_out, set_document, set_attribute, queue_record, part_step, after}
+use Rattle.dom_mutation.proofs.Cited.{is_taken, parent_of, World, part_of, with_part, components_below, shadow_root_of, world_step, world_after}
+use Rattle.dom_mutation.proofs.Cited.{with_removal_signals, with_notify_if, with_shadow_document, owner_eq-true, owner_eq-false, owner-part_of, owner-part_step}
+use Rattle.dom_mutation.proofs.Cited.{part_of-stepped-other, IsPart, part-step, MadeIn, each-part, by_cases, IsReadyPart, AreReady}
+use Rattle.dom_model.proofs.Model.{stepped}
 use Rattle.dom_mutation.proofs.ReadyPlans.{KeepReady, ready-after, ready-document}
 
 -- a part, and that it is ready

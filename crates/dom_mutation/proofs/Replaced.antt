@@ -1,12 +1,10 @@
 -- Replacements: the reference is another child, which stays one when the child that gives way is taken out.
-use Rattle.dom_base.proofs.Std.{◌≡◌, ℕ, ◌<◌, inl, inr, false, List, [], ◌∷◌, ◌++◌, length, Option, Some, None, option_map, refl, sym, ap, subst, ◌∙◌, ForSome}
-use Rattle.dom_base.proofs.Std.{cases_Bool, cond-true, cond-false}
-use Rattle.dom_model.proofs.Model.{NodeName, name_eq, first_of, items_after, Trees, none, tree, parent_of, children_of, next_sibling, inclusive_ancestors}
-use Rattle.dom_model.proofs.Model.{is_inclusive_ancestor, part_of, suppressed, remove_plan, reference_child, name_eq-true}
-use Rattle.dom_tree.specs.Definitions.{name_at}
-use Rattle.dom_parts.specs.Definitions.{DocState, planned, name_in, owner_in, trees_in, IsChild, IsAlone}
-use Rattle.dom_laws.proofs.Laws.{Lacks, lacks_both, lacks_to, swapped, path_here, path_after, path_below, path_lacks, Once, once_parts, NoTwice, parent_path}
-use Rattle.dom_laws.proofs.Laws.{children_once, next_child, next_walked, first_lacks}
+use Rattle.dom_mutation.proofs.Cited.{◌≡◌, ℕ, ◌<◌, inl, inr, false, List, [], ◌∷◌, ◌++◌, length, Option, Some, None, option_map, refl, sym, ap, subst, ◌∙◌}
+use Rattle.dom_mutation.proofs.Cited.{ForSome, cases_Bool, cond-true, cond-false, NodeName, name_eq, first_of, items_after, Trees, none, tree, parent_of}
+use Rattle.dom_mutation.proofs.Cited.{children_of, next_sibling, inclusive_ancestors, is_inclusive_ancestor, part_of, suppressed, remove_plan, reference_child}
+use Rattle.dom_mutation.proofs.Cited.{name_eq-true, name_at, DocState, planned, name_in, owner_in, trees_in, IsChild, IsAlone, Lacks, lacks_both, lacks_to}
+use Rattle.dom_mutation.proofs.Cited.{swapped, path_here, path_after, path_below, path_lacks, Once, once_parts, NoTwice, parent_path, children_once, next_child}
+use Rattle.dom_mutation.proofs.Cited.{next_walked, first_lacks}
 use Rattle.dom_mutation.proofs.Placed.{Counted, once_in, removal_keeps}
 use Rattle.dom_mutation.proofs.Turns.{Stays}
 

@@ -1,20 +1,14 @@
 -- What a call of a `Doc` leaves of its nodes and of what each owner has, by what its contract says of the world; and its new node.
-use Rattle.dom_base.proofs.Std.{◌≡◌, ◌<◌, ℕ, true, false, List, [], ◌∷◌, ◌++◌, length, Some, refl, sym, ap, ◌∙◌, arith, subst, unwrap_or, get_or-append}
-use Rattle.dom_base.proofs.Std.{get_or-append_seam, length-append}
-use Rattle.dom_model.proofs.Model.{NodeName, Owner, Page, Plan, Command, attaching, first_of, node_of, Value, Said, Part, empty_part, next_name, Step, make}
-use Rattle.dom_model.proofs.Model.{Trees, Node, kind_of, has_node, with_name, notified, World, find_part, part_of, with_part, is_there, component_made}
-use Rattle.dom_model.proofs.Model.{world_after, stepped, owner-part_of, part_of-stepped}
-use Rattle.dom_worlds.specs.Definitions.{AllNodes}
-use Rattle.dom_worlds.proofs.CommandLemmas.{absent-any}
-use Rattle.dom_worlds.proofs.PlanLemmas.{next-absent}
-use Rattle.dom_worlds.proofs.WorldLemmas.{each-part}
-use Rattle.dom_worlds.proofs.TreeLemmas.{nodes-with_node}
-use Rattle.dom_parts.specs.Definitions.{DocState, MakesSaying, made, name_in, owner_in, trees_in}
-use Rattle.dom_mutation.specs.Definitions.{HasNodes, HasStillAll, DropsNone}
+use Rattle.dom_mutation.proofs.Cited.{◌≡◌, ◌<◌, ℕ, true, false, List, [], ◌∷◌, ◌++◌, length, Some, refl, sym, ap, ◌∙◌, arith, subst, unwrap_or, get_or-append}
+use Rattle.dom_mutation.proofs.Cited.{get_or-append_seam, length-append, NodeName, Owner, Page, Plan, Command, attaching, first_of, node_of, Value, Said, Part}
+use Rattle.dom_mutation.proofs.Cited.{empty_part, next_name, Step, make, Trees, Node, kind_of, has_node, with_name, notified, World, find_part, part_of}
+use Rattle.dom_mutation.proofs.Cited.{with_part, is_there, component_made, world_after, owner-part_of, part_of-stepped, AllNodes, absent-any, next-absent}
+use Rattle.dom_mutation.proofs.Cited.{each-part, nodes-with_node, DocState, MakesSaying, made, name_in, owner_in, trees_in, HasNodes, HasStillAll, DropsNone}
+use Rattle.dom_mutation.proofs.Cited.{name_at}
+use Rattle.dom_model.proofs.Model.{stepped}
 use Rattle.dom_mutation.proofs.StillEffects.{KeepsTables, KeepsEffect, effect-still}
 use Rattle.dom_mutation.proofs.StillParts.{IsKindAt, kind-kept, kind-read, still-each, tables-same, tables-then}
 use Rattle.dom_mutation.proofs.StillWorlds.{KeepsWorld, keeps-world_after, keeps-attaching}
-use Rattle.dom_tree.specs.Definitions.{name_at}
 
 -- the names that were there
 names-still : (xs ys zs : List NodeName) → ys ≡ xs ++ zs → (k : ℕ) → k < length xs → name_at ys k ≡ name_at xs k

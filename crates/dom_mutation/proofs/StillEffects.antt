@@ -1,9 +1,9 @@
 -- What a command that changes its owner's tables alone leaves there.
-use Rattle.dom_base.proofs.Std.{◌≡◌, ℕ, Bool, true, false, [], ◌∷◌, Option, Some, None, refl, slice_get, option_map, ⊤, option_map_or}
-use Rattle.dom_model.proofs.Model.{NodeName, Command, effect, named, Effect, tables, changes, answers, moves_iterator, sets_walker, node_or_null, with_range}
-use Rattle.dom_model.proofs.Model.{collapsed_to, both_at, Value, nothing, a_node, a_string, boundaries, reference, Part, first_node, range_at, range_text_of}
-use Rattle.dom_model.proofs.Model.{Range, at, with_start, with_end, Iterator, Walker, iterator_next_node, iterator_previous_node, moved_to, walker_move}
-use Rattle.dom_mutation.specs.Definitions.{HasStillTables, DropsNone}
+use Rattle.dom_mutation.proofs.Cited.{◌≡◌, ℕ, Bool, true, false, [], ◌∷◌, Option, Some, None, refl, slice_get, option_map, ⊤, option_map_or, NodeName, Command}
+use Rattle.dom_mutation.proofs.Cited.{effect, named, Effect, tables, changes, answers, moves_iterator, sets_walker, node_or_null, with_range, collapsed_to}
+use Rattle.dom_mutation.proofs.Cited.{both_at, Value, nothing, a_node, a_string, boundaries, reference, Part, first_node, range_at, range_text_of, Range, at}
+use Rattle.dom_mutation.proofs.Cited.{with_start, with_end, Iterator, Walker, iterator_next_node, iterator_previous_node, moved_to, walker_move, HasStillTables}
+use Rattle.dom_mutation.proofs.Cited.{DropsNone}
 use Rattle.dom_mutation.proofs.StillParts.{tables-same, still-set, still-more, still-longer, still-mapped}
 
 -- the trees stay, and all is there that was

@@ -1,8 +1,7 @@
 -- What was made is there under the number that was answered.
-use Rattle.dom_base.proofs.Std.{◌≡◌, ℕ, true, List, [], ◌∷◌, ◌++◌, length, Option, Some, refl, subst, slice_get, is_some, option_flatten}
-use Rattle.dom_model.proofs.Model.{NodeName, Owner, Page, Command, Filter, NodeWord, named, Effect, tables, changes, new_iterator, new_walker, both_at, Value}
-use Rattle.dom_model.proofs.Model.{a_range, an_iterator, a_walker, an_observer, Part, empty_part, first_node, range_at, Range, at, World, part_of}
-use Rattle.dom_parts.specs.Definitions.{Makes}
+use Rattle.dom_mutation.proofs.Cited.{◌≡◌, ℕ, true, List, [], ◌∷◌, ◌++◌, length, Option, Some, refl, subst, slice_get, is_some, option_flatten, NodeName, Owner}
+use Rattle.dom_mutation.proofs.Cited.{Page, Command, Filter, NodeWord, named, Effect, tables, changes, new_iterator, new_walker, both_at, Value, a_range}
+use Rattle.dom_mutation.proofs.Cited.{an_iterator, a_walker, an_observer, Part, empty_part, first_node, range_at, Range, at, World, part_of, Makes}
 
 -- the part that an effect leaves, and the number that it answers
 abbrev part_in : Effect → Part

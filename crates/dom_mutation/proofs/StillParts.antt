@@ -1,18 +1,13 @@
 -- What every step leaves in an owner's part, whether it fits there or not: kinds, and what the owner has beside its trees.
-use Rattle.dom_base.proofs.Std.{◌≡◌, ◌≤◌, ◌<◌, ℕ, zero, suc, true, List, [], ◌∷◌, ◌++◌, fold, map, Option, Some, None, refl, sym, ap, ◌∙◌, arith, true≢false}
-use Rattle.dom_base.proofs.Std.{subst, find, unwrap_or, slice_get, slice_set, option_map, is_some, if◌then◌else◌, AllByRecursion, option_flatten, option_map_or}
-use Rattle.dom_base.proofs.Std.{cond-true, cond-false, slice_get-map}
-use Rattle.dom_model.proofs.Model.{Kind, NodeName, name_eq, is_in, Part, next_name, queue_of, Boundary, Range, map_ends, Step, make, make_room, place, take_out}
-use Rattle.dom_model.proofs.Model.{set_document, set_attribute, replace_data, split_at, join_at, set_range, queue_record, part_step, leave, after}
-use Rattle.dom_model.proofs.Model.{interested_in, record_in, Trees, Node, nodes, node_in, no_node, kind_of, has_node, parent_of, inclusive_descendants}
-use Rattle.dom_model.proofs.Model.{map_nodes, with_name, with_document, with_data_replaced, with_attribute, name_eq-true}
-use Rattle.dom_worlds.specs.Definitions.{AllNodes, IsPart}
-use Rattle.dom_worlds.proofs.CommandLemmas.{has_node-times, count-grows}
-use Rattle.dom_worlds.proofs.TreeLemmas.{read-all, nodes-with_node, nodes-taken_out, nodes-placed, nodes-map_nodes, nodes-listed, nodes-then}
-use Rattle.dom_worlds.proofs.PlanLemmas.{KeepsNames, some-keeps, attribute-keeps}
-use Rattle.dom_worlds.proofs.ShadowTreeLemmas.{found-there}
-use Rattle.dom_worlds.proofs.ListLemmas.{by_cases}
-use Rattle.dom_mutation.specs.Definitions.{HasStill, HasStillTables}
+use Rattle.dom_mutation.proofs.Cited.{◌≡◌, ◌≤◌, ◌<◌, ℕ, zero, suc, true, List, [], ◌∷◌, ◌++◌, fold, map, Option, Some, None, refl, sym, ap, ◌∙◌, arith}
+use Rattle.dom_mutation.proofs.Cited.{true≢false, subst, find, unwrap_or, slice_get, slice_set, option_map, is_some, if◌then◌else◌, AllByRecursion}
+use Rattle.dom_mutation.proofs.Cited.{option_flatten, option_map_or, cond-true, cond-false, slice_get-map, Kind, NodeName, name_eq, is_in, Part, next_name}
+use Rattle.dom_mutation.proofs.Cited.{queue_of, Boundary, Range, map_ends, Step, make, make_room, place, take_out, set_document, set_attribute, replace_data}
+use Rattle.dom_mutation.proofs.Cited.{split_at, join_at, set_range, queue_record, part_step, leave, after, interested_in, record_in, Trees, Node, nodes}
+use Rattle.dom_mutation.proofs.Cited.{node_in, no_node, kind_of, has_node, parent_of, inclusive_descendants, map_nodes, with_name, with_document}
+use Rattle.dom_mutation.proofs.Cited.{with_data_replaced, with_attribute, name_eq-true, AllNodes, IsPart, has_node-times, count-grows, read-all}
+use Rattle.dom_mutation.proofs.Cited.{nodes-with_node, nodes-taken_out, nodes-placed, nodes-map_nodes, nodes-listed, nodes-then, KeepsNames, some-keeps}
+use Rattle.dom_mutation.proofs.Cited.{attribute-keeps, found-there, by_cases, HasStill, HasStillTables}
 
 -- Places of lists.
 still-map : {X Y : Type 0} (f : X → Y) (xs : List X) (k : ℕ) → is_some (slice_get xs k) ≡ true → is_some (slice_get (map f xs) k) ≡ true

@@ -1,8 +1,8 @@
 -- What every step leaves in all parts of the world, and so every plan; and what an attaching leaves.
-use Rattle.dom_base.proofs.Std.{◌≡◌, false, List, [], ◌∷◌, ◌++◌, length, Option, Some, None, refl, sym, subst, arith, unwrap_or, is_some, ⊤, AllByRecursion}
-use Rattle.dom_model.proofs.Model.{Shadow, NodeName, Owner, attaching, part_with_root, Part, empty_part, Step, part_step, node_in, World, find_part, part_of}
-use Rattle.dom_model.proofs.Model.{with_part, is_there, component_made, world_after, owner-part_of, owner-part_step}
-use Rattle.dom_worlds.proofs.WorldLemmas.{each-part, IsKeptIn, holds-world_after}
+use Rattle.dom_mutation.proofs.Cited.{◌≡◌, false, List, [], ◌∷◌, ◌++◌, length, Option, Some, None, refl, sym, subst, arith, unwrap_or, is_some, ⊤}
+use Rattle.dom_mutation.proofs.Cited.{AllByRecursion, Shadow, NodeName, Owner, attaching, part_with_root, Part, empty_part, Step, part_step, node_in, World}
+use Rattle.dom_mutation.proofs.Cited.{find_part, part_of, with_part, is_there, component_made, world_after, owner-part_of, owner-part_step, each-part, IsKeptIn}
+use Rattle.dom_mutation.proofs.Cited.{holds-world_after}
 use Rattle.dom_mutation.proofs.StillParts.{KeepsPart, keeps-same, keeps-then, keeps-step, tables-same}
 
 -- all parts keep what they have

@@ -1,8 +1,7 @@
 -- The tail of a split Text is placed behind it.
-use Rattle.dom_base.proofs.Std.{◌≡◌, ℕ, ◌<◌, false, length, Option, Some, None, sym, ap, subst, ◌∙◌, ForSome, false_from_ne_true}
-use Rattle.dom_model.proofs.Model.{parent_of, inclusive_ancestors, is_inclusive_ancestor, part_of, name_eq-true}
-use Rattle.dom_parts.specs.Definitions.{DocState, name_in, owner_in, trees_in, MayMove, IsChild}
-use Rattle.dom_laws.proofs.Laws.{Lacks, lacks_from, lacks_to, parent_path}
+use Rattle.dom_mutation.proofs.Cited.{◌≡◌, ℕ, ◌<◌, false, length, Option, Some, None, sym, ap, subst, ◌∙◌, ForSome, false_from_ne_true, parent_of}
+use Rattle.dom_mutation.proofs.Cited.{inclusive_ancestors, is_inclusive_ancestor, part_of, name_eq-true, DocState, name_in, owner_in, trees_in, MayMove}
+use Rattle.dom_mutation.proofs.Cited.{IsChild, Lacks, lacks_from, lacks_to, parent_path}
 use Rattle.dom_mutation.proofs.Placed.{Counted, once_in}
 
 -- A child of a parent, a new node, and what comes behind the child.

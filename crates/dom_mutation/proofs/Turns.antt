@@ -1,14 +1,10 @@
 -- Loops that place nodes, or take them out, one after another.
-use Rattle.dom_base.proofs.Std.{get_or, drop-cons, add-one, suc, ◌+◌, ◌≡◌, ℕ, ◌<◌, false, List, [], ◌∷◌, drop, length, map, Option, Some, option_map, refl, sym}
-use Rattle.dom_base.proofs.Std.{ap, subst, ◌∙◌, AllByRecursion, ForSome}
-use Rattle.dom_model.proofs.Model.{NodeName, name_eq, first_of, is_in, parent_of, inclusive_ancestors, is_inclusive_ancestor, Plan, Observing, in_turn, placing}
-use Rattle.dom_model.proofs.Model.{remove_plan}
-use Rattle.dom_tree.specs.Definitions.{name_at}
-use Rattle.dom_parts.specs.Definitions.{DocState, planned, name_in, owner_in, trees_in, MayMove, IsChild, KeepsPaths, NoneAbove, IsAlone}
-use Rattle.dom_laws.proofs.Laws.{all_drop, lacks_to}
+use Rattle.dom_mutation.proofs.Cited.{get_or, drop-cons, add-one, suc, ◌+◌, ◌≡◌, ℕ, ◌<◌, false, List, [], ◌∷◌, drop, length, map, Option, Some, option_map}
+use Rattle.dom_mutation.proofs.Cited.{refl, sym, ap, subst, ◌∙◌, AllByRecursion, ForSome, NodeName, name_eq, first_of, is_in, parent_of, inclusive_ancestors}
+use Rattle.dom_mutation.proofs.Cited.{is_inclusive_ancestor, Plan, Observing, in_turn, placing, remove_plan, name_at, DocState, planned, name_in, owner_in}
+use Rattle.dom_mutation.proofs.Cited.{trees_in, MayMove, IsChild, KeepsPaths, NoneAbove, IsAlone, all_drop, lacks_to, planned_turn, alone_made, plans_removing}
+use Rattle.dom_mutation.proofs.Cited.{plans_placing}
 use Rattle.dom_mutation.proofs.Placed.{Counted, before_lacks, removal_keeps}
-use Rattle.dom_parts.proofs.Made.{planned_turn, alone_made}
-use Rattle.dom_parts.proofs.OwnPlans.{plans_removing, plans_placing}
 
 -- ---- placing
 

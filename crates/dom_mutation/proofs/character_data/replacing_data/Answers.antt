@@ -1,8 +1,6 @@
-use Rattle.dom_base.proofs.Std.{◌≡◌, [], ◌∷◌, ℕ, List, length, Some, subst, sym, ap, ◌∙◌, arith}
-use Rattle.dom_model.proofs.Model.{NodeName, DomString, Change, character_data, Part, queue_record, node_in, kind_of, has_data, part_of}
-use Rattle.dom_worlds.specs.Definitions.{HasBounds, IsPart}
-use Rattle.dom_tree.specs.Definitions.{name_at}
-use Rattle.dom_parts.specs.Definitions.{DocState, MayCome, name_in, owner_in, trees_in, stepped, IsAlone}
+use Rattle.dom_mutation.proofs.Cited.{◌≡◌, [], ◌∷◌, ℕ, List, length, Some, subst, sym, ap, ◌∙◌, arith, NodeName, DomString, Change, character_data, Part}
+use Rattle.dom_mutation.proofs.Cited.{queue_record, node_in, kind_of, has_data, part_of, HasBounds, IsPart, name_at, DocState, MayCome, name_in, owner_in}
+use Rattle.dom_mutation.proofs.Cited.{trees_in, stepped, IsAlone}
 use Rattle.dom_mutation.proofs.BoundedDocs.{bounds_told}
 use Rattle.dom_mutation.proofs.character_data.replacing_data.Goals as goal
 

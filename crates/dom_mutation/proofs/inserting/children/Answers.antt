@@ -1,4 +1,4 @@
-use Rattle.dom_base.proofs.Std.{List, subst, sym, ℕ}
+use Rattle.dom_mutation.proofs.Cited.{List, subst, sym, ℕ}
 use Rattle.dom_mutation.proofs.Listing.{Lists, lists_first, lists_next}
 use Rattle.dom_mutation.proofs.inserting.children.Goals as goal
 

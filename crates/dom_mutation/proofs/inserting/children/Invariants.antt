@@ -1,7 +1,4 @@
-use Rattle.dom_base.proofs.Std.{option_map}
-use Rattle.dom_model.proofs.Model.{children_of}
-use Rattle.dom_parts.specs.Definitions.{name_in, trees_in}
-use Rattle.dom_laws.proofs.Laws.{left}
+use Rattle.dom_mutation.proofs.Cited.{option_map, children_of, name_in, trees_in, left}
 use Rattle.dom_mutation.proofs.Listing.{Lists}
 use Rattle.dom_mutation.proofs.inserting.children.Given as goal
 

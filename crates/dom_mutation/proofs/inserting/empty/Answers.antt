@@ -1,8 +1,5 @@
-use Rattle.dom_base.proofs.Std.{[], ◌∷◌, None, map, sym, ap, ◌∙◌, subst, on_ok_weaker}
-use Rattle.dom_model.proofs.Model.{inclusive_ancestors, Part, child_list, queue_record, in_turn, suppressed, remove_plan}
-use Rattle.dom_parts.specs.Definitions.{DocState, name_in, owner_in, trees_in, IsAlone}
-use Rattle.dom_parts.proofs.Made.{alone_made}
-use Rattle.dom_parts.proofs.OwnPlans.{plans_each, plans_removing}
+use Rattle.dom_mutation.proofs.Cited.{[], ◌∷◌, None, map, sym, ap, ◌∙◌, subst, on_ok_weaker, inclusive_ancestors, Part, child_list, queue_record, in_turn}
+use Rattle.dom_mutation.proofs.Cited.{suppressed, remove_plan, DocState, name_in, owner_in, trees_in, IsAlone, alone_made, plans_each, plans_removing}
 use Rattle.dom_mutation.proofs.inserting.empty.Goals as goal
 
 pub returns-clause-paths : goal.returns-clause-paths

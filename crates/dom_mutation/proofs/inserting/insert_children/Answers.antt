@@ -1,7 +1,6 @@
-use Rattle.dom_base.proofs.Std.{◌≡◌, List, map, length, option_map, sym, ap, ◌∙◌, arith, length-map, on_ok_weaker}
-use Rattle.dom_model.proofs.Model.{NodeName, emptying, sibling_before, is_empty, children_of, kind_of, is_fragment, part_of}
-use Rattle.dom_parts.specs.Definitions.{DocState, name_in, owner_in, placed_all, planned, trees_in}
-use Rattle.dom_mutation.specs.Definitions.{observing_of}
+use Rattle.dom_mutation.proofs.Cited.{◌≡◌, List, map, length, option_map, sym, ap, ◌∙◌, arith, length-map, on_ok_weaker, NodeName, emptying, sibling_before}
+use Rattle.dom_mutation.proofs.Cited.{is_empty, children_of, kind_of, is_fragment, part_of, DocState, name_in, owner_in, placed_all, planned, trees_in}
+use Rattle.dom_mutation.proofs.Cited.{observing_of}
 use Rattle.dom_mutation.proofs.BoundedDocs.{bounds_emptied, bounds_at, children_limited}
 use Rattle.dom_mutation.proofs.Inserted.{are_inside, all_may, stays_emptied, inserted_children, some_left, some_named}
 use Rattle.dom_mutation.proofs.Turns.{Stays, all_may_now, child_now}

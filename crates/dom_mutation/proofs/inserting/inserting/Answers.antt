@@ -1,7 +1,5 @@
-use Rattle.dom_base.proofs.Std.{[], ◌∷◌, option_map, sym, ap, ◌∙◌, on_ok_weaker}
-use Rattle.dom_model.proofs.Model.{kind_of, is_fragment, part_of}
-use Rattle.dom_parts.specs.Definitions.{name_in, owner_in, placed_all}
-use Rattle.dom_mutation.specs.Definitions.{observing_of}
+use Rattle.dom_mutation.proofs.Cited.{[], ◌∷◌, option_map, sym, ap, ◌∙◌, on_ok_weaker, kind_of, is_fragment, part_of, name_in, owner_in, placed_all}
+use Rattle.dom_mutation.proofs.Cited.{observing_of}
 use Rattle.dom_mutation.proofs.Inserted.{inserted_one}
 use Rattle.dom_mutation.proofs.inserting.inserting.Goals as goal
 

@@ -1,7 +1,5 @@
-use Rattle.dom_base.proofs.Std.{[], map, option_map, sym, ap, ◌∙◌, length-map, on_ok_weaker}
-use Rattle.dom_model.proofs.Model.{child_list, in_turn, making_room, placing, steps_of, telling}
-use Rattle.dom_parts.specs.Definitions.{DocState, name_in, owner_in, planned}
-use Rattle.dom_mutation.specs.Definitions.{observing_of}
+use Rattle.dom_mutation.proofs.Cited.{[], map, option_map, sym, ap, ◌∙◌, length-map, on_ok_weaker, child_list, in_turn, making_room, placing, steps_of, telling}
+use Rattle.dom_mutation.proofs.Cited.{DocState, name_in, owner_in, planned, observing_of}
 use Rattle.dom_mutation.proofs.Turns.{Stays, stays_same, all_may_now, child_now}
 use Rattle.dom_mutation.proofs.inserting.place_all.Goals.{After-room_before}
 use Rattle.dom_mutation.proofs.inserting.place_all.Goals as goal

@@ -1,4 +1,4 @@
-use Rattle.dom_base.proofs.Std.{drop}
+use Rattle.dom_mutation.proofs.Cited.{drop}
 use Rattle.dom_mutation.proofs.Turns.{Places}
 use Rattle.dom_mutation.proofs.inserting.place_each.Given as goal
 

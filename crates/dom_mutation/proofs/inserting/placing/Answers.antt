@@ -1,5 +1,4 @@
-use Rattle.dom_base.proofs.Std.{on_ok_weaker}
-use Rattle.dom_parts.specs.Definitions.{name_in}
+use Rattle.dom_mutation.proofs.Cited.{on_ok_weaker, name_in}
 use Rattle.dom_mutation.proofs.Placed.{asked_unlinked, asked_not_above, asked_before_node, asked_child, kept_placed}
 use Rattle.dom_mutation.proofs.inserting.placing.Goals as goal
 

@@ -1,6 +1,4 @@
-use Rattle.dom_base.proofs.Std.{◌≡◌, ℕ, false, Some, sym, subst, ◌∙◌, eqb-true, same_Some}
-use Rattle.dom_model.proofs.Model.{name_eq}
-use Rattle.dom_parts.specs.Definitions.{IsChild, name_in}
+use Rattle.dom_mutation.proofs.Cited.{◌≡◌, ℕ, false, Some, sym, subst, ◌∙◌, eqb-true, same_Some, name_eq, IsChild, name_in}
 use Rattle.dom_mutation.proofs.Placed.{next_is_child}
 use Rattle.dom_mutation.proofs.inserting.reference_child.Goals.{After-next}
 use Rattle.dom_mutation.proofs.inserting.reference_child.Goals as goal

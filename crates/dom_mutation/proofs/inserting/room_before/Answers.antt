@@ -1,6 +1,5 @@
-use Rattle.dom_base.proofs.Std.{[], ◌∷◌, option_map, sym, ap, ◌∙◌}
-use Rattle.dom_model.proofs.Model.{index_of, Part, make_room, part_of, making_room}
-use Rattle.dom_parts.specs.Definitions.{name_in, owner_in, trees_in, stepped, planned}
+use Rattle.dom_mutation.proofs.Cited.{[], ◌∷◌, option_map, sym, ap, ◌∙◌, index_of, Part, make_room, part_of, making_room, name_in, owner_in, trees_in, stepped}
+use Rattle.dom_mutation.proofs.Cited.{planned}
 use Rattle.dom_mutation.proofs.inserting.room_before.Goals as goal
 
 pub returns-in-Some-clause-state : goal.returns-in-Some-clause-state

@@ -1,4 +1,4 @@
-use Rattle.dom_mutation.specs.Definitions.{observing_of}
+use Rattle.dom_mutation.proofs.Cited.{observing_of}
 use Rattle.dom_mutation.proofs.Turns.{empties_first, empties_on}
 use Rattle.dom_mutation.proofs.inserting.take_each.Goals as goal
 

@@ -1,5 +1,4 @@
-use Rattle.dom_base.proofs.Std.{drop}
-use Rattle.dom_mutation.specs.Definitions.{observing_of}
+use Rattle.dom_mutation.proofs.Cited.{drop, observing_of}
 use Rattle.dom_mutation.proofs.Turns.{Empties}
 use Rattle.dom_mutation.proofs.inserting.take_each.Given as goal
 

@@ -1,4 +1,4 @@
-use Rattle.dom_base.proofs.Std.{drop}
+use Rattle.dom_mutation.proofs.Cited.{drop}
 use Rattle.dom_mutation.proofs.Joined.{Collects}
 use Rattle.dom_mutation.proofs.normalizing.data_of.Given as goal
 

@@ -1,9 +1,7 @@
-use Rattle.dom_base.proofs.Std.{◌<◌, ℕ, List, length, map, subst, sym, ap, ◌∙◌, on_ok_weaker}
-use Rattle.dom_model.proofs.Model.{NodeName, Plan, ◌and_then◌, in_turn, steps_of, observed, remove_plan, DomString, replacing_data, joins, kind_of, length_of}
+use Rattle.dom_mutation.proofs.Cited.{◌<◌, ℕ, List, length, map, subst, sym, ap, ◌∙◌, on_ok_weaker, NodeName, Plan, ◌and_then◌, in_turn, steps_of, observed}
+use Rattle.dom_mutation.proofs.Cited.{remove_plan, DomString, replacing_data, joins, kind_of, length_of, DocState, name_in, owner_in, planned, trees_in}
+use Rattle.dom_mutation.proofs.Cited.{planned_then, plans_then, plans_data, plans_joins}
 use Rattle.dom_worlds.proofs.RangeLemmas.{text-data}
-use Rattle.dom_parts.specs.Definitions.{DocState, name_in, owner_in, planned, trees_in}
-use Rattle.dom_parts.proofs.Made.{planned_then}
-use Rattle.dom_parts.proofs.OwnPlans.{plans_then, plans_data, plans_joins}
 use Rattle.dom_mutation.proofs.Joined.{own_nodes}
 use Rattle.dom_mutation.proofs.Joining.{IsGrown, grown_for}
 use Rattle.dom_mutation.proofs.normalizing.joining.Goals.{In_ok-replacing_data}

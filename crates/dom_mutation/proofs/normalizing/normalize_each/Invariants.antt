@@ -1,4 +1,4 @@
-use Rattle.dom_base.proofs.Std.{drop}
+use Rattle.dom_mutation.proofs.Cited.{drop}
 use Rattle.dom_mutation.proofs.NormalizedEach.{Normalizes}
 use Rattle.dom_mutation.proofs.normalizing.normalize_each.Given as goal
 

@@ -1,6 +1,4 @@
-use Rattle.dom_base.proofs.Std.{◌≡◌, ℕ, false, map, ap, subst, sym, ◌∙◌, ◌==◌, eqb-true, false_from_ne_true, on_ok_weaker}
-use Rattle.dom_model.proofs.Model.{is_empty}
-use Rattle.dom_parts.specs.Definitions.{name_in}
+use Rattle.dom_mutation.proofs.Cited.{◌≡◌, ℕ, false, map, ap, subst, sym, ◌∙◌, ◌==◌, eqb-true, false_from_ne_true, on_ok_weaker, is_empty, name_in}
 use Rattle.dom_mutation.proofs.Inserted.{some_left}
 use Rattle.dom_mutation.proofs.Joined.{normal_joined}
 use Rattle.dom_mutation.proofs.normalizing.normalize_text.Goals as goal

@@ -1,5 +1,4 @@
-use Rattle.dom_worlds.proofs.CommandLemmas.{has_node-times}
-use Rattle.dom_parts.specs.Definitions.{name_in, trees_in}
+use Rattle.dom_mutation.proofs.Cited.{has_node-times, name_in, trees_in}
 use Rattle.dom_mutation.proofs.Joined.{stands_there}
 use Rattle.dom_mutation.proofs.normalizing.stands.Goals as goal
 

@@ -1,6 +1,4 @@
-use Rattle.dom_base.proofs.Std.{true, false, refl, ap, ◌∙◌, sym}
-use Rattle.dom_model.proofs.Model.{kind_of, is_text, part_of}
-use Rattle.dom_parts.specs.Definitions.{name_in, trees_in}
+use Rattle.dom_mutation.proofs.Cited.{true, false, refl, ap, ◌∙◌, sym, kind_of, is_text, part_of, name_in, trees_in}
 use Rattle.dom_mutation.proofs.Joined.{text_next}
 use Rattle.dom_mutation.proofs.normalizing.text_after.Goals as goal
 

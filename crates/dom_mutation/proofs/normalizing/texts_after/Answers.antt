@@ -1,4 +1,4 @@
-use Rattle.dom_base.proofs.Std.{List, ℕ, subst, sym}
+use Rattle.dom_mutation.proofs.Cited.{List, ℕ, subst, sym}
 use Rattle.dom_mutation.proofs.Joined.{Follows, follows_first, follows_next}
 use Rattle.dom_mutation.proofs.normalizing.texts_after.Goals as goal
 

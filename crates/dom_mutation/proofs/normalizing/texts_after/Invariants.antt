@@ -1,5 +1,4 @@
-use Rattle.dom_base.proofs.Std.{option_map}
-use Rattle.dom_parts.specs.Definitions.{name_in, trees_in}
+use Rattle.dom_mutation.proofs.Cited.{option_map, name_in, trees_in}
 use Rattle.dom_mutation.proofs.Joined.{Follows, rest_length}
 use Rattle.dom_mutation.proofs.normalizing.texts_after.Given as goal
 

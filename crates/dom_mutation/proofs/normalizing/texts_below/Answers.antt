@@ -1,4 +1,4 @@
-use Rattle.dom_base.proofs.Std.{List, ℕ, subst, sym, ap, ◌∙◌}
+use Rattle.dom_mutation.proofs.Cited.{List, ℕ, subst, sym, ap, ◌∙◌}
 use Rattle.dom_mutation.proofs.Joined.{Gathers, gathers_first, gathers_text, gathers_other, gathers_fewer}
 use Rattle.dom_mutation.proofs.normalizing.texts_below.Goals.{then-is_text+in_ok-push, else-is_text}
 use Rattle.dom_mutation.proofs.normalizing.texts_below.Goals as goal

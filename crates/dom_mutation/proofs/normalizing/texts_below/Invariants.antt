@@ -1,6 +1,4 @@
-use Rattle.dom_base.proofs.Std.{option_map}
-use Rattle.dom_parts.specs.Definitions.{name_in}
-use Rattle.dom_laws.proofs.Laws.{left}
+use Rattle.dom_mutation.proofs.Cited.{option_map, name_in, left}
 use Rattle.dom_mutation.proofs.Joined.{Gathers, below_of}
 use Rattle.dom_mutation.proofs.normalizing.texts_below.Given as goal
 

@@ -1,8 +1,4 @@
-use Rattle.dom_base.proofs.Std.{ap, ◌∙◌, on_ok_weaker}
-use Rattle.dom_model.proofs.Model.{remove_plan, changing_document, observed}
-use Rattle.dom_parts.specs.Definitions.{name_in, owner_in, planned}
-use Rattle.dom_parts.proofs.Made.{planned_then}
-use Rattle.dom_parts.proofs.OwnPlans.{plans_removing}
+use Rattle.dom_mutation.proofs.Cited.{ap, ◌∙◌, on_ok_weaker, remove_plan, changing_document, observed, name_in, owner_in, planned, planned_then, plans_removing}
 use Rattle.dom_mutation.proofs.removing.adopting.Goals as goal
 
 pub returns : goal.returns

@@ -1,5 +1,4 @@
-use Rattle.dom_base.proofs.Std.{sym, subst}
-use Rattle.dom_mutation.specs.Definitions.{IsReady}
+use Rattle.dom_mutation.proofs.Cited.{sym, subst, IsReady}
 use Rattle.dom_mutation.proofs.ReadyFirst.{ready-nothing_left}
 use Rattle.dom_mutation.proofs.settling.given_up.Goals as goal
 

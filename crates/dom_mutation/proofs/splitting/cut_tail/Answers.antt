@@ -1,8 +1,5 @@
-use Rattle.dom_base.proofs.Std.{◌≡◌, ℕ, length, arith, [], option_map, ap, sym, ◌∙◌, on_ok_weaker}
-use Rattle.dom_model.proofs.Model.{parent_of, placing_tail, replacing_data}
-use Rattle.dom_parts.specs.Definitions.{DocState, name_in, owner_in, trees_in, planned}
-use Rattle.dom_parts.proofs.Made.{planned_then}
-use Rattle.dom_parts.proofs.OwnPlans.{plans_tail}
+use Rattle.dom_mutation.proofs.Cited.{◌≡◌, ℕ, length, arith, [], option_map, ap, sym, ◌∙◌, on_ok_weaker, parent_of, placing_tail, replacing_data, DocState}
+use Rattle.dom_mutation.proofs.Cited.{name_in, owner_in, trees_in, planned, planned_then, plans_tail}
 use Rattle.dom_mutation.proofs.splitting.cut_tail.Goals.{in-Some+in_ok-placing_tail, in_default}
 use Rattle.dom_mutation.proofs.splitting.cut_tail.Goals as goal
 

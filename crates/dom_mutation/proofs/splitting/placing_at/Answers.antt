@@ -1,9 +1,5 @@
-use Rattle.dom_base.proofs.Std.{ℕ, option_map, sym, ap, subst, ◌∙◌, arith}
-use Rattle.dom_worlds.specs.Definitions.{HasBounds}
-use Rattle.dom_model.proofs.Model.{Plan, ◌and_then◌, observed, insert_plan, doing, split_at, index_of, part_of}
-use Rattle.dom_parts.specs.Definitions.{DocState, name_in, owner_in, planned, stepped, trees_in}
-use Rattle.dom_parts.proofs.Made.{planned_then}
-use Rattle.dom_parts.proofs.OwnPlans.{plans_inserting}
+use Rattle.dom_mutation.proofs.Cited.{ℕ, option_map, sym, ap, subst, ◌∙◌, arith, HasBounds, Plan, ◌and_then◌, observed, insert_plan, doing, split_at, index_of}
+use Rattle.dom_mutation.proofs.Cited.{part_of, DocState, name_in, owner_in, planned, stepped, trees_in, planned_then, plans_inserting}
 use Rattle.dom_mutation.proofs.Replaced.{next_is_near}
 use Rattle.dom_mutation.proofs.Tails.{tail_may}
 use Rattle.dom_mutation.proofs.BoundedDocs.{index_limited}

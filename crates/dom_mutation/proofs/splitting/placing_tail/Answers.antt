@@ -1,6 +1,4 @@
-use Rattle.dom_base.proofs.Std.{◌≡◌, Some, OnOk, subst}
-use Rattle.dom_model.proofs.Model.{placing_tail}
-use Rattle.dom_parts.specs.Definitions.{DocState, name_in, owner_in, planned}
+use Rattle.dom_mutation.proofs.Cited.{◌≡◌, Some, OnOk, subst, placing_tail, DocState, name_in, owner_in, planned}
 use Rattle.dom_mutation.proofs.splitting.placing_tail.Goals as goal
 
 pub returns : goal.returns

@@ -1,6 +1,4 @@
-use Rattle.dom_base.proofs.Std.{◌≡◌, ◌-◌, length, option_map, refl, ap, arith}
-use Rattle.dom_model.proofs.Model.{DomString, node_in, splitting}
-use Rattle.dom_parts.specs.Definitions.{name_in, trees_in}
+use Rattle.dom_mutation.proofs.Cited.{◌≡◌, ◌-◌, length, option_map, refl, ap, arith, DomString, node_in, splitting, name_in, trees_in}
 use Rattle.dom_mutation.proofs.Grown.{IsMade, made_so, new_owner, new_unlinked, new_not_above, split_whole}
 use Rattle.dom_mutation.proofs.BoundedDocs.{bounds_added}
 use Rattle.dom_mutation.proofs.ReadyCalls.{plan-done}

@@ -1,5 +1,4 @@
-use Rattle.dom_base.proofs.Std.{◌∷◌, ap, ◌∙◌}
-use Rattle.dom_model.proofs.Model.{NodeName, next_name, part_of, owner-part_of}
+use Rattle.dom_mutation.proofs.Cited.{◌∷◌, ap, ◌∙◌, NodeName, next_name, part_of, owner-part_of}
 use Rattle.dom_mutation.proofs.StillCalls.{IsPlanned, new-named, new-kind}
 use Rattle.dom_mutation.proofs.still.law_new_node.Goals as goal
 

@@ -1,6 +1,4 @@
-use Rattle.dom_base.proofs.Std.{ℕ, [], List, None, map, ap, sym, ◌∙◌, on_ok_weaker}
-use Rattle.dom_model.proofs.Model.{is_empty, child_list, queue_record}
-use Rattle.dom_parts.specs.Definitions.{name_in, owner_in, stepped}
+use Rattle.dom_mutation.proofs.Cited.{ℕ, [], List, None, map, ap, sym, ◌∙◌, on_ok_weaker, is_empty, child_list, queue_record, name_in, owner_in, stepped}
 use Rattle.dom_mutation.proofs.Inserted.{some_left}
 use Rattle.dom_mutation.proofs.Emptied.{cleared_none, cleared_some, none_left}
 use Rattle.dom_mutation.proofs.texts.clear.Goals as goal

@@ -1,8 +1,6 @@
-use Rattle.dom_base.proofs.Std.{◌≡◌, subst, ℕ, [], ◌∷◌, List, None, map, ap, sym, ◌∙◌, on_ok_weaker}
-use Rattle.dom_model.proofs.Model.{NodeName, Plan, ◌and_then◌, doing, in_turn, suppressed, remove_plan, insert_plan, child_list, queue_record}
-use Rattle.dom_parts.specs.Definitions.{DocState, AreNodes, name_in, owner_in, planned, stepped}
-use Rattle.dom_parts.proofs.Made.{planned_then}
-use Rattle.dom_parts.proofs.OwnPlans.{plans_then, plans_each, plans_removing, plans_inserting}
+use Rattle.dom_mutation.proofs.Cited.{◌≡◌, subst, ℕ, [], ◌∷◌, List, None, map, ap, sym, ◌∙◌, on_ok_weaker, NodeName, Plan, ◌and_then◌, doing, in_turn}
+use Rattle.dom_mutation.proofs.Cited.{suppressed, remove_plan, insert_plan, child_list, queue_record, DocState, AreNodes, name_in, owner_in, planned, stepped}
+use Rattle.dom_mutation.proofs.Cited.{planned_then, plans_then, plans_each, plans_removing, plans_inserting}
 use Rattle.dom_mutation.proofs.Nodes.{nodes_kept, own_nodes}
 use Rattle.dom_mutation.proofs.Emptied.{text_may}
 use Rattle.dom_mutation.proofs.BoundedDocs.{bounds_cleared, bounds_at}

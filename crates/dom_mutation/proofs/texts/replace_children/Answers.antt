@@ -1,6 +1,4 @@
-use Rattle.dom_base.proofs.Std.{[], Some, refl, ap, sym, ◌∙◌}
-use Rattle.dom_model.proofs.Model.{is_empty, replacing_children}
-use Rattle.dom_parts.specs.Definitions.{name_in}
+use Rattle.dom_mutation.proofs.Cited.{[], Some, refl, ap, sym, ◌∙◌, is_empty, replacing_children, name_in}
 use Rattle.dom_mutation.proofs.Inserted.{some_left}
 use Rattle.dom_mutation.proofs.Grown.{IsMade, made_so, new_owner, new_not_above}
 use Rattle.dom_mutation.proofs.Emptied.{text_whole}

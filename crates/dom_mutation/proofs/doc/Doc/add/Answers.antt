@@ -1,6 +1,5 @@
-use Rattle.dom_base.proofs.Std.{◌≡◌, ◌↔◌, ◌⊎◌, inl, inr, ℕ, Bool, true, false, ◌∷◌, [], Some, Ok, Err, Result, refl, sym, ap, subst, ◌∙◌, IfErr}
-use Rattle.dom_model.proofs.Model.{Fault, Refused, Memory, Refusal, InvalidCharacter, Limit, past_limit, next_name, first_refusal, part_of}
-use Rattle.dom_tree.specs.Definitions.{node_from}
+use Rattle.dom_mutation.proofs.Cited.{◌≡◌, ◌↔◌, ◌⊎◌, inl, inr, ℕ, Bool, true, false, ◌∷◌, [], Some, Ok, Err, Result, refl, sym, ap, subst, ◌∙◌, IfErr, Fault}
+use Rattle.dom_mutation.proofs.Cited.{Refused, Memory, Refusal, InvalidCharacter, Limit, past_limit, next_name, first_refusal, part_of, node_from}
 use Rattle.dom_mutation.specs.Definitions.{DocState}
 use Rattle.dom_mutation.proofs.ReadyCalls.{node-made}
 use Rattle.dom_mutation.proofs.doc.Doc.add.Goals as goal

@@ -1,5 +1,4 @@
-use Rattle.dom_model.proofs.Model.{next_name, part_of}
-use Rattle.dom_tree.specs.Definitions.{node_from}
+use Rattle.dom_mutation.proofs.Cited.{next_name, part_of, node_from}
 use Rattle.dom_mutation.proofs.ReadyCalls.{node-made}
 use Rattle.dom_mutation.proofs.doc.Doc.add_clone.Goals as goal
 

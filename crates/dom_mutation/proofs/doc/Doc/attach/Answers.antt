@@ -1,6 +1,5 @@
-use Rattle.dom_base.proofs.Std.{◌≡◌, ◌↔◌, ℕ, Some, Err, Result, sym, ap, subst, ◌∙◌}
-use Rattle.dom_model.proofs.Model.{Fault, Refused, Refusal, part_of}
-use Rattle.dom_mutation.specs.Definitions.{DocState, name_in, owner_in, attaching_refusal, AreReady}
+use Rattle.dom_mutation.proofs.Cited.{◌≡◌, ◌↔◌, ℕ, Some, Err, Result, sym, ap, subst, ◌∙◌, Fault, Refused, Refusal, part_of, attaching_refusal, AreReady}
+use Rattle.dom_mutation.specs.Definitions.{DocState, name_in, owner_in}
 use Rattle.dom_mutation.proofs.ReadyFirst.{ready-attaching}
 use Rattle.dom_mutation.proofs.doc.Doc.attach.Goals as goal
 

@@ -1,6 +1,4 @@
-use Rattle.dom_base.proofs.Std.{◌≡◌, false, sym, ap, subst, ◌∙◌, option_map}
-use Rattle.dom_model.proofs.Model.{Owner, kind_of, is_shadow, part_of}
-use Rattle.dom_tree.specs.Definitions.{err_of}
+use Rattle.dom_mutation.proofs.Cited.{◌≡◌, false, sym, ap, subst, ◌∙◌, option_map, Owner, kind_of, is_shadow, part_of, err_of}
 use Rattle.dom_mutation.specs.Definitions.{name_in, trees_in}
 use Rattle.dom_mutation.proofs.ReadyPlans.{insertion-tested}
 use Rattle.dom_mutation.proofs.doc.Doc.insert.Goals as goal

@@ -1,6 +1,5 @@
-use Rattle.dom_base.proofs.Std.{subst, sym, ◌≡◌, false, option_map}
+use Rattle.dom_mutation.proofs.Cited.{subst, sym, ◌≡◌, false, option_map, Owner, insert_plan, observed, kind_of, is_shadow, part_of}
 use Rattle.dom_mutation.specs.Definitions.{DocState, IsChild, name_in, owner_in}
-use Rattle.dom_model.proofs.Model.{Owner, insert_plan, observed, kind_of, is_shadow, part_of}
 use Rattle.dom_mutation.proofs.ReadyCalls.{stands-in, planned-done}
 use Rattle.dom_mutation.proofs.ReadyPlans.{ready-inserting}
 use Rattle.dom_mutation.proofs.doc.Doc.insert_unchecked.Goals as goal

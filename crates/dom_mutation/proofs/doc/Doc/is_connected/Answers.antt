@@ -1,5 +1,4 @@
-use Rattle.dom_base.proofs.Std.{ap, ◌∙◌}
-use Rattle.dom_model.proofs.Model.{is_connected}
+use Rattle.dom_mutation.proofs.Cited.{ap, ◌∙◌, is_connected}
 use Rattle.dom_mutation.specs.Definitions.{DocState, name_in}
 use Rattle.dom_mutation.proofs.doc.Doc.is_connected.Goals as goal
 

@@ -1,4 +1,4 @@
-use Rattle.dom_model.proofs.Model.{Command}
+use Rattle.dom_mutation.proofs.Cited.{Command}
 use Rattle.dom_mutation.proofs.ReadyCalls.{table-ready}
 use Rattle.dom_mutation.proofs.ReadyTables.{iterator_previous-ready}
 use Rattle.dom_mutation.proofs.doc.Doc.iter_previous.Goals as goal

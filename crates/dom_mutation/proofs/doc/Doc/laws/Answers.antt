@@ -1,6 +1,5 @@
-use Rattle.dom_base.proofs.Std.{◌≤◌, subst, count_by}
-use Rattle.dom_model.proofs.Model.{name_eq, Node, nodes, part_of}
-use Rattle.dom_mutation.specs.Definitions.{DocState, IsReady}
+use Rattle.dom_mutation.proofs.Cited.{◌≤◌, subst, count_by, name_eq, Node, nodes, part_of, IsReady}
+use Rattle.dom_mutation.specs.Definitions.{DocState}
 use Rattle.dom_mutation.proofs.doc.Doc.laws.Goals as goal
 
 pub returns-clause-once : goal.returns-clause-once

@@ -1,5 +1,4 @@
-use Rattle.dom_base.proofs.Std.{sym, subst}
-use Rattle.dom_mutation.specs.Definitions.{IsReady}
+use Rattle.dom_mutation.proofs.Cited.{sym, subst, IsReady}
 use Rattle.dom_mutation.proofs.ReadyFirst.{ready-first}
 use Rattle.dom_mutation.proofs.doc.Doc.new.Goals as goal
 

@@ -1,5 +1,4 @@
-use Rattle.dom_base.proofs.Std.{map, ap, ◌∙◌}
-use Rattle.dom_model.proofs.Model.{in_turn, normalizing, normalizing_text, is_text, kind_of, descendants}
+use Rattle.dom_mutation.proofs.Cited.{map, ap, ◌∙◌, in_turn, normalizing, normalizing_text, is_text, kind_of, descendants}
 use Rattle.dom_mutation.specs.Definitions.{name_in, owner_in, trees_in, planned}
 use Rattle.dom_mutation.proofs.NormalizedEach.{listed_texts}
 use Rattle.dom_mutation.proofs.ReadyCalls.{planned-done}

@@ -1,6 +1,4 @@
-use Rattle.dom_base.proofs.Std.{refl}
-use Rattle.dom_model.proofs.Model.{Command, own, nothing}
-use Rattle.dom_observers.specs.Definitions.{words_of}
+use Rattle.dom_mutation.proofs.Cited.{refl, Command, own, nothing, words_of}
 use Rattle.dom_mutation.specs.Definitions.{name_in}
 use Rattle.dom_mutation.proofs.ReadyCalls.{table-done}
 use Rattle.dom_mutation.proofs.ReadyTables.{ready-same}

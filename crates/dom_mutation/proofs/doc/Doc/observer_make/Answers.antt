@@ -1,5 +1,4 @@
-use Rattle.dom_base.proofs.Std.{refl}
-use Rattle.dom_model.proofs.Model.{Command, an_observer}
+use Rattle.dom_mutation.proofs.Cited.{refl, Command, an_observer}
 use Rattle.dom_mutation.proofs.ReadyCalls.{table-answered}
 use Rattle.dom_mutation.proofs.ReadyTables.{ready-same}
 use Rattle.dom_mutation.proofs.doc.Doc.observer_make.Goals as goal

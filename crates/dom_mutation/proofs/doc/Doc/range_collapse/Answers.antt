@@ -1,4 +1,4 @@
-use Rattle.dom_model.proofs.Model.{Command}
+use Rattle.dom_mutation.proofs.Cited.{Command}
 use Rattle.dom_mutation.proofs.ReadyCalls.{table-ready}
 use Rattle.dom_mutation.proofs.ReadyTables.{range_collapse-ready}
 use Rattle.dom_mutation.proofs.doc.Doc.range_collapse.Goals as goal

@@ -1,5 +1,4 @@
-use Rattle.dom_base.proofs.Std.{sym, subst}
-use Rattle.dom_model.proofs.Model.{Command, a_range}
+use Rattle.dom_mutation.proofs.Cited.{sym, subst, Command, a_range}
 use Rattle.dom_mutation.specs.Definitions.{DocState}
 use Rattle.dom_mutation.proofs.ReadyCalls.{HasFirst, table-answered, at_first}
 use Rattle.dom_mutation.proofs.ReadyTables.{range_new-ready}

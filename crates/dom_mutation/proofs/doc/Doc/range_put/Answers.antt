@@ -1,6 +1,5 @@
-use Rattle.dom_base.proofs.Std.{subst, sym}
-use Rattle.dom_model.proofs.Model.{at, from_to, part_of}
-use Rattle.dom_mutation.specs.Definitions.{DocState, name_in, MayStand}
+use Rattle.dom_mutation.proofs.Cited.{subst, sym, at, from_to, part_of, MayStand}
+use Rattle.dom_mutation.specs.Definitions.{DocState, name_in}
 use Rattle.dom_mutation.proofs.ReadyCalls.{range-put}
 use Rattle.dom_mutation.proofs.doc.Doc.range_put.Goals as goal
 

@@ -1,4 +1,4 @@
-use Rattle.dom_model.proofs.Model.{Command}
+use Rattle.dom_mutation.proofs.Cited.{Command}
 use Rattle.dom_mutation.proofs.ReadyCalls.{end-set}
 use Rattle.dom_mutation.proofs.ReadyTables.{range_end-ready}
 use Rattle.dom_mutation.proofs.doc.Doc.range_set_end.Goals as goal

@@ -1,4 +1,4 @@
-use Rattle.dom_base.proofs.Std.{subst, sym}
+use Rattle.dom_mutation.proofs.Cited.{subst, sym}
 use Rattle.dom_mutation.specs.Definitions.{DocState, IsChild}
 use Rattle.dom_mutation.proofs.doc.Doc.reference_child.Goals as goal
 

@@ -1,4 +1,4 @@
-use Rattle.dom_model.proofs.Model.{remove_plan, observed}
+use Rattle.dom_mutation.proofs.Cited.{remove_plan, observed}
 use Rattle.dom_mutation.specs.Definitions.{name_in}
 use Rattle.dom_mutation.proofs.ReadyCalls.{planned-done}
 use Rattle.dom_mutation.proofs.ReadyPlans.{ready-removing}

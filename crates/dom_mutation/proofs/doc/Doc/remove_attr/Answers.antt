@@ -1,4 +1,4 @@
-use Rattle.dom_model.proofs.Model.{unsetting_attribute}
+use Rattle.dom_mutation.proofs.Cited.{unsetting_attribute}
 use Rattle.dom_mutation.specs.Definitions.{name_in}
 use Rattle.dom_mutation.proofs.ReadyCalls.{planned-done}
 use Rattle.dom_mutation.proofs.ReadyPlans.{ready-no_attribute}

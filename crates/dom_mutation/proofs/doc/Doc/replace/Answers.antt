@@ -1,6 +1,4 @@
-use Rattle.dom_base.proofs.Std.{sym, ap, ◌∙◌}
-use Rattle.dom_model.proofs.Model.{replace_plan, replace_refusal}
-use Rattle.dom_tree.specs.Definitions.{err_of}
+use Rattle.dom_mutation.proofs.Cited.{sym, ap, ◌∙◌, replace_plan, replace_refusal, err_of}
 use Rattle.dom_mutation.specs.Definitions.{DocState, name_in, owner_in, trees_in}
 use Rattle.dom_mutation.proofs.ReadyCalls.{stands-in, planned-done}
 use Rattle.dom_mutation.proofs.ReadyPlans.{ready-replacing}

@@ -1,5 +1,4 @@
-use Rattle.dom_base.proofs.Std.{◌≡◌, true, subst, sym}
-use Rattle.dom_model.proofs.Model.{replacing_data, kind_of, has_data}
+use Rattle.dom_mutation.proofs.Cited.{◌≡◌, true, subst, sym, replacing_data, kind_of, has_data}
 use Rattle.dom_mutation.specs.Definitions.{DocState, name_in, owner_in, planned, trees_in}
 use Rattle.dom_mutation.proofs.ReadyCalls.{planned-done}
 use Rattle.dom_mutation.proofs.ReadyPlans.{ready-data}

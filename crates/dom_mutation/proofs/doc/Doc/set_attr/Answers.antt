@@ -1,5 +1,4 @@
-use Rattle.dom_base.proofs.Std.{◌≡◌, ap, subst}
-use Rattle.dom_model.proofs.Model.{setting_attribute}
+use Rattle.dom_mutation.proofs.Cited.{◌≡◌, ap, subst, setting_attribute}
 use Rattle.dom_mutation.specs.Definitions.{DocState, made, name_in, owner_in}
 use Rattle.dom_mutation.proofs.ReadyCalls.{planned-done}
 use Rattle.dom_mutation.proofs.ReadyPlans.{ready-attribute}

@@ -1,5 +1,4 @@
-use Rattle.dom_base.proofs.Std.{ap, ◌∙◌, on_ok_weaker}
-use Rattle.dom_model.proofs.Model.{replacing_data}
+use Rattle.dom_mutation.proofs.Cited.{ap, ◌∙◌, on_ok_weaker, replacing_data}
 use Rattle.dom_mutation.specs.Definitions.{name_in, owner_in, planned}
 use Rattle.dom_mutation.proofs.doc.Doc.set_data.Goals as goal
 

@@ -1,5 +1,4 @@
-use Rattle.dom_base.proofs.Std.{refl}
-use Rattle.dom_model.proofs.Model.{Command}
+use Rattle.dom_mutation.proofs.Cited.{refl, Command}
 use Rattle.dom_mutation.proofs.ReadyCalls.{table-ready}
 use Rattle.dom_mutation.proofs.ReadyTables.{ready-same}
 use Rattle.dom_mutation.proofs.doc.Doc.take_records.Goals as goal

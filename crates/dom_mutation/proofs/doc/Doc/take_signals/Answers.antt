@@ -1,5 +1,4 @@
-use Rattle.dom_base.proofs.Std.{sym, subst, on_ok_weaker}
-use Rattle.dom_mutation.specs.Definitions.{IsReady}
+use Rattle.dom_mutation.proofs.Cited.{sym, subst, on_ok_weaker, IsReady}
 use Rattle.dom_mutation.proofs.ReadyCalls.{or-same}
 use Rattle.dom_mutation.proofs.doc.Doc.take_signals.Goals as goal
 

@@ -1,5 +1,4 @@
-use Rattle.dom_base.proofs.Std.{sym, subst}
-use Rattle.dom_mutation.specs.Definitions.{IsReady}
+use Rattle.dom_mutation.proofs.Cited.{sym, subst, IsReady}
 use Rattle.dom_mutation.proofs.doc.Doc.take_tasks.Goals as goal
 
 pub invariant_of-self : goal.invariant_of-self

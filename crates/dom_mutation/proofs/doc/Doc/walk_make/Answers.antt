@@ -1,6 +1,4 @@
-use Rattle.dom_base.proofs.Std.{refl}
-use Rattle.dom_model.proofs.Model.{Command, own, a_walker}
-use Rattle.dom_traversal.specs.Definitions.{filter_of}
+use Rattle.dom_mutation.proofs.Cited.{refl, Command, own, a_walker, filter_of}
 use Rattle.dom_mutation.specs.Definitions.{name_in}
 use Rattle.dom_mutation.proofs.ReadyCalls.{table-answered}
 use Rattle.dom_mutation.proofs.ReadyTables.{ready-same}

@@ -1,4 +1,4 @@
-use Rattle.dom_model.proofs.Model.{Command, own}
+use Rattle.dom_mutation.proofs.Cited.{Command, own}
 use Rattle.dom_mutation.specs.Definitions.{name_in}
 use Rattle.dom_mutation.proofs.ReadyCalls.{table-ready}
 use Rattle.dom_mutation.proofs.ReadyTables.{walker_set-ready}

@@ -1,5 +1,4 @@
-use Rattle.dom_base.proofs.Std.{Some, ap, ◌∙◌, on_ok_weaker}
-use Rattle.dom_model.proofs.Model.{set_attribute}
+use Rattle.dom_mutation.proofs.Cited.{Some, ap, ◌∙◌, on_ok_weaker, set_attribute}
 use Rattle.dom_mutation.specs.Definitions.{stepped, name_in, owner_in}
 use Rattle.dom_mutation.proofs.doc.attributes.change_attribute.Goals as goal
 

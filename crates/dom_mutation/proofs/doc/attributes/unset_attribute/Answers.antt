@@ -1,6 +1,6 @@
-use Rattle.dom_base.proofs.Std.{◌≡◌, true, [], ◌∷◌, ℕ, Option, Some, None, refl, sym, ap, ◌∙◌, is_some, OnOk, Result, option_map_or, on_ok_weaker}
-use Rattle.dom_model.proofs.Model.{NodeName, Owner, unsetting_attribute, Word, DomString, attributes, set_attribute, queue_record, attribute_value, node_in}
-use Rattle.dom_model.proofs.Model.{part_of, world_after}
+use Rattle.dom_mutation.proofs.Cited.{◌≡◌, true, [], ◌∷◌, ℕ, Option, Some, None, refl, sym, ap, ◌∙◌, is_some, OnOk, Result, option_map_or, on_ok_weaker}
+use Rattle.dom_mutation.proofs.Cited.{NodeName, Owner, unsetting_attribute, Word, DomString, attributes, set_attribute, queue_record, attribute_value, node_in}
+use Rattle.dom_mutation.proofs.Cited.{part_of, world_after}
 use Rattle.dom_mutation.specs.Definitions.{DocState, name_in, owner_in, stepped, planned, trees_in}
 use Rattle.dom_mutation.proofs.doc.attributes.unset_attribute.Goals as goal
 

@@ -1,9 +1,7 @@
-use Rattle.dom_base.proofs.Std.{◌≡◌, ◌∷◌, [], ℕ, List, Option, map, option_map, sym, ap, subst, ◌∙◌, on_ok_weaker}
-use Rattle.dom_model.proofs.Model.{NodeName, Plan, ◌and_then◌, doing, suppressed, remove_plan, insert_plan, placed_nodes, reference_child, child_list}
-use Rattle.dom_model.proofs.Model.{queue_record, next_sibling, previous_sibling, part_of}
-use Rattle.dom_parts.specs.Definitions.{DocState, AreNodes, name_in, owner_in, planned, stepped, trees_in}
-use Rattle.dom_parts.proofs.Made.{planned_then}
-use Rattle.dom_parts.proofs.OwnPlans.{plans_then, plans_removing, plans_inserting}
+use Rattle.dom_mutation.proofs.Cited.{◌≡◌, ◌∷◌, [], ℕ, List, Option, map, option_map, sym, ap, subst, ◌∙◌, on_ok_weaker, NodeName, Plan, ◌and_then◌, doing}
+use Rattle.dom_mutation.proofs.Cited.{suppressed, remove_plan, insert_plan, placed_nodes, reference_child, child_list, queue_record, next_sibling}
+use Rattle.dom_mutation.proofs.Cited.{previous_sibling, part_of, DocState, AreNodes, name_in, owner_in, planned, stepped, trees_in, planned_then, plans_then}
+use Rattle.dom_mutation.proofs.Cited.{plans_removing, plans_inserting}
 use Rattle.dom_mutation.proofs.BoundedDocs.{bounds_removed, bounds_at}
 use Rattle.dom_mutation.proofs.Nodes.{nodes_kept}
 use Rattle.dom_mutation.proofs.Replaced.{next_is_near, stays_removed}
