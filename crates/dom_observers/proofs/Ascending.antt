@@ -1,12 +1,13 @@
 -- The keys of a node's inclusive ancestors, from the node upwards.
-use Rattle.dom_base.proofs.Std.{inl, inr, ◌≡◌, ℕ, zero, suc, ◌<◌, Bool, true, false, List, [], ◌∷◌, ◌++◌, length, map, Option, Some, None, refl, sym, ap, ◌∙◌}
-use Rattle.dom_base.proofs.Std.{subst, arith, option_map, slice_get, same_Some, none-some, ForSome, option_map_or, cond-true, cond-false, append_assoc}
-use Rattle.dom_base.proofs.Std.{append-nil, map_push}
-use Rattle.dom_model.proofs.Model.{NodeName, name_eq, inclusive_ancestors, parent_of, nodes, names_of, name_eq-same, name_eq-other, name_eq-true}
+use Rattle.dom_base.proofs.Std.{inl, inr, ◌≡◌, ℕ, zero, suc, ◌<◌, Bool, true, false, eqb, List, [], ◌∷◌, ◌++◌, length, map, Option, Some, None, refl, sym}
+use Rattle.dom_base.proofs.Std.{ap, ◌∙◌, subst, arith, option_map, slice_get, same_Some, none-some, ForSome, cond-true, cond-false, append_assoc, append-nil}
+use Rattle.dom_base.proofs.Std.{or_parts, or_from, cases_eq, ne_eqb, true≢false}
+use Rattle.dom_model.proofs.Model.{NodeName, name_eq, is_in, inclusive_ancestors, is_inclusive_ancestor, parent_of, nodes, names_of, name_eq-same}
+use Rattle.dom_model.proofs.Model.{name_eq-other, name_eq-true}
 use Rattle.dom_tree.specs.Definitions.{NamedTrees, name_at, TellApart}
 use Rattle.dom_tree.proofs.Standing.{StandOnce, StandAlone, Once-forest, Has-forest}
-use Rattle.dom_laws.proofs.Laws.{above-parent, above-root, Has-above, In, is_in-from, In-names}
-use Rattle.dom_observers.specs.Definitions.{key_of, path_keys, IsKey, AreAll}
+use Rattle.dom_laws.proofs.Laws.{above-parent, above-root, Has-above, In, is_in-from, In-names, name_eq-from}
+use Rattle.dom_observers.specs.Definitions.{key_of, keys_from, path_keys, IsKey, AreAll}
 
 -- a name has its key back
 pub key_of-name : (names : List NodeName) → TellApart names → (k : ℕ) → k < length names → key_of names (name_at names k) ≡ k
@@ -17,71 +18,49 @@ key_of-name (y ∷ ys) apart (suc k) short =
     cond-false (name_eq (name_at ys k) y) zero (suc (key_of ys (name_at ys k))) (name_eq-other (name_at ys k) y other)
     ∙ ap suc (key_of-name ys (λ i j at_i at_j e. omega (arith, apart (suc i) (suc j) (omega arith) (omega arith) e)) k (omega arith))
 
--- and so have the names of many
-pub keys_of-names : (names : List NodeName) → TellApart names → (ks : List ℕ) → AreAll (IsKey names) ks → map (key_of names) (map (name_at names) ks) ≡ ks
-keys_of-names names apart [] all = refl
-keys_of-names names apart (k ∷ ks) all =
-    ap (λ j. j ∷ map (key_of names) (map (name_at names) ks)) (key_of-name names apart k all.0) ∙
-    ap (λ js. k ∷ js) (keys_of-names names apart ks all.1)
-
--- the inclusive ancestors of a node that is there
-pub above : NamedTrees → Option ℕ → List NodeName
-above f at = option_map_or (λ k. inclusive_ancestors f.trees (name_at f.names k)) at []
-
--- what the walk has done: the nodes so far and those above are the inclusive ancestors
+-- what a walk has done: the nodes so far and those from the next one on are the inclusive ancestors
 pub record HasClimbed (f : NamedTrees) (key : ℕ) (path : List ℕ) (at : Option ℕ) : Type 0 where
-  pub nodes : AreAll (IsKey f.names) path
   pub next : ForSome at (IsKey f.names)
-  pub whole : map (name_at f.names) path ++ above f at ≡ inclusive_ancestors f.trees (name_at f.names key)
-
--- one item more
-AreAll-push : {M : Type 0} (P : M → Type 0) (xs : List M) (x : M) → AreAll P xs → P x → AreAll P (xs ++ x ∷ [])
-AreAll-push P [] x all one = (one, tt)
-AreAll-push P (y ∷ ys) x all one = (all.0, AreAll-push P ys x all.1 one)
+  pub whole : path ++ keys_from f at ≡ path_keys f key
 
 -- the beginning
 pub climbs-first : (f : NamedTrees) (key : ℕ) → key < length f.names → HasClimbed f key [] (Some key)
-unfolding above
-climbs-first f key node =
-    record { nodes = tt; next = λ k e. (let same : key ≡ k = cc in subst (IsKey f.names) same node); whole = refl }
+climbs-first f key node = record { next = λ k e. subst (IsKey f.names) (same_Some key k e) node; whole = refl }
 
--- One step of the walk, in a forest in which each node stands once.
-module _ (f : NamedTrees) (once : StandOnce f) (only : StandAlone f) where
-  -- a node and those above its parent
-  climbs : (k : ℕ) (next : Option ℕ) → k < length f.names → option_map (name_at f.names) next ≡ parent_of f.trees (name_at f.names k)
-      → above f (Some k) ≡ name_at f.names k ∷ above f next
-  unfolding above
-  climbs k None node is = above-root f.trees (name_at f.names k) (Has-forest f once k node) (sym is)
-  climbs k (Some p) node is = (above-parent f.trees (name_at f.names k) (name_at f.names p) (Once-forest f once only) (Has-forest f once k node) (sym is)).0
+-- One step of a walk, in a forest in which each node stands once, by a name of its own.
+module _ (f : NamedTrees) (once : StandOnce f) (only : StandAlone f) (apart : TellApart f.names) where
+  -- a node stands before those above its parent
+  pub climbs : (k : ℕ) (next : Option ℕ) → k < length f.names → option_map (name_at f.names) next ≡ parent_of f.trees (name_at f.names k)
+      → path_keys f k ≡ k ∷ keys_from f next
+  climbs k None node is =
+      ap (map (key_of f.names)) (above-root f.trees (name_at f.names k) (Has-forest f once k node) (sym is))
+      ∙ ap (λ j. j ∷ []) (key_of-name f.names apart k node)
+  climbs k (Some p) node is =
+      ap (map (key_of f.names)) (above-parent f.trees (name_at f.names k) (name_at f.names p) (Once-forest f once only) (Has-forest f once k node) (sym is)).0
+      ∙ ap (λ j. j ∷ path_keys f p) (key_of-name f.names apart k node)
 
   -- a step
   pub climbs-more : {key k : ℕ} {path : List ℕ} {at : Option ℕ} (next : Option ℕ) → HasClimbed f key path at → at ≡ Some k →
       option_map (name_at f.names) next ≡ parent_of f.trees (name_at f.names k)
       → ForSome next (IsKey f.names) → HasClimbed f key (path ++ k ∷ []) next
   climbs-more {k = k} {path = path} next done here is nodes =
-      let node = done.next k here in
       record {
-        nodes = AreAll-push (IsKey f.names) path k done.nodes node;
         next = nodes;
         whole =
-            ap (λ names. names ++ above f next) (map_push (name_at f.names) path k)
-            ∙ (append_assoc (map (name_at f.names) path) (name_at f.names k ∷ []) (above f next)
-            ∙ (ap (λ names. map (name_at f.names) path ++ names) (sym (ap (above f) here ∙ climbs k next node is)) ∙ done.whole));
+            append_assoc path (k ∷ []) (keys_from f next)
+            ∙ (ap (λ ks. path ++ ks) (sym (ap (keys_from f) here ∙ climbs k next (done.next k here) is)) ∙ done.whole);
       }
 
   -- fewer are left above
-  pub climbs-fewer : {key k : ℕ} {path : List ℕ} {at : Option ℕ} (next : Option ℕ) → HasClimbed f key path at → at ≡ Some k →
-      option_map (name_at f.names) next ≡ parent_of f.trees (name_at f.names k) → length (above f next) < length (above f at)
-  climbs-fewer {k = k} next done here is =
-      let longer = ap (λ o. length (above f o)) here ∙ ap (length {A = NodeName}) (climbs k next (done.next k here) is) in
+  pub climbs-fewer : {k : ℕ} {at : Option ℕ} (next : Option ℕ) → at ≡ Some k → k < length f.names
+      → option_map (name_at f.names) next ≡ parent_of f.trees (name_at f.names k) → length (keys_from f next) < length (keys_from f at)
+  climbs-fewer {k = k} next here node is =
+      let longer = ap (λ o. length (keys_from f o)) here ∙ ap (length {A = ℕ}) (climbs k next node is) in
       omega (arith, longer)
 
 -- the end
-pub climbs-all : (f : NamedTrees) → TellApart f.names → (key : ℕ) (path : List ℕ) → HasClimbed f key path None → path ≡ path_keys f key
-unfolding above
-climbs-all f apart key path done =
-    sym (keys_of-names f.names apart path done.nodes)
-    ∙ ap (map (key_of f.names)) (sym (append-nil (map (name_at f.names) path)) ∙ done.whole)
+pub climbs-all : (f : NamedTrees) (key : ℕ) (path : List ℕ) → HasClimbed f key path None → path ≡ path_keys f key
+climbs-all f key path done = sym (append-nil path) ∙ done.whole
 
 -- ---- the keys of the path stand for its names
 
@@ -119,3 +98,23 @@ path_keys-named f once only k node =
     all_keyed f.names (inclusive_ancestors f.trees (name_at f.names k))
     (λ x i. only x (is_in-from x (names_of (nodes f.trees))
     (In-names f.trees x (Has-above f.trees x (name_at f.names k) (Once-forest f once only) (Has-forest f once k node) i))))
+
+module _ (f : NamedTrees) (once : StandOnce f) (only : StandAlone f) (k : ℕ) where
+  -- a node does not stand above its parent
+  pub proper-lack : (next : Option ℕ) → ForSome next (IsKey f.names)
+      → ForSome next (λ p. is_inclusive_ancestor f.trees (name_at f.names k) (name_at f.names p) ≡ false) → is_in eqb k (keys_from f next) ≡ false
+  proper-lack None nodes off = refl
+  proper-lack (Some p) nodes off =
+      by (path_keys f p) (subst (λ names. is_in name_eq (name_at f.names k) names ≡ false) (sym (path_keys-named f once only p (nodes p refl)).0) (off p refl))
+    where
+      differs : (j : ℕ) → name_eq (name_at f.names k) (name_at f.names j) ≡ false → eqb k j ≡ false
+      differs j e = elim (cases_eq k j) [
+        | inl same ↦ absurd (true≢false (sym (name_eq-from (name_at f.names k) (name_at f.names j) (ap (name_at f.names) same)) ∙ e))
+        | inr other ↦ ne_eqb k j other
+      ]
+
+      by : (ks : List ℕ) → is_in name_eq (name_at f.names k) (map (name_at f.names) ks) ≡ false → is_in eqb k ks ≡ false
+      by [] e = refl
+      by (j ∷ js) e =
+          let parts = or_parts (name_eq (name_at f.names k) (name_at f.names j)) (is_in name_eq (name_at f.names k) (map (name_at f.names) js)) e in
+          or_from (eqb k j) (is_in eqb k js) (differs j parts.0) (by js parts.1)

@@ -9,16 +9,18 @@ use Rattle.dom_model.proofs.Model.{is_in, parent_of, Change, Registration, asks_
 use Rattle.dom_tree.specs.Definitions.{NamedTrees, name_at, TellApart}
 use Rattle.dom_laws.proofs.Laws.{was_some}
 use Rattle.dom_tree.proofs.Standing.{StandOnce, StandAlone}
+use Rattle.dom_observers.specs.declared.marks.Marks.{Marks}
+use Rattle.dom_observers.specs.declared.marks.Marks.TheVariants.{Empty}
 use Rattle.dom_observers.specs.declared.places.Places.{Places}
 use Rattle.dom_observers.specs.declared.registered.Registered.{Registered}
 use Rattle.dom_observers.specs.declared.removal.Removal.{Removal}
 use Rattle.dom_observers.specs.declared.watched.Watched.{Watched}
-use Rattle.dom_observers.specs.Definitions.{registration_of, unless_gone, those_there, there_in, goes, IsKey, path_keys, transient_copy, picked, none_found}
+use Rattle.dom_observers.specs.Definitions.{registration_of, unless_gone, those_there, there_in, goes, IsKey, keys_from, transient_copy, picked, none_found}
 use Rattle.dom_observers.specs.Definitions.{and_found, found_by, found_at, copied_by, copied_at, places_in, places_or, places_at, places_from, is_marked}
-use Rattle.dom_observers.specs.Definitions.{looked_at, is_above, among, AreThinned, AreNoted, IsPlaceOf}
-use Rattle.dom_observers.proofs.Ascending.{HasClimbed, climbs-first, climbs-more, climbs-all}
-use Rattle.dom_observers.proofs.Folds.{filter-filter, fold-append}
-use Rattle.dom_observers.proofs.Gathering.{fold-agree, walk-copies}
+use Rattle.dom_observers.specs.Definitions.{IsNearest, is_above, among, AreThinned, AreNoted, IsPlaceOf}
+use Rattle.dom_observers.proofs.Ascending.{climbs}
+use Rattle.dom_observers.proofs.Folds.{filter-filter, fold-append, eqb-turned}
+use Rattle.dom_observers.proofs.Gathering.{fold-passing, fold-lacking, walk-copies}
 use Rattle.dom_observers.proofs.Leaving.{there-got, there-raw, there-within, there-append, any-there}
 use Rattle.dom_observers.proofs.Thinning.{thinned-again, thinned-behind, thinned-left, thinned-stays, picked-thinned, places-within, places-more}
 
@@ -311,37 +313,26 @@ module _ {w : Watched} {rs : List Registered} (noted : AreNoted w rs) where
         (none_kept p (filter (λ r. eqb r.node x) (those_there rs))
         (filter-filter p (λ r. eqb r.node x) (those_there rs) ∙ nothing_passes (λ r. eqb r.node x && p r) (those_there rs) none))
 
-    -- what is looked at of a node serves, where nothing comes from the others
-    look : {B : Type 0} (f : B → Registration ℕ → B) (b : B) (wholly : Bool) (x : ℕ)
-        → (wholly ≡ false → is_marked w.above x ≡ false → fold f b (picked rs (places_at w x)) ≡ b)
-        → fold f b (picked rs (looked_at w wholly x)) ≡ fold f b (picked rs (places_at w x))
-    look f b wholly x past = by wholly (is_marked w.above x) refl refl
-      where
-        by : (c m : Bool) → wholly ≡ c → is_marked w.above x ≡ m
-            → fold f b (picked rs (cond (c || m) (places_at w x) [])) ≡ fold f b (picked rs (places_at w x))
-        by true m e g = refl
-        by false true e g = refl
-        by false false e g = sym (past e g)
-
-    module _ {slice : List Registered} (list : slice ≡ rs) (path : List ℕ) where
-      -- what is found on a path
-      pub found-on : (c : Change ℕ) → fold (found_at slice w c) none_found path ≡ fold (λ f x. fold (found_by c) f (picked rs (places_at w x))) none_found path
-      found-on c =
-          ap (λ xs. fold (found_at xs w c) none_found path) list
-          ∙ fold-agree (found_at rs w c) (λ f x. fold (found_by c) f (picked rs (places_at w x)))
-          (λ f x. look (found_by c) f (eqb x (target_of c)) x
-          (λ e off. adds_none (found_by c) (fits eqb c)
+    module _ {slice : List Registered} (list : slice ≡ rs) where
+      -- what is found on the nodes that are looked at is what is found on the whole path
+      pub found-on : (c : Change ℕ) (path : List ℕ) → is_in eqb (target_of c) path ≡ false
+          → fold (found_at slice w c) none_found (target_of c ∷ filter (is_marked w.above) path)
+          ≡ fold (λ f x. fold (found_by c) f (picked rs (places_at w x))) none_found (target_of c ∷ path)
+      found-on c path apart =
+          ap (λ xs. fold (found_at xs w c) none_found (target_of c ∷ filter (is_marked w.above) path)) list
+          ∙ sym (fold-lacking (found_at rs w c) (is_marked w.above) (target_of c)
+          (λ f x other off. adds_none (found_by c) (fits eqb c)
           (λ g r h. cond-false (fits eqb c r) (and_found g r.observer (asks_for_old r.options c)) g h) x
-          (nothing_fits c x (those_there rs) e (off_below x off)) f)) none_found path
+          (nothing_fits c x (those_there rs) (eqb-turned x (target_of c) ∙ other) (off_below x off)) f) (found_at rs w c none_found (target_of c)) path apart)
 
       -- the copies of those on a path
-      pub copied : (node : ℕ) → fold (copied_at node slice w) [] path ≡ transients_for eqb node path (those_there rs)
-      copied node =
-          ap (λ xs. fold (copied_at node xs w) [] path) list
-          ∙ (fold-agree (copied_at node rs w) (λ copies x. fold (copied_by node) copies (picked rs (places_at w x)))
-          (λ copies x. look (copied_by node) copies false x
-          (λ e off. adds_none (copied_by node) (λ r. r.options.subtree)
-          (λ g r h. cond-false r.options.subtree (g ++ transient_copy node r ∷ []) g h) x (off_below x off) copies)) [] path
+      pub copied : (node : ℕ) (path : List ℕ)
+          → fold (copied_at node slice w) [] (filter (is_marked w.above) path) ≡ transients_for eqb node path (those_there rs)
+      copied node path =
+          ap (λ xs. fold (copied_at node xs w) [] (filter (is_marked w.above) path)) list
+          ∙ (sym (fold-passing (copied_at node rs w) (copied_at node rs w) (is_marked w.above) (λ copies x e. refl)
+          (λ copies x off. adds_none (copied_by node) (λ r. r.options.subtree)
+          (λ g r h. cond-false r.options.subtree (g ++ transient_copy node r ∷ []) g h) x (off_below x off) copies) [] path)
           ∙ walk-copies (those_there rs) (λ x. picked rs (places_at w x)) picked-on node path)
 
 -- ---- a list that is read as a slice
@@ -356,29 +347,45 @@ all-now {n = n} is short = subst (λ (xs : List Registered). length xs ≤ n) is
 
 -- ---- the walk upwards
 
--- what it has done: it has gathered from the nodes so far, one after the other
-pub record HasGathered {B : Type 0} (f : NamedTrees) (key : ℕ) (step : B → ℕ → B) (none now : B) (at : Option ℕ) : Type 0 where
-  pub path : List ℕ
-  pub climbed : HasClimbed f key path at
-  pub gathered : now ≡ fold step none path
+-- where no node is marked there is none
+pub none_marked : (xs : List ℕ) → filter (is_marked Empty) xs ≡ []
+none_marked [] = refl
+none_marked (x ∷ xs) = none_marked xs
 
--- The walk from a node.
-module _ {B : Type 0} (f : NamedTrees) (key : ℕ) (step : B → ℕ → B) (none : B) where
+-- what it has done: what it has gathered, and from a marked node or none on what is marked, makes all
+pub record HasGathered {B : Type 0} (f : NamedTrees) (m : Marks) (step : B → ℕ → B) (all now : B) (at : Option ℕ) : Type 0 where
+  pub node : ForSome at (IsKey f.names)
+  pub marked : ForSome at (λ k. is_marked m k ≡ true)
+  pub whole : fold step now (filter (is_marked m) (keys_from f at)) ≡ all
+
+module _ {B : Type 0} {f : NamedTrees} {m : Marks} (step : B → ℕ → B) where
   -- the beginning
-  pub gathers-first : key < length f.names → HasGathered f key step none none (Some key)
-  gathers-first node = record { path = []; climbed = climbs-first f key node; gathered = refl }
-
-  -- a step
-  module _ (once : StandOnce f) (only : StandAlone f) where
-    pub gathers-more : {now later : B} {k : ℕ} {at next : Option ℕ} → HasGathered f key step none now at → at ≡ Some k → later ≡ step now k
-        → option_map (name_at f.names) next ≡ parent_of f.trees (name_at f.names k) → ForSome next (IsKey f.names) → HasGathered f key step none later next
-    gathers-more {k = k} {next = next} done here adds is nodes =
-        record {
-          path = done.path ++ k ∷ [];
-          climbed = climbs-more f once only next done.climbed here is nodes;
-          gathered = adds ∙ (ap (λ b. step b k) done.gathered ∙ sym (fold-append step none done.path (k ∷ [])));
-        }
+  pub gathers-first : {now all : B} {from at : Option ℕ} → IsNearest f m from at → fold step now (filter (is_marked m) (keys_from f from)) ≡ all
+      → HasGathered f m step all now at
+  gathers-first {now = now} near whole = record { node = near.node; marked = near.marked; whole = ap (fold step now) (sym near.others) ∙ whole }
 
   -- the end
-  pub gathers-all : {now : B} → TellApart f.names → HasGathered f key step none now None → now ≡ fold step none (path_keys f key)
-  gathers-all apart done = done.gathered ∙ ap (fold step none) (climbs-all f apart key done.path done.climbed)
+  pub gathers-all : {now all : B} {at : Option ℕ} → HasGathered f m step all now at → at ≡ None → now ≡ all
+  gathers-all {now = now} done here = ap (λ o. fold step now (filter (is_marked m) (keys_from f o))) (sym here) ∙ done.whole
+
+  -- A step, in a forest in which each node stands once, by a name of its own.
+  module _ (once : StandOnce f) (only : StandAlone f) (apart : TellApart f.names) {all now : B} {k : ℕ} {at from next : Option ℕ}
+      (done : HasGathered f m step all now at) (here : at ≡ Some k) (is : option_map (name_at f.names) from ≡ parent_of f.trees (name_at f.names k))
+      (near : IsNearest f m from next) where
+    -- from the node on it is marked, and then what is from the next one on
+    pub one_ahead : filter (is_marked m) (keys_from f at) ≡ k ∷ filter (is_marked m) (keys_from f next)
+    one_ahead =
+        ap (λ o. filter (is_marked m) (keys_from f o)) here
+        ∙ (ap (filter (is_marked m)) (climbs f once only apart k from (done.node k here) is)
+        ∙ (cond-true (is_marked m k) (k ∷ filter (is_marked m) (keys_from f from)) (filter (is_marked m) (keys_from f from)) (done.marked k here)
+        ∙ ap (λ ks. k ∷ ks) near.others))
+
+    pub gathers-more : {later : B} → later ≡ step now k → HasGathered f m step all later next
+    gathers-more {later = later} adds = record {
+      node = near.node;
+      marked = near.marked;
+      whole = ap (λ b. fold step b (filter (is_marked m) (keys_from f next))) adds ∙ (ap (fold step now) (sym one_ahead) ∙ done.whole);
+    }
+
+    pub gathers-fewer : length (filter (is_marked m) (keys_from f next)) < length (filter (is_marked m) (keys_from f at))
+    gathers-fewer = let longer = ap (length {A = ℕ}) one_ahead in omega (arith, longer)

@@ -1,10 +1,11 @@
 -- What proofs cite of this crate's definitions.
-pub use Rattle.dom_observers.specs.InterestedObservers.{found_of, record_of}
+pub use Rattle.dom_observers.specs.InterestedObservers.{found_of, HasFound, record_of}
+pub use Rattle.dom_observers.specs.Marks.{is_marked, IsNearest, looked_at, marked_in}
 pub use Rattle.dom_observers.specs.Naming.{AreAll, AreRegistered, DisconnectedLaw, EmptiedLaw, IsChangeAt, IsKey, IsSourceOf, LeftLaw, MakingLaw, named_change}
 pub use Rattle.dom_observers.specs.Naming.{named_registration, named_source, named_tables, NoticesLaw, NotifiedLaw, ObservingLaw, SpeaksOf, TakenLaw, ToldLaw}
 pub use Rattle.dom_observers.specs.Numbers.{numbers_in}
 pub use Rattle.dom_observers.specs.Owners.{all_tables, ChangesTables, KeepsTables, tables_of}
-pub use Rattle.dom_observers.specs.Paths.{key_of, path_keys}
+pub use Rattle.dom_observers.specs.Paths.{key_of, keys_from, path_keys}
 pub use Rattle.dom_observers.specs.Removals.{goes, HaveLeft}
 pub use Rattle.dom_observers.specs.Staying.{AreOwnTables, DisconnectedStay, EmptiedStay, IsOwnKey, KeysStay, LeftStay, MadeStay, MoreStay, NoneStay}
 pub use Rattle.dom_observers.specs.Staying.{NotifiedStay, ObservingStay, RecordsStay, SameStay, ToldStay}
@@ -16,5 +17,5 @@ pub use Rattle.dom_observers.specs.Taking.{and_found, copied_at, copied_by, Foun
 pub use Rattle.dom_observers.specs.There.{AreMade, DisconnectedThere, EmptiedThere, HasThere, LeftThere, MadeThere, NoneThere, NotifiedThere, ObservingThere}
 pub use Rattle.dom_observers.specs.There.{SameThere, ToldThere}
 pub use Rattle.dom_observers.specs.Views.{AreThere, change_of, notice_of, registration_of, there_in, those_there, unless_gone, words_of}
-pub use Rattle.dom_observers.specs.Watching.{among, AreKept, AreNoted, AreThinned, is_above, is_marked, IsPlaceOf, looked_at, places_at, places_from, places_in}
+pub use Rattle.dom_observers.specs.Watching.{among, AreKept, AreNoted, AreThinned, is_above, IsPlaceOf, places_at, places_from, places_in}
 pub use Rattle.dom_observers.specs.Watching.{places_or, there_of}

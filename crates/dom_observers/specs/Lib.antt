@@ -4,6 +4,7 @@ pub mod Views
 pub mod Removals
 pub mod Tables
 pub mod Watching
+pub mod Marks
 pub mod TableView
 pub mod Paths
 pub mod Taking

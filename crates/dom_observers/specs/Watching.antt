@@ -1,12 +1,11 @@
 -- What is kept beside an owner's registrations, so that those on a node are found by one look.
 use Rattle.std.specs.Prelude.{◌≡◌, ℕ, ◌+◌, ◌<◌, ◌≤◌, ◌&&◌, Bool, true, false, nat_eq, List, [], ◌∷◌, Option, Some, None, length, map, filter, take, is_some}
-use Rattle.std.specs.Prelude.{◌||◌, slice_index_or, if◌then◌else◌}
+use Rattle.std.specs.Prelude.{if◌then◌else◌}
 use Rattle.std.specs.List.{list_any}
 use Rattle.std.specs.Option.{option_map_or}
 use Rattle.indexmap.specs.IndexMap.{get}
 use Rattle.dom_model.specs.Names.{is_in}
 use Rattle.dom_model.specs.Observers.{Registration, is_asked_for}
-use Rattle.dom_observers.specs.declared.marks.Marks.{Marks}
 use Rattle.dom_observers.specs.declared.owned.Owned.{Owned}
 use Rattle.dom_observers.specs.declared.places.Places.{Places}
 use Rattle.dom_observers.specs.declared.places.Places.TheVariants.{One, More}
@@ -16,6 +15,7 @@ use Rattle.dom_observers.specs.declared.removal.Removal.TheVariants.{Of, Transie
 use Rattle.dom_observers.specs.declared.watched.Watched.{Watched}
 use Rattle.dom_observers.specs.Views.{registration_of, those_there, there_in}
 use Rattle.dom_observers.specs.Removals.{goes}
+use Rattle.dom_observers.specs.Marks.{is_marked}
 
 -- the places of a node's registrations, in order (own rule)
 abbrev pub places_in : Places → List ℕ
@@ -29,15 +29,6 @@ places_or o = option_map_or places_in o []
 -- the places that are noted of a node (own rule)
 abbrev pub places_at : Watched → ℕ → List ℕ
 places_at w x = places_or (get nat_eq w.places x)
-
--- whether a node is marked
-abbrev pub is_marked : Marks → ℕ → Bool
-is_marked m x = slice_index_or m.marked.items x false
-
--- the places of a node that a walk upwards looks at: those of a node that is wholly looked at, and of one from which what is below it
--- may be observed (own rule)
-abbrev pub looked_at : Watched → Bool → ℕ → List ℕ
-looked_at w wholly x = if wholly || is_marked w.above x then places_at w x else []
 
 -- the places of the registrations on a node, where the first has this number (own rule)
 abbrev pub places_from : ℕ → ℕ → List (Registration ℕ) → List ℕ

@@ -2,10 +2,9 @@
 ghost use Rattle.std.specs.Prelude.{◌≡◌, nat_eq, fold, IfOk, OnOk};
 ghost use Rattle.std.specs.List.{list_any};
 ghost use Rattle.dom_model.specs.Observers.{target_of};
-ghost use Rattle.dom_observers.specs.Paths.{path_keys};
 ghost use Rattle.dom_observers.specs.Views.{change_of};
-ghost use Rattle.dom_observers.specs.Taking.{none_found, and_found, found_by, found_at, picked};
-ghost use Rattle.dom_observers.specs.InterestedObservers.{found_of};
+ghost use Rattle.dom_observers.specs.Taking.{none_found, and_found, found_by, picked};
+ghost use Rattle.dom_observers.specs.InterestedObservers.{found_of, HasFound};
 ghost use Rattle.dom_observers.specs.Numbers.{numbers_in};
 ghost use Rattle.dom_tree.specs.Forest.{IsNode};
 
@@ -46,17 +45,16 @@ impl InterestedObservers {
         change: &Change,
     ) -> Result<InterestedObservers, AllocError>
         requires { IsNode forest.now (target_of (change_of change.now)) }
-        ensures { IfOk result (λ t. found_of t ≡ fold (found_at registrations.now watched.now (change_of change.now)) none_found
-            (path_keys forest.now (target_of (change_of change.now)))) }
+        ensures { IfOk result (HasFound forest.now registrations.now watched.now (change_of change.now)) }
     {
         forest.law_nodes_stand_once();
         let target = change.target();
         let mut interested = InterestedObservers::new(alloc);
-        let mut at = Some(target);
+        interested.add_from(registrations, watched.places(target), change)?;
+        let mut at = watched.nearest_above(forest, forest.parent(target));
         while let Some(node) = at {
-            let places = watched.looked_at(node, node == target);
-            interested.add_from(registrations, places, change)?;
-            at = forest.parent(node);
+            interested.add_from(registrations, watched.places(node), change)?;
+            at = watched.nearest_above(forest, forest.parent(node));
         }
         Ok(interested)
     }

@@ -1,65 +1,117 @@
 //! Which nodes are marked.
-ghost use Rattle.std.specs.Prelude.{◌≡◌, ℕ, ◌<◌, length, nat_eq, true, if◌then◌else◌, OnOk, OnErr};
-ghost use Rattle.dom_observers.specs.Watching.{is_marked};
+ghost use Rattle.std.specs.Prelude.{◌≡◌, ℕ, ◌<◌, length, nat_eq, true, if◌then◌else◌, IfOk, OnOk, OnErr};
+ghost use Rattle.std.specs.Option.{ForSome};
+ghost use Rattle.dom_tree.specs.Forest.{IsNode};
+ghost use Rattle.dom_observers.specs.Marks.{marked_in, is_marked, IsNearest};
+ghost use Rattle.dom_observers.specs.Paths.{keys_from};
 
+use dom_tree::Forest;
 use node_arena::Key;
 use std::alloc::{AllocError, Global};
 
-/// Which nodes are marked, by one look without a hash. There is a byte for each number of a node up to the greatest that was marked.
+/// Which nodes are marked, by one look without a hash. One alone takes no memory. Of more there is a byte for each number of a node up to the
+/// greatest that was marked.
 #[derive(Drop)]
-pub struct Marks {
-    marked: Vec<bool>,
+pub enum Marks {
+    Empty,
+    One(Key),
+    Many(Vec<bool>),
 }
 
 impl Marks {
-    /// No node is marked. It takes no memory yet.
-    pub(crate) fn new(alloc: Global) -> Self {
-        Marks {
-            marked: Vec::new(alloc),
-        }
-    }
-
     /// Whether a node is marked.
     pub(crate) fn contains(&self, node: Key) -> bool
         ensures { result ≡ is_marked self.now node }
     {
-        self.marked.get(node.index()).copied().unwrap_or(false)
-    }
-
-    /// Makes a place for the mark of a node, where there is none.
-    fn reach(&mut self, node: Key) -> Result<(), AllocError>
-        ensures same { (x : ℕ) → is_marked self.new x ≡ is_marked self.old x }
-        ensures there { OnOk result (node < length self.new.marked.items) }
-    {
-        let count = node.index().checked_add(1).ok_or(AllocError)?;
-        if self.marked.len() < count {
-            self.marked.resize(count, false)?;
+        match self {
+            Marks::Empty => false,
+            Marks::One(only) => *only == node,
+            Marks::Many(marked) => marked.get(node.index()).copied().unwrap_or(false),
         }
-        Ok(())
-    }
-
-    /// Marks a node, for which there is a place.
-    fn set(&mut self, node: Key)
-        requires { node < length self.old.marked.items }
-        ensures { (x : ℕ) → is_marked self.new x ≡ (if nat_eq node x then true else is_marked self.old x) }
-    {
-        self.marked[node.index()] = true;
     }
 
     /// Marks a node. Where memory is refused, all is as it was.
-    pub(crate) fn insert(&mut self, node: Key) -> Result<(), AllocError>
+    pub(crate) fn insert(&mut self, alloc: Global, node: Key) -> Result<(), AllocError>
         ensures marked { OnOk result ((x : ℕ) → is_marked self.new x ≡ (if nat_eq node x then true else is_marked self.old x)) }
         ensures same { OnErr result ((x : ℕ) → is_marked self.new x ≡ is_marked self.old x) }
     {
-        self.reach(node)?;
-        self.set(node);
+        match self {
+            Marks::Empty => *self = Marks::One(node),
+            Marks::One(only) if *only == node => {}
+            Marks::One(only) => *self = Marks::Many(both(alloc, *only, node)?),
+            Marks::Many(marked) => mark(marked, node)?,
+        }
         Ok(())
     }
 
     /// Takes a node's mark away.
     pub(crate) fn remove(&mut self, node: Key) {
-        if let Some(mark) = self.marked.get_mut(node.index()) {
-            *mark = false;
+        match self {
+            Marks::Empty => {}
+            Marks::One(only) if *only != node => {}
+            Marks::One(_) => *self = Marks::Empty,
+            Marks::Many(marked) => {
+                if let Some(mark) = marked.get_mut(node.index()) {
+                    *mark = false;
+                }
+            }
         }
     }
+
+    /// The nearest node that is marked, of a node and its ancestors, where one is given (DOM Standard, concept: inclusive ancestor).
+    #[inline(never)]
+    pub(crate) fn nearest(&self, forest: &Forest, from: Option<Key>) -> Option<Key>
+        requires { ForSome from (IsNode forest.now) }
+        ensures { IsNearest forest.now self.now from result }
+    {
+        forest.law_nodes_stand_once();
+        let mut at = from;
+        while let Some(node) = at {
+            if self.contains(node) {
+                return Some(node);
+            }
+            at = forest.parent(node);
+        }
+        None
+    }
+}
+
+/// Makes a place for the mark of a node, where there is none.
+fn reach(marked: &mut Vec<bool>, node: Key) -> Result<(), AllocError>
+    ensures same { (x : ℕ) → marked_in marked.new.items x ≡ marked_in marked.old.items x }
+    ensures there { OnOk result (node < length marked.new.items) }
+{
+    let count = node.index().checked_add(1).ok_or(AllocError)?;
+    if marked.len() < count {
+        marked.resize(count, false)?;
+    }
+    Ok(())
+}
+
+/// Marks a node, for which there is a place.
+fn set(marked: &mut Vec<bool>, node: Key)
+    requires { node < length marked.old.items }
+    ensures { (x : ℕ) → marked_in marked.new.items x ≡ (if nat_eq node x then true else marked_in marked.old.items x) }
+{
+    marked[node.index()] = true;
+}
+
+/// Marks a node. Where memory is refused, all is as it was.
+fn mark(marked: &mut Vec<bool>, node: Key) -> Result<(), AllocError>
+    ensures marked { OnOk result ((x : ℕ) → marked_in marked.new.items x ≡ (if nat_eq node x then true else marked_in marked.old.items x)) }
+    ensures same { OnErr result ((x : ℕ) → marked_in marked.new.items x ≡ marked_in marked.old.items x) }
+{
+    reach(marked, node)?;
+    set(marked, node);
+    Ok(())
+}
+
+/// The marks of a node and of another one.
+fn both(alloc: Global, first: Key, node: Key) -> Result<Vec<bool>, AllocError>
+    ensures { IfOk result (λ marked. (x : ℕ) → marked_in marked.items x ≡ (if nat_eq node x then true else nat_eq first x)) }
+{
+    let mut marked = Vec::new(alloc);
+    mark(&mut marked, first)?;
+    mark(&mut marked, node)?;
+    Ok(marked)
 }

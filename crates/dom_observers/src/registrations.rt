@@ -7,6 +7,7 @@ ghost use Rattle.dom_observers.specs.InterestedObservers.{record_of};
 ghost use Rattle.dom_observers.specs.Numbers.{numbers_in};
 ghost use Rattle.dom_observers.specs.Paths.{path_keys};
 ghost use Rattle.dom_observers.specs.Views.{words_of, change_of, registration_of, AreThere};
+ghost use Rattle.dom_observers.specs.Marks.{is_marked};
 ghost use Rattle.dom_observers.specs.Removals.{goes};
 ghost use Rattle.dom_observers.specs.Taking.{picked, copied_by, copied_at};
 ghost use Rattle.dom_tree.specs.Forest.{IsNode};
@@ -201,15 +202,14 @@ fn copies_for(
     requires { IsNode forest.now parent }
     ensures there { IfOk result (λ copies. AreThere copies.items) }
     ensures copies { IfOk result (λ copies. map registration_of copies.items ≡
-        fold (copied_at node registrations.now watched.now) [] (path_keys forest.now parent)) }
+        fold (copied_at node registrations.now watched.now) [] (filter (is_marked watched.now.above) (path_keys forest.now parent))) }
 {
     forest.law_nodes_stand_once();
     let mut copies = Vec::new(alloc);
-    let mut at = Some(parent);
+    let mut at = watched.nearest_above(forest, Some(parent));
     while let Some(above) = at {
-        let places = watched.looked_at(above, false);
-        copy_from(registrations, places, node, &mut copies)?;
-        at = forest.parent(above);
+        copy_from(registrations, watched.places(above), node, &mut copies)?;
+        at = watched.nearest_above(forest, forest.parent(above));
     }
     Ok(copies)
 }

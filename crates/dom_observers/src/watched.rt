@@ -1,16 +1,20 @@
 //! The nodes that observers watch.
 ghost use Rattle.std.specs.Prelude.{◌≡◌, ℕ, ◌≤◌, ◌&&◌, ◌++◌, ◌∷◌, [], List, nat_eq, length, true, false, IfOk, OnOk, OnErr, if◌then◌else◌};
+ghost use Rattle.std.specs.Option.{ForSome};
 ghost use Rattle.indexmap.specs.IndexMap.{get};
 ghost use Rattle.dom_model.specs.Observers.{is_asked_for};
 ghost use Rattle.dom_observers.specs.Taking.{picked};
 ghost use Rattle.dom_observers.specs.Views.{those_there};
-ghost use Rattle.dom_observers.specs.Watching.{places_or, places_at, is_marked, looked_at, among, AreThinned, AreNoted, IsPlaceOf};
+ghost use Rattle.dom_observers.specs.Marks.{is_marked, IsNearest};
+ghost use Rattle.dom_observers.specs.Watching.{places_or, places_at, among, AreThinned, AreNoted, IsPlaceOf};
+ghost use Rattle.dom_tree.specs.Forest.{IsNode};
 
 use crate::marks::Marks;
 use crate::owned::Owned;
 use crate::places::{Places, count_gone, put};
 use crate::registered::{Registered, there_at};
 use crate::removal::Removal;
+use dom_tree::Forest;
 use indexmap::IndexMap;
 use node_arena::Key;
 use std::alloc::{AllocError, Global};
@@ -34,7 +38,7 @@ impl Watched {
     {
         Watched {
             places: IndexMap::new(alloc),
-            above: Marks::new(alloc),
+            above: Marks::Empty,
             owned: Owned::new(alloc),
             noted: 0,
             alloc,
@@ -80,7 +84,7 @@ impl Watched {
         ensures owned { self.new.owned ≡ self.old.owned }
     {
         if observes_below {
-            self.above.insert(node)?;
+            self.above.insert(self.alloc, node)?;
         }
         put(self.alloc, &mut self.places, node.index(), place)
     }
@@ -102,7 +106,7 @@ impl Watched {
         self.note(registrations)?;
         let place = asked_for_in(registrations, self.places(node), observer, node);
         if observes_below {
-            self.above.insert(node)?;
+            self.above.insert(self.alloc, node)?;
         }
         Ok(place)
     }
@@ -117,14 +121,15 @@ impl Watched {
         }
     }
 
-    /// The places of a node that a walk upwards looks at: the noted ones where the node is wholly looked at or marked, else none.
-    pub(crate) fn looked_at(&self, node: Key, wholly: bool) -> &[usize]
-        ensures { result.now ≡ looked_at self.now wholly node }
+    /// The nearest node from which what is below it may be observed, of a node and its ancestors, where one is given.
+    pub(crate) fn nearest_above(&self, forest: &Forest, from: Option<Key>) -> Option<Key>
+        requires { ForSome from (IsNode forest.now) }
+        ensures { IsNearest forest.now self.now.above from result }
     {
-        if wholly || self.above.contains(node) {
-            return self.places(node);
+        match self.above {
+            Marks::Empty => None,
+            _ => self.above.nearest(forest, from),
         }
-        &[]
     }
 
     /// Forgets what is noted of a list's registrations.

@@ -17,7 +17,7 @@ same : (c : After-drop-copies-2) → map registration_of c.in_ok-copies.copies.i
 same c =
     c.in_ok-copies.ensures.copies
     ∙ copied (noted c) (all-now c.as_slice.ensures.value c.in_ok-note.ensures.all) c.as_slice-2.ensures.value
-    (path_keys c.args.forest.now c.args.parent) c.args.node
+    c.args.node (path_keys c.args.forest.now c.args.parent)
 
 pub invariant_of-self-2 : goal.invariant_of-self-2
 invariant_of-self-2 c =
