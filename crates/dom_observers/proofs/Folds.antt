@@ -1,13 +1,8 @@
 -- Folds and filters, and sets of numbers in order.
 use Rattle.dom_base.proofs.Std.{◌≡◌, ℕ, Bool, true, false, not, ◌&&◌, ◌||◌, eqb, List, [], ◌∷◌, ◌++◌, map, inl, inr, refl, sym, ap, ◌∙◌, subst, fold, filter}
 use Rattle.dom_base.proofs.Std.{list_any, flat_map, append_assoc, append-nil, filter-append, filter_agree, list_any-append, cond-true, cond-false, eqb-true}
-use Rattle.dom_base.proofs.Std.{eq-eqb, ne_eqb, cases_eq, or_left, and_from, and_left, and_right, not_from_true, not_from_false}
+use Rattle.dom_base.proofs.Std.{eq-eqb, ne_eqb, cases_Bool, cases_eq, fold-append, or_left, not_from_true, not_from_false}
 use Rattle.dom_model.proofs.Model.{is_in, append_once, distinct}
-
--- a fold over two lists, one after the other
-pub fold-append : {A B : Type 0} (f : B → A → B) (b : B) (xs ys : List A) → fold f b (xs ++ ys) ≡ fold f (fold f b xs) ys
-fold-append f b [] ys = refl
-fold-append f b (x ∷ xs) ys = fold-append f (f b x) xs ys
 
 -- a fold over what passes in lists joined end to end
 pub fold-flat_map : {A B C : Type 0} (f : B → A → B) (p : A → Bool) (h : C → List A) (b : B) (cs : List C)
@@ -21,24 +16,13 @@ fold-flat_map f p h b (c ∷ cs) =
 -- a filter of what passes another
 pub filter-filter : {A : Type 0} (p q : A → Bool) (xs : List A) → filter p (filter q xs) ≡ filter (λ x. q x && p x) xs
 filter-filter p q [] = refl
-filter-filter p q (x ∷ xs) = by (q x) (p x) refl refl (filter-filter p q xs)
-  where
-    by : (b c : Bool) → q x ≡ b → p x ≡ c → filter p (filter q xs) ≡ filter (λ y. q y && p y) xs →
-        filter p (filter q (x ∷ xs)) ≡ filter (λ y. q y && p y) (x ∷ xs)
-    by true true e g rest =
-        ap (filter p) (cond-true (q x) (x ∷ filter q xs) (filter q xs) e)
-        ∙ (cond-true (p x) (x ∷ filter p (filter q xs)) (filter p (filter q xs)) g
-        ∙ (ap (λ ys. x ∷ ys) rest
-        ∙ sym (cond-true (q x && p x) (x ∷ filter (λ y. q y && p y) xs) (filter (λ y. q y && p y) xs) (and_from (q x) (p x) e g))))
-    by true false e g rest =
-        ap (filter p) (cond-true (q x) (x ∷ filter q xs) (filter q xs) e)
-        ∙ (cond-false (p x) (x ∷ filter p (filter q xs)) (filter p (filter q xs)) g
-        ∙ (rest
-        ∙ sym (cond-false (q x && p x) (x ∷ filter (λ y. q y && p y) xs) (filter (λ y. q y && p y) xs) (and_right (q x) (p x) g))))
-    by false c e g rest =
-        ap (filter p) (cond-false (q x) (x ∷ filter q xs) (filter q xs) e)
-        ∙ (rest
-        ∙ sym (cond-false (q x && p x) (x ∷ filter (λ y. q y && p y) xs) (filter (λ y. q y && p y) xs) (and_left (q x) (p x) e)))
+filter-filter p q (x ∷ xs) = elim (cases_Bool (q x)) [
+  | inl e ↦ elim (cases_Bool (p x)) [
+    | inl g ↦ rw (e, g) (ap (λ ys. x ∷ ys) (filter-filter p q xs))
+    | inr g ↦ rw (e, g) (filter-filter p q xs)
+  ]
+  | inr e ↦ rw e (filter-filter p q xs)
+]
 
 -- equality of numbers read the other way round
 pub eqb-turned : (j k : ℕ) → eqb j k ≡ eqb k j

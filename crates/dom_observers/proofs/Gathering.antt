@@ -1,6 +1,6 @@
 -- What the walk over the registrations on a path gathers is what the rules say.
 use Rattle.dom_base.proofs.Std.{◌≡◌, ℕ, Bool, true, false, ◌&&◌, ◌||◌, cond, eqb, List, [], ◌∷◌, ◌++◌, map, refl, sym, ap, ◌∙◌, fold, filter, list_any}
-use Rattle.dom_base.proofs.Std.{and_right, append_assoc, append-nil, cond-true, cond-false, or_parts}
+use Rattle.dom_base.proofs.Std.{inl, inr, cases_Bool, and_right, append_assoc, append-nil, cond-true, cond-false, or_parts}
 use Rattle.dom_model.proofs.Model.{is_in, append_once, distinct, is_empty, Change, Registration, registrations_on, fits, fitting, interested, asks_for_old}
 use Rattle.dom_model.proofs.Model.{transients_for}
 use Rattle.dom_observers.specs.Definitions.{Found, none_found, and_found, found_by, transient_copy, copied_by}
@@ -12,15 +12,10 @@ module _ {A B : Type 0} (f g : B → A → B) where
   pub fold-passing : (p : A → Bool) → ((b : B) (x : A) → p x ≡ true → f b x ≡ g b x) → ((b : B) (x : A) → p x ≡ false → f b x ≡ b)
       → (b : B) (xs : List A) → fold f b xs ≡ fold g b (filter p xs)
   fold-passing p takes stays b [] = refl
-  fold-passing p takes stays b (x ∷ xs) = by (p x) refl (λ c. fold-passing p takes stays c xs)
-    where
-      by : (c : Bool) → p x ≡ c → ((d : B) → fold f d xs ≡ fold g d (filter p xs)) → fold f b (x ∷ xs) ≡ fold g b (filter p (x ∷ xs))
-      by true e rest =
-          ap (λ d. fold f d xs) (takes b x e) ∙ rest (g b x)
-          ∙ sym (ap (fold g b) (cond-true (p x) (x ∷ filter p xs) (filter p xs) e))
-      by false e rest =
-          ap (λ d. fold f d xs) (stays b x e) ∙ rest b
-          ∙ sym (ap (fold g b) (cond-false (p x) (x ∷ filter p xs) (filter p xs) e))
+  fold-passing p takes stays b (x ∷ xs) = elim (cases_Bool (p x)) [
+    | inl e ↦ rw (e, takes b x e) (fold-passing p takes stays (g b x) xs)
+    | inr e ↦ rw (e, stays b x e) (fold-passing p takes stays b xs)
+  ]
 
   -- two folds whose steps agree
   pub fold-agree : ((b : B) (x : A) → f b x ≡ g b x) → (b : B) (xs : List A) → fold f b xs ≡ fold g b xs
@@ -34,12 +29,10 @@ module _ {B : Type 0} (f : B → ℕ → B) (p : ℕ → Bool) (k : ℕ) (stays 
   fold-lacking b [] apart = refl
   fold-lacking b (x ∷ xs) apart =
       let parts = or_parts (eqb k x) (is_in eqb k xs) apart in
-      by (p x) refl parts.0 (λ c. fold-lacking c xs parts.1)
-    where
-      by : (c : Bool) → p x ≡ c → eqb k x ≡ false → ((d : B) → fold f d xs ≡ fold f d (filter p xs)) → fold f b (x ∷ xs) ≡ fold f b (filter p (x ∷ xs))
-      by true e other rest = rest (f b x) ∙ sym (ap (fold f b) (cond-true (p x) (x ∷ filter p xs) (filter p xs) e))
-      by false e other rest =
-          ap (λ d. fold f d xs) (stays b x other e) ∙ (rest b ∙ sym (ap (fold f b) (cond-false (p x) (x ∷ filter p xs) (filter p xs) e)))
+      elim (cases_Bool (p x)) [
+        | inl e ↦ rw e (fold-lacking (f b x) xs parts.1)
+        | inr e ↦ rw (e, stays b x parts.0 e) (fold-lacking b xs parts.1)
+      ]
 
 -- what a fitting registration adds
 abbrev adds : Change ℕ → Found → Registration ℕ → Found

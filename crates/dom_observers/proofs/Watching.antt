@@ -4,7 +4,7 @@ use Rattle.dom_base.proofs.Std.{inl, inr, ◌≡◌, ℕ, ◌+◌, ◌<◌, ◌�
 use Rattle.dom_base.proofs.Std.{Option, Some, None, Bor, refl, sym, ap, ◌∙◌, subst, arith, option_map, slice_get, is_some, if◌then◌else◌, ForSome, list_any}
 use Rattle.dom_base.proofs.Std.{filter, cons_option, fold, cond-true, cond-false, cases_eq, or_parts, or_from, eqb-true, false≢true, append_assoc}
 use Rattle.dom_base.proofs.Std.{length-append, length-map, length_push, length-take-le, map-append, take_all, take-append-le, take_more, same_Some}
-use Rattle.dom_base.proofs.Std.{slice_get-get_or, filter_map-append, list_any-append, any-filter_same}
+use Rattle.dom_base.proofs.Std.{slice_get-get_or, filter_map-append, list_any-append, any-filter_same, none-some, fold-append}
 use Rattle.dom_model.proofs.Model.{is_in, parent_of, Change, Registration, asks_for, asks_for_old, fits, transients_for, target_of, is_asked_for, is_transient}
 use Rattle.dom_tree.specs.Definitions.{NamedTrees, name_at, TellApart}
 use Rattle.dom_laws.proofs.Laws.{was_some}
@@ -19,7 +19,7 @@ use Rattle.dom_observers.specs.Definitions.{registration_of, unless_gone, those_
 use Rattle.dom_observers.specs.Definitions.{and_found, found_by, found_at, copied_by, copied_at, places_in, places_or, places_at, places_from, is_marked}
 use Rattle.dom_observers.specs.Definitions.{IsNearest, is_above, among, AreThinned, AreNoted, IsPlaceOf}
 use Rattle.dom_observers.proofs.Ascending.{climbs}
-use Rattle.dom_observers.proofs.Folds.{filter-filter, fold-append, eqb-turned}
+use Rattle.dom_observers.proofs.Folds.{filter-filter, eqb-turned}
 use Rattle.dom_observers.proofs.Gathering.{fold-passing, fold-lacking, walk-copies}
 use Rattle.dom_observers.proofs.Leaving.{there-got, there-raw, there-within, there-append, any-there}
 use Rattle.dom_observers.proofs.Thinning.{thinned-again, thinned-behind, thinned-left, thinned-stays, picked-thinned, places-within, places-more}
@@ -99,23 +99,6 @@ nothing_passes p [] e = refl
 nothing_passes p (x ∷ xs) e =
     let parts = or_parts (p x) (list_any p xs) e in
     cond-false (p x) (x ∷ filter p xs) (filter p xs) parts.0 ∙ nothing_passes p xs parts.1
-
--- and where it keeps nothing, nothing passes it
-none_kept : {X : Type 0} (p : X → Bool) (xs : List X) → filter p xs ≡ [] → list_any p xs ≡ false
-none_kept p [] e = refl
-none_kept p (x ∷ xs) e = by (p x) refl (none_kept p xs)
-  where
-    by : (b : Bool) → p x ≡ b → (filter p xs ≡ [] → list_any p xs ≡ false) → list_any p (x ∷ xs) ≡ false
-    by true h rest = let wrong = ap length (sym (cond-true (p x) (x ∷ filter p xs) (filter p xs) h) ∙ e) in absurd (omega (arith, wrong))
-    by false h rest = or_from (p x) (list_any p xs) h (rest (sym (cond-false (p x) (x ∷ filter p xs) (filter p xs) h) ∙ e))
-
--- a fold over what does not pass changes nothing
-fold-stays : {A B : Type 0} (f : B → A → B) (p : A → Bool) → ((b : B) (x : A) → p x ≡ false → f b x ≡ b) → (b : B) (xs : List A) →
-    list_any p xs ≡ false → fold f b xs ≡ b
-fold-stays f p stays b [] e = refl
-fold-stays f p stays b (x ∷ xs) e =
-    let parts = or_parts (p x) (list_any p xs) e in
-    ap (λ c. fold f c xs) (stays b x parts.0) ∙ fold-stays f p stays b xs parts.1
 
 -- none on a node that is not the target fits a change, if none on it observes what is below
 nothing_fits : (c : Change ℕ) (x : ℕ) (rs : List (Registration ℕ)) → eqb x (target_of c) ≡ false → list_any (is_above x) rs ≡ false
@@ -309,9 +292,8 @@ module _ {w : Watched} {rs : List Registered} (noted : AreNoted w rs) where
         → (x : ℕ) → list_any (λ r. eqb r.node x && p r) (those_there rs) ≡ false → (b : B) → fold f b (picked rs (places_at w x)) ≡ b
     adds_none f p stays x none b =
         ap (fold f b) (picked-on x)
-        ∙ fold-stays f p stays b (filter (λ r. eqb r.node x) (those_there rs))
-        (none_kept p (filter (λ r. eqb r.node x) (those_there rs))
-        (filter-filter p (λ r. eqb r.node x) (those_there rs) ∙ nothing_passes (λ r. eqb r.node x && p r) (those_there rs) none))
+        ∙ (fold-passing f f p (λ c r e. refl) stays b (filter (λ r. eqb r.node x) (those_there rs))
+        ∙ ap (fold f b) (filter-filter p (λ r. eqb r.node x) (those_there rs) ∙ nothing_passes (λ r. eqb r.node x && p r) (those_there rs) none))
 
     module _ {slice : List Registered} (list : slice ≡ rs) where
       -- what is found on the nodes that are looked at is what is found on the whole path
@@ -347,7 +329,11 @@ all-now {n = n} is short = subst (λ (xs : List Registered). length xs ≤ n) is
 
 -- ---- the walk upwards
 
--- where no node is marked there is none
+-- there is none where none is marked
+pub none_near : {f : NamedTrees} {m : Marks} {from : Option ℕ} → filter (is_marked m) (keys_from f from) ≡ [] → IsNearest f m from None
+none_near none = record { node = λ k e. absurd (none-some k e); marked = λ k e. absurd (none-some k e); others = none }
+
+-- no node is
 pub none_marked : (xs : List ℕ) → filter (is_marked Empty) xs ≡ []
 none_marked [] = refl
 none_marked (x ∷ xs) = none_marked xs

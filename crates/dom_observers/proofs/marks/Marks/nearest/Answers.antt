@@ -1,6 +1,7 @@
-use Rattle.dom_base.proofs.Std.{◌∷◌, refl, sym, ap, ◌∙◌, subst, same_Some, none-some, filter, cond-false, ◌≡◌, true}
+use Rattle.dom_base.proofs.Std.{◌∷◌, refl, sym, ap, ◌∙◌, subst, same_Some, filter, cond-false, ◌≡◌, true}
 use Rattle.dom_observers.specs.Definitions.{keys_from, is_marked}
 use Rattle.dom_observers.proofs.Ascending.{climbs, climbs-fewer}
+use Rattle.dom_observers.proofs.Watching.{none_near}
 use Rattle.dom_observers.proofs.marks.Marks.nearest.Goals as goal
 
 pub loop-at-init : goal.loop-at-init
@@ -41,8 +42,4 @@ returns-then-contains c =
     }
 
 pub returns : goal.returns
-returns c = record {
-  node = λ k e. absurd (none-some k e);
-  marked = λ k e. absurd (none-some k e);
-  others = c.loop-at.invariant.others ∙ ap (λ o. filter (is_marked c.args.self.now) (keys_from c.args.forest.now o)) c.in_default.is;
-}
+returns c = none_near (c.loop-at.invariant.others ∙ ap (λ o. filter (is_marked c.args.self.now) (keys_from c.args.forest.now o)) c.in_default.is)
