@@ -216,7 +216,7 @@ impl Slots {
     }
 
     /// Renews the lists of the slots in the tree in which a node stands, of a name alone if one is given, and adds those to the
-    /// signals whose lists were others.
+    /// signals whose lists were others. Where there is no such slot, no child of the host is looked at.
     fn renew_tree(
         &mut self,
         forest: &Forest,
@@ -234,7 +234,7 @@ impl Slots {
         let root = forest.root(node);
         let slots = slots_below(self.alloc, forest, root, name)?;
         match self.host_of(root) {
-            Some(host) if self.root_of(host) == Some(root) => {
+            Some(host) if !slots.is_empty() && self.root_of(host) == Some(root) => {
                 let waiting = waiting_below(self.alloc, forest, host, name)?;
                 self.renew_waiting(forest, &slots, waiting, signals)
             }
