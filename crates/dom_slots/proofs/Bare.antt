@@ -1,6 +1,6 @@
 -- Trees without slots, behind a step.
-use Rattle.dom_base.proofs.Std.{◌≡◌, inl, inr, ℕ, ◌<◌, Bool, true, false, not, ◌||◌, List, [], ◌∷◌, ◌++◌, Option, None, Some, length, refl, sym, ap, subst, ◌∙◌}
-use Rattle.dom_base.proofs.Std.{true≢false, is_none, nat_eq, if◌then◌else◌, unwrap_or, option_map, option_map_or, and_parts, false_from_ne_true}
+use Rattle.dom_base.proofs.Std.{◌≡◌, ◌≢◌, inl, inr, ℕ, ◌<◌, Bool, true, false, not, ◌||◌, List, [], ◌∷◌, ◌++◌, Option, None, Some, length, refl, sym, ap, ◌∙◌}
+use Rattle.dom_base.proofs.Std.{subst, true≢false, is_none, nat_eq, if◌then◌else◌, unwrap_or, option_map, option_map_or, and_parts, false_from_ne_true}
 use Rattle.dom_base.proofs.Std.{eqb-true, eq-eqb, get_or_from_slice_get, slice_get_within}
 use Rattle.dom_model.proofs.Model.{NodeName, Page, node_of, is_empty, first_of, last_of, is_slot_element, slots_among, Trees, none, tree, Node, nodes}
 use Rattle.dom_model.proofs.Model.{roots, names_of, node_in, subtree, parent_of, root_of, children_of, trees_below, inclusive_descendants, with_attribute}
@@ -190,11 +190,10 @@ module _ (was : Trees) (f : NamedTrees) (s : SlotsNow) (b : SlotChange) (ended :
           ((ended.slots.bare top mark).slots found.0 (slice_get_within f.names found.0 y found.1) (ap (root_of was) named ∙ root)))
 
   -- then its node is marked
-  pub bare-marked : (marks : List Bool) (top : ℕ)
-      → ((k : ℕ) → is_marked marks k ≡ (if nat_eq (step_node b.step) k then true else is_marked s.bare k)) → is_move b.step ≡ true →
-      is_marked s.bare top ≡ true → MovesNone f s.hosts b.step → AreBare f s.hosts marks
-  bare-marked marks top new moves mark still = marked-more f s.hosts s.bare marks (step_node b.step) new record {
-    hosted = (ended.slots.bare top mark).hosted;
+  pub bare-marked : (marks : List Bool) → ((k : ℕ) → is_marked marks k ≡ (if nat_eq (step_node b.step) k then true else is_marked s.bare k)) →
+      is_move b.step ≡ true → s.hosts ≢ [] → MovesNone f s.hosts b.step → AreBare f s.hosts marks
+  bare-marked marks new moves hosted still = marked-more f s.hosts s.bare marks (step_node b.step) new record {
+    hosted = hosted;
     node = node-within f.names b.step ended.nodes;
     slots = λ k within. none-at f.trees both.once_now x (none-moved still moves) (name_at f.names k) (there-now was f s b ended stands k within);
   } (bare-still still)

@@ -1,5 +1,5 @@
 -- What a step inside of a shadow tree renews and signals.
-use Rattle.std.specs.Prelude.{◌≡◌, ◌⊎◌, ℕ, ◌<◌, Bool, true, false, ◌&&◌, List, [], ◌∷◌, ◌++◌, filter, map, length}
+use Rattle.std.specs.Prelude.{◌≡◌, ◌⊎◌, ℕ, ◌<◌, Bool, true, false, ◌&&◌, List, [], ◌∷◌, ◌++◌, filter, map, length, All}
 use Rattle.std.specs.Prelude.{Option, None, Some, option_map, option_to_list, if◌then◌else◌}
 use Rattle.std.specs.Option.{option_map_or}
 use Rattle.dom_base.specs.declared.NodeName.{NodeName}
@@ -10,8 +10,11 @@ use Rattle.dom_tree.specs.Forest.{NamedTrees, name_at}
 use Rattle.dom_slots.specs.Hosts.{ShadowHost}
 use Rattle.dom_slots.specs.Renewals.{AreRenewed}
 use Rattle.dom_slots.specs.Shadows.{shadows, slot_at, is_bare_at, assigned_at}
-use Rattle.dom_slots.specs.Steps.{step_node, is_move, around_of, left_behind}
+use Rattle.dom_slots.specs.Steps.{step_node, is_apart, is_move, around_of, left_behind}
 use Rattle.dom_slots.specs.Tables.{SlotTable, list_of}
+use Rattle.dom_slots.specs.declared.slots.bare.Moved.{Moved}
+use Rattle.dom_slots.specs.declared.slots.bare.Moved.TheVariants.{NoSlot, Apart, Slots}
+use Rattle.dom_slots.specs.declared.step.SlotChange.{SlotChange}
 use Rattle.dom_slots.specs.declared.step.Step.{Step}
 
 -- whether a slot is of a name, if there is one
@@ -26,6 +29,12 @@ is_slot_called ts name y = is_slot_element (node_in ts y) && is_called ts name y
 abbrev pub MovesCalled : NamedTrees → Step → Option DomString → Type 0
 MovesCalled f step name = (y : NodeName) → is_called f.trees name y ≡ false → (is_move step ≡ true) × ((z : NodeName) →
     is_in name_eq z (slots_among (subtree f.trees (name_at f.names (step_node step)))) ≡ true → is_called f.trees name z ≡ true)
+
+-- whether it is known that no slot was moved or changed
+abbrev pub is_nothing : Moved → Bool
+is_nothing NoSlot = true
+is_nothing Apart = false
+is_nothing (Slots v) = false
 
 -- the slots of the tree in which a node stands
 abbrev pub tree_slots : Trees → NodeName → List NodeName
@@ -52,6 +61,14 @@ module _ (f : NamedTrees) (hosts : List ShadowHost) where
   abbrev pub MovesNone : Step → Type 0
   MovesNone step = (slots_among (subtree f.trees (name_at f.names (step_node step))) ≡ []) ⊎
       ((is_move step ≡ false) × (is_slot_element (node_in f.trees (name_at f.names (step_node step))) ≡ false))
+
+  -- what is known of a step holds: it moves no slot; or it was made outside of shadow trees; or these are the slots that it moves,
+  -- or those below a slot whose attributes it changes
+  abbrev pub IsMoved : SlotChange → Moved → Type 0
+  IsMoved c NoSlot = MovesNone c.step
+  IsMoved c Apart = is_apart (shadows f hosts) (name_at f.names (step_node c.step)) (option_map (name_at f.names) c.left) ≡ true
+  IsMoved c (Slots v) = (map (name_at f.names) v.items ≡ slots_among (subtree f.trees (name_at f.names (step_node c.step)))) ×
+      All (λ k. k < length f.names) v.items
 
   -- the lists of slots are right in a table
   abbrev pub AreRight : List NodeName → SlotTable → Type 0

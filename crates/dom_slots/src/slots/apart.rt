@@ -1,5 +1,5 @@
 //! Steps that are made outside of shadow trees.
-ghost use Rattle.std.specs.Prelude.{◌≡◌, ◌&&◌, not};
+ghost use Rattle.std.specs.Prelude.{◌≡◌};
 ghost use Rattle.std.specs.Option.{option_map, ForSome};
 ghost use Rattle.dom_tree.specs.Forest.{IsNode, name_of};
 ghost use Rattle.dom_slots.specs.Hosts.{HostsAreNodes};
@@ -12,18 +12,6 @@ use dom_tree::Forest;
 use node_arena::Key;
 
 impl Slots {
-    /// Whether a step that is done was made outside of shadow trees, and is to be told from one inside by that: a step of which it
-    /// is known that it moves no slot is not (own rule).
-    pub(super) fn is_far(&self, forest: &Forest, step: Step, left: Option<Key>, still: bool) -> bool
-        requires hosts { HostsAreNodes forest.now.names self.now.hosts }
-        requires nodes { StepHasNodes forest.now.names step }
-        requires left { ForSome left (IsNode forest.now) }
-        ensures { result ≡ (not still && is_apart (shadows forest.now self.now.hosts)
-            (name_of forest.now (step_node step)) (option_map (name_of forest.now) left)) }
-    {
-        !still && self.is_apart(forest, step, left)
-    }
-
     /// Whether a step that is done was made outside of shadow trees: its node is no shadow root, and neither the parent that
     /// the node left nor the one that it has now stands in a shadow tree (own rule). It costs a look at each of them and the
     /// ways up to their roots.

@@ -1,10 +1,10 @@
 //! Steps that are made inside of shadow trees.
-ghost use Rattle.std.specs.Prelude.{◌≡◌, ◌⊎◌, ◌++◌, [], true, false, Bool as Truth, List, map, filter, All, OnOk, IfOk};
+ghost use Rattle.std.specs.Prelude.{◌≡◌, ◌++◌, [], true, false, Bool as Truth, List, map, filter, All, OnOk, IfOk};
 ghost use Rattle.std.specs.Option.{option_map, ForSome};
 ghost use Rattle.dom_base.specs.declared.NodeName.{NodeName as Name};
 ghost use Rattle.dom_model.specs.Names.{name_eq, is_in};
-ghost use Rattle.dom_model.specs.Slots.{is_slot_element, slots_among};
-ghost use Rattle.dom_model.specs.Tree.{node_in, subtree};
+ghost use Rattle.dom_model.specs.Slots.{slots_among};
+ghost use Rattle.dom_model.specs.Tree.{subtree};
 ghost use Rattle.dom_tree.specs.Forest.{IsNode, name_of};
 ghost use Rattle.dom_slots.specs.Hosts.{HostsAreNodes};
 ghost use Rattle.dom_slots.specs.Insides.{is_called, tree_slots, bare_around, left_slots, AreRight, AreSilent, MovesNone, MovesCalled, MayMove, IsInside};
@@ -24,39 +24,8 @@ use smallvec::SmallVec;
 use std::alloc::AllocError;
 
 impl Slots {
-    /// Renews the lists that a step inside of a shadow tree may have changed, and gives the slots that it signals: the
-    /// old and the new slot of its node, the node around, and where a slot was moved or changed those of the trees that it
-    /// concerns. It may be known that the step moved no slot.
-    pub(super) fn inside_signals(
-        &mut self,
-        forest: &Forest,
-        change: SlotChange,
-        still: bool,
-    ) -> Result<SmallVec<Key, 2>, AllocError>
-        requires hosts { HostsAreNodes forest.now.names self.old.hosts }
-        requires nodes { StepHasNodes forest.now.names change.step }
-        requires left { ForSome change.left (IsNode forest.now) }
-        requires slot { ForSome change.slot (IsNode forest.now) }
-        requires still { still ≡ true → MovesNone forest.now self.old.hosts change.step }
-        ensures hosts { IfOk result (λ keys. self.new.hosts ≡ self.old.hosts) }
-        ensures renewed { (p : Name → Truth) →
-            (MovesNone forest.now self.old.hosts change.step → IsButFor forest.now self.old.hosts self.old.table change.slot change.step) →
-            AreRenewed forest.now self.old.hosts p self.old.table [] [] self.old.table [] →
-            IfOk result (λ keys. IsInside forest.now self.old.hosts p self.old.table change.step change.left change.slot self.new.table keys.items) }
-    {
-        let kept = change;
-        if still {
-            return self.still_signals(forest, change);
-        }
-        let moved = self.moved_slots(forest, kept)?;
-        if moved.is_empty() {
-            return self.still_signals(forest, change);
-        }
-        self.stirred_signals(forest, change, &moved)
-    }
-
     /// The slots that a step inside a shadow tree signals, where it moved or changed no slot.
-    fn still_signals(
+    pub(super) fn still_signals(
         &mut self,
         forest: &Forest,
         change: SlotChange,
@@ -81,7 +50,7 @@ impl Slots {
     }
 
     /// The slots that a step inside a shadow tree signals, where these slots were moved or may have been changed.
-    fn stirred_signals(
+    pub(super) fn stirred_signals(
         &mut self,
         forest: &Forest,
         change: SlotChange,
@@ -198,21 +167,6 @@ impl Slots {
             return Ok(());
         }
         self.renew(forest, moved, signals)
-    }
-
-    /// The slots that a step moves, or the slots below a slot whose attributes it changes.
-    fn moved_slots(&self, forest: &Forest, change: SlotChange) -> Result<Vec<Key>, AllocError>
-        requires { StepHasNodes forest.now.names change.step }
-        ensures value { IfOk result (λ keys.
-            (map (name_of forest.now) keys.items ≡ slots_among (subtree forest.now.trees (name_of forest.now (step_node change.step))))
-            ⊎ ((keys.items ≡ []) × (is_move change.step ≡ false) ×
-            (is_slot_element (node_in forest.now.trees (name_of forest.now (step_node change.step))) ≡ false))) }
-        ensures nodes { IfOk result (λ keys. All (IsNode forest.now) keys.items) }
-    {
-        if !change.step.is_move() && !is_slot(forest, change.step.node()) {
-            return Ok(Vec::new(self.alloc));
-        }
-        slots_below(self.alloc, forest, change.step.node(), None)
     }
 
     /// Renews the lists of the slots in the tree in which a node stands, of a name alone if one is given, and adds those to the

@@ -1,11 +1,11 @@
 //! Steps that are begun and ended, and the slots that they signal.
-ghost use Rattle.std.specs.Prelude.{◌≡◌, [], true, Bool as Truth, map, filter, All, OnOk, IfOk};
+ghost use Rattle.std.specs.Prelude.{◌≡◌, ◌≢◌, [], true, false, Bool as Truth, map, filter, All, OnOk, IfOk};
 ghost use Rattle.std.specs.Option.{ForSome};
 ghost use Rattle.dom_base.specs.declared.NodeName.{NodeName as Name};
 ghost use Rattle.dom_model.specs.Tree.{Trees};
 ghost use Rattle.dom_tree.specs.Forest.{IsNode, name_of};
 ghost use Rattle.dom_slots.specs.Hosts.{HostsAreNodes};
-ghost use Rattle.dom_slots.specs.Insides.{own_slots, MovesNone};
+ghost use Rattle.dom_slots.specs.Insides.{own_slots, IsMoved};
 ghost use Rattle.dom_slots.specs.Kept.{AreSlotsOf, IsBegun, IsEndOf};
 ghost use Rattle.dom_slots.specs.Renewals.{AreRenewed};
 ghost use Rattle.dom_slots.specs.Shadows.{shadows, shadow_trees};
@@ -13,7 +13,7 @@ ghost use Rattle.dom_slots.specs.Steps.{StepHasNodes, step_node, step_signals};
 ghost use Rattle.dom_slots.specs.Tables.{SlotTable, IsTableOf};
 ghost use Rattle.dom_slots.specs.declared.step.Step.{Step as StepOf};
 
-use super::bare::follow;
+use super::bare::Moved;
 use crate::Slots;
 use crate::marks::Marks;
 use crate::step::{SlotChange, Step};
@@ -46,14 +46,15 @@ impl Slots {
         }
     }
 
-    /// The slots that a step signals which has been done since it was begun, in order (own rule; DOM Standard, concept:
-    /// signal a slot change). Up to two of them take no memory. A value to which memory was refused is only dropped. Where there is no
-    /// host this costs one look. A step whose node is no slot, and has no child where it is moved, costs no way up to a root. Any
-    /// other one costs those from the parents that its node left and has now, and where one of them stands in a shadow tree that has
-    /// or had a slot a walk through what is moved. Where the parent is a host, its shadow tree is walked up to the first slot that its
-    /// node looks for; where that slot is another one than before, the list of the old one is read, and of the siblings behind the
-    /// node those up to the first that has the new one. Only where what is moved holds a slot, or a slot's attributes change, the
-    /// trees that were left and reached are walked, each once, and the children of their hosts are read once.
+    /// The slots that a step signals which has been done since it was begun, in order (own rule; DOM Standard, concept: signal a
+    /// slot change). Up to two of them take no memory. A value to which memory was refused is only dropped. Where there is no host
+    /// this costs one look. A step whose node is no slot, and has no child where it is moved, costs no way up to a root. Any other
+    /// one costs those from the parents that its node left and has now, and where one of them stands in a shadow tree a walk
+    /// through what is moved, unless it is known that the tree that it left has no slot. Where the parent is a host, its shadow
+    /// tree is walked up to the first slot that its node looks for; where that slot is another one than before, the list of the old
+    /// one is read, and of the siblings behind the node those up to the first that has the new one. Only where what is moved holds
+    /// a slot, or a slot's attributes change, the trees that were left and reached are walked, each once, and where they have such
+    /// a slot the children of their hosts are read once.
     pub fn end(
         &mut self,
         forest: &Forest,
@@ -73,21 +74,21 @@ impl Slots {
         }
         let mut bare = mem::replace(&mut self.bare, Marks::new(self.alloc));
         let kept = change;
-        let still = follow(&mut bare, forest, kept)?;
-        let signals = self.step_signals(forest, change, still)?;
+        let moved = self.follow(&mut bare, forest, kept)?;
+        let signals = self.step_signals(forest, change, moved)?;
         self.bare = bare;
         Ok(signals)
     }
 
-    /// The slots that a step signals which is done, where there are hosts. It may be known that the step moved no slot.
+    /// The slots that a step signals which is done, where there are hosts, by what it moved.
     fn step_signals(
         &mut self,
         forest: &Forest,
         change: SlotChange,
-        still: bool,
+        moved: Moved,
     ) -> Result<SmallVec<Key, 2>, AllocError>
         requires ended { (was : Trees) × IsEndOf was forest.now self.old change }
-        requires still { still ≡ true → MovesNone forest.now self.old.hosts change.step }
+        requires moved { IsMoved forest.now self.old.hosts change moved }
         ensures value { (was : Trees) → IsEndOf was forest.now self.old change →
             IfOk result (λ keys. map (name_of forest.now) keys.items ≡ step_signals forest.now.names
             (shadow_trees forest.now.names was self.old.hosts) (shadows forest.now self.old.hosts) change.step change.left) }
@@ -96,17 +97,19 @@ impl Slots {
         ensures table { OnOk result (IsTableOf forest.now self.old.hosts self.new.table) }
     {
         forest.law_nodes_stand_once();
-        let kept = change;
-        if self.is_far(forest, change.step, change.left, still) {
-            let node = change.step.node();
-            return self.moved_signals(forest, node, change.step.is_move(), change.slot);
+        let node = change.step.node();
+        let moves = change.step.is_move();
+        match moved {
+            Moved::NoSlot => self.still_signals(forest, change),
+            Moved::Apart => self.moved_signals(forest, node, moves, change.slot),
+            Moved::Slots(slots) => self.stirred_signals(forest, change, &slots),
         }
-        self.inside_signals(forest, kept, still)
     }
 
     /// Whether there is no host.
     fn is_hostless(&self) -> bool
-        ensures { result ≡ true → self.now.hosts ≡ [] }
+        ensures none { result ≡ true → self.now.hosts ≡ [] }
+        ensures some { result ≡ false → self.now.hosts ≢ [] }
     {
         self.hosts.is_empty()
     }

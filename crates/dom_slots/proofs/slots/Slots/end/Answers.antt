@@ -11,4 +11,4 @@ returns-then-is_hostless-clause-value c =
     ap (map (name_at f.names)) c.new.ensures.items
     ∙ (hostless-signals f.names was f.trees c.args.change.step c.args.change.left ∙
     ap (λ hs. step_signals f.names (shadow_trees f.names was hs) (shadow_trees f.names f.trees hs) c.args.change.step c.args.change.left)
-    (sym (c.is_hostless.ensures c.if-is_hostless.true)))
+    (sym (c.is_hostless.ensures.none c.if-is_hostless.true)))
