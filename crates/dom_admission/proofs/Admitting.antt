@@ -10,7 +10,7 @@ use Rattle.dom_admission.specs.declared.admission.Operand.{Operand}
 use Rattle.dom_admission.specs.Handled.{passing}
 use Rattle.dom_admission.specs.Refusals.{accepts_node, four_tests, node_named, name_named, is_counted, is_there_as, is_fit, is_kind_at, has_foreign, are_there}
 use Rattle.dom_admission.specs.Refusals.{are_fitting, early_refusal, IsLookedUp}
-use Rattle.dom_admission.proofs.Finding.{key_of, told_one}
+use Rattle.dom_admission.proofs.Finding.{told_here}
 
 -- a refusal that is handed on
 pub passing_err : {A : Type 0} {f : Fault} (q : Result A Fault) → IsErrAnd q (λ e. e ≡ f) → passing q ≡ Err f
@@ -33,7 +33,7 @@ module _ (s : DocState) (o : Owner) where
   pub kind_by_word : (n : Operand) (key : ℕ) (x : NodeWord) → node_named n ≡ Some x → name_in s key ≡ named (part_of s.world o) (word_view x) →
       is_kind_at s n key ≡ is_fit (part_of s.world o) n
   kind_by_word n key x is name =
-      told_one (λ p y. accepts_node n (node_in p.trees y)) (key_of s.world.turn s s refl o (word_view x) key name)
+      told_here s o (word_view x) key name (λ p y. accepts_node n (node_in p.trees y))
       ∙ sym (fit_by_word (part_of s.world o) n x is)
 
   kind_by_key : (n : Operand) (key : ℕ) → is_some (node_named n) ≡ true → name_in s key ≡ name_named (part_of s.world o) n →

@@ -104,3 +104,9 @@ module _ (t : Option Owner) (d now : DocState) (seen : turned t d ≡ now) (o : 
     mine = owner-named d.world o s;
     reads = read_own ts owned o (named (part_of d.world o) s) (owner-named d.world o s);
   }
+
+-- The same of a state itself: a key of the node that a line of an owner names.
+module _ (s : DocState) (o : Owner) (w : NodeWord) (key : ℕ) (is : name_at s.names key ≡ named (part_of s.world o) w) where
+  pub told_here : {A : Type 0} (f : Part → NodeName → A) →
+      f (part_of s.world (owner_in s key)) (name_in s key) ≡ f (part_of s.world o) (named (part_of s.world o) w)
+  told_here f = told_one f (key_of s.world.turn s s refl o w key is)

@@ -158,18 +158,6 @@ impl State {
         self.forest().document(key)
     }
 
-    /// The node document of the node that an owner's line names, if it has one.
-    pub fn document(&self, owner: Owner, node: NodeWord) -> Option<Key>
-        ensures value { option_map (name_in self.now)
-            result ≡ (node_in (part_of self.now.world owner).trees (named (part_of self.now.world owner) (word_view node))).document }
-        ensures node { ForSome result (HoldsNode self.now) }
-    {
-        match self.find(owner, node) {
-            Some(key) => self.document_of(key),
-            None => None,
-        }
-    }
-
     /// The node that an owner's line names, which is there.
     pub fn key(&self, owner: Owner, node: NodeWord) -> Key
         requires { has_node (part_of self.now.world owner).trees (named (part_of self.now.world owner) (word_view node)) ≡ true }

@@ -39,8 +39,7 @@ pub fn new_cursor(
     ensures names { KeepsNames state.old.names state.new.names result }
 {
     let (root, filter) = words;
-    state.admit(owner, &[Operand::Any(root)])?;
-    let root = state.key(owner, root);
+    let root = state.admit_one(owner, Operand::Any(root))?;
     let value = make(&mut state.doc, owner, cursor, root, node_filter(filter))?;
     state.accept(owner, &value, out)
 }

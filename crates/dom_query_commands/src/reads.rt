@@ -1,18 +1,16 @@
 //! The commands that ask where nodes stand.
-ghost use Rattle.std.specs.Prelude.{◌≡◌, ◌++◌, ◌∷◌, [], true, OnOk, IfOk};
+ghost use Rattle.std.specs.Prelude.{◌≡◌, ◌++◌, ◌∷◌, [], OnOk, IfOk};
 ghost use Rattle.std.specs.Option.{option_map, ForSome};
-ghost use Rattle.dom_model.specs.Tree.{has_node, subtree, parent_of, children_of, is_inclusive_ancestor};
+ghost use Rattle.dom_model.specs.Tree.{subtree, parent_of, children_of, is_inclusive_ancestor};
 ghost use Rattle.dom_model.specs.Command.{tree, parent, document_of, children, contains, connected};
-ghost use Rattle.dom_model.specs.CommandNames.{named};
 ghost use Rattle.dom_model.specs.Effects.{node_or_null};
 ghost use Rattle.dom_model.specs.Output.{says, replied, a_tree};
-ghost use Rattle.dom_model.specs.World.{part_of};
 ghost use Rattle.dom_text.specs.Text.{output_text};
 ghost use Rattle.dom_printer.specs.Replies.{value_view};
 ghost use Rattle.dom_reader.specs.Views.{word_view};
 ghost use Rattle.dom_tree.specs.Forest.{IsNode, name_of};
 ghost use Rattle.dom_admission.specs.Handled.{KeepsNames, IsHandled};
-ghost use Rattle.dom_mutation.specs.Doc.{HoldsNode, name_in};
+ghost use Rattle.dom_mutation.specs.Doc.{HoldsNode, name_in, trees_in};
 
 use crate::things;
 use crate::tree_text::tree_steps;
@@ -29,7 +27,7 @@ pub fn tree(state: &mut State, owner: Owner, node: NodeWord, out: &mut Vec<u8>) 
     ensures handled { IsHandled owner (tree (word_view node)) state.old.world state.new.world out.old.items out.new.items result }
     ensures names { KeepsNames state.old.names state.new.names result }
 {
-    state.admit(owner, &[Operand::Any(node)])?;
+    let node = state.admit_one(owner, Operand::Any(node))?;
     reply_tree(state, owner, node, out)?;
     state.open_turn(owner);
     Ok(())
@@ -45,8 +43,8 @@ pub fn parent(
     ensures handled { IsHandled owner (parent (word_view node)) state.old.world state.new.world out.old.items out.new.items result }
     ensures names { KeepsNames state.old.names state.new.names result }
 {
-    state.admit(owner, &[Operand::Any(node)])?;
-    let value = node_or_null(state, parent_of(state, owner, node));
+    let node = state.admit_one(owner, Operand::Any(node))?;
+    let value = node_or_null(state, parent_of(state, node));
     state.accept(owner, &value, out)
 }
 
@@ -60,8 +58,8 @@ pub fn document_of(
     ensures handled { IsHandled owner (document_of (word_view node)) state.old.world state.new.world out.old.items out.new.items result }
     ensures names { KeepsNames state.old.names state.new.names result }
 {
-    state.admit(owner, &[Operand::Any(node)])?;
-    let value = node_or_null(state, state.document(owner, node));
+    let node = state.admit_one(owner, Operand::Any(node))?;
+    let value = node_or_null(state, state.document_of(node));
     state.accept(owner, &value, out)
 }
 
@@ -75,8 +73,8 @@ pub fn children(
     ensures handled { IsHandled owner (children (word_view node)) state.old.world state.new.world out.old.items out.new.items result }
     ensures names { KeepsNames state.old.names state.new.names result }
 {
-    state.admit(owner, &[Operand::Any(node)])?;
-    let children = children_of(state, owner, node)?;
+    let node = state.admit_one(owner, Operand::Any(node))?;
+    let children = children_of(state, node)?;
     state.accept(owner, &Value::List(&children), out)
 }
 
@@ -91,8 +89,8 @@ pub fn contains(
     ensures handled { IsHandled owner (contains (word_view above) (word_view node)) state.old.world state.new.world out.old.items out.new.items result }
     ensures names { KeepsNames state.old.names state.new.names result }
 {
-    state.admit(owner, &[Operand::Any(above), Operand::Any(node)])?;
-    let truth = is_above(state, owner, above, node);
+    let (above, node) = state.admit_two(owner, Operand::Any(above), Operand::Any(node))?;
+    let truth = is_above(state, above, node);
     state.accept(owner, &Value::Truth(truth), out)
 }
 
@@ -106,26 +104,18 @@ pub fn connected(
     ensures handled { IsHandled owner (connected (word_view node)) state.old.world state.new.world out.old.items out.new.items result }
     ensures names { KeepsNames state.old.names state.new.names result }
 {
-    state.admit(owner, &[Operand::Any(node)])?;
-    let connected = state.doc.is_connected(state.key(owner, node));
+    let node = state.admit_one(owner, Operand::Any(node))?;
+    let connected = state.doc.is_connected(node);
     state.accept(owner, &Value::Truth(connected), out)
 }
 
-/// Puts the reply with the text of the tree of a node that is there.
-fn reply_tree(
-    state: &State,
-    owner: Owner,
-    node: NodeWord,
-    out: &mut Vec<u8>,
-) -> Result<(), AllocError>
-    requires { has_node (part_of state.now.world owner).trees (named (part_of state.now.world owner) (word_view node)) ≡ true }
+/// Puts the reply with the text of a node's tree.
+fn reply_tree(state: &State, owner: Owner, node: Key, out: &mut Vec<u8>) -> Result<(), AllocError>
+    requires { HoldsNode state.now node }
     ensures { OnOk result (out.new.items ≡ out.old.items ++
-        output_text (says owner (replied
-        (a_tree (subtree (part_of state.now.world owner).trees (named (part_of state.now.world owner) (word_view node))))) ∷ [])) }
+        output_text (says owner (replied (a_tree (subtree (trees_in state.now node) (name_in state.now node)))) ∷ [])) }
 {
-    let key = state.key(owner, node);
-    let forest = state.doc.forest();
-    let steps = tree_steps(state.alloc, forest, key)?;
+    let steps = tree_steps(state.alloc, state.forest(), node)?;
     put_tree(out, owner, &steps)
 }
 
@@ -137,36 +127,30 @@ fn node_or_null(state: &State, node: Option<Key>) -> Value<'static>
     things::node_or_null(&state.doc, node)
 }
 
-/// The parent of a node that is there.
-fn parent_of(state: &State, owner: Owner, node: NodeWord) -> Option<Key>
-    requires { has_node (part_of state.now.world owner).trees (named (part_of state.now.world owner) (word_view node)) ≡ true }
-    ensures value { option_map (name_in state.now) result ≡ parent_of (part_of state.now.world owner).trees
-        (named (part_of state.now.world owner) (word_view node)) }
+/// The parent of a node.
+fn parent_of(state: &State, node: Key) -> Option<Key>
+    requires { HoldsNode state.now node }
+    ensures value { option_map (name_in state.now) result ≡ parent_of (trees_in state.now node) (name_in state.now node) }
     ensures node { ForSome result (HoldsNode state.now) }
 {
-    let key = state.key(owner, node);
-    state.doc.forest().parent(key)
+    state.forest().parent(node)
 }
 
-/// The names of the children of a node that is there.
-fn children_of(state: &State, owner: Owner, node: NodeWord) -> Result<Vec<NodeName>, AllocError>
-    requires { has_node (part_of state.now.world owner).trees (named (part_of state.now.world owner) (word_view node)) ≡ true }
-    ensures { IfOk result (λ names. names.items ≡ children_of (part_of state.now.world owner).trees
-        (named (part_of state.now.world owner) (word_view node))) }
+/// The names of the children of a node.
+fn children_of(state: &State, node: Key) -> Result<Vec<NodeName>, AllocError>
+    requires { HoldsNode state.now node }
+    ensures { IfOk result (λ names. names.items ≡ children_of (trees_in state.now node) (name_in state.now node)) }
 {
-    let key = state.key(owner, node);
-    child_names(state.alloc, state.doc.forest(), key)
+    child_names(state.alloc, state.forest(), node)
 }
 
-/// Whether a node that is there is another one or stands above it.
-fn is_above(state: &State, owner: Owner, above: NodeWord, node: NodeWord) -> bool
-    requires above_is_there { has_node (part_of state.now.world owner).trees (named (part_of state.now.world owner) (word_view above)) ≡ true }
-    requires node_is_there { has_node (part_of state.now.world owner).trees (named (part_of state.now.world owner) (word_view node)) ≡ true }
-    ensures { result ≡ is_inclusive_ancestor (part_of state.now.world owner).trees (named (part_of state.now.world owner) (word_view above))
-        (named (part_of state.now.world owner) (word_view node)) }
+/// Whether a node is another one or stands above it.
+fn is_above(state: &State, above: Key, node: Key) -> bool
+    requires above_is_node { HoldsNode state.now above }
+    requires node_is_node { HoldsNode state.now node }
+    ensures { result ≡ is_inclusive_ancestor (trees_in state.now node) (name_in state.now above) (name_in state.now node) }
 {
-    let (above, node) = (state.key(owner, above), state.key(owner, node));
-    state.doc.forest().is_inclusive_ancestor(above, node)
+    state.forest().is_inclusive_ancestor(above, node)
 }
 
 /// The names of the children of a node, along the links from sibling to sibling.

@@ -1,15 +1,23 @@
-use Rattle.dom_base.proofs.Std.{◌∷◌, [], ap, refl}
-use Rattle.dom_model.proofs.Model.{answers, a_truth}
+use Rattle.dom_base.proofs.Std.{◌∷◌, ◌∙◌, [], ap, refl}
+use Rattle.dom_model.proofs.Model.{NodeName, answers, a_truth, is_inclusive_ancestor, named, part_of}
+use Rattle.dom_mutation.specs.Definitions.{name_in, trees_in}
+use Rattle.dom_reader.specs.Views.{word_view}
 use Rattle.dom_admission.specs.declared.admission.Operand.TheVariants.{Any}
+use Rattle.dom_admission.proofs.Finding.{told_here}
 use Rattle.dom_admission.proofs.Handling.{may_act, reads, refused}
 use Rattle.dom_admission.proofs.Refusing.{namings}
 use Rattle.dom_query_commands.proofs.reads.contains.Goals as goal
 
-pub returns-in_err-admit-clause-handled : goal.returns-in_err-admit-clause-handled
-returns-in_err-admit-clause-handled c =
-    refused _ _ _ (Any c.args.above ∷ Any c.args.node ∷ []) _ _ (search namings) c.admit.ensures c.in_err-admit.was c.from_residual.ensures.1
+pub returns-in_err-above-clause-handled : goal.returns-in_err-above-clause-handled
+returns-in_err-above-clause-handled c =
+    refused _ _ _ (Any c.args.above ∷ Any c.args.node ∷ []) _ _ (search namings) c.in_err-above.ensures.passed refl c.from_residual.ensures.1
 
 pub returns-clause-handled : goal.returns-clause-handled
 returns-clause-handled c =
-    reads (may_act _ _ _ (Any c.args.above ∷ Any c.args.node ∷ []) (search namings) c.admit.ensures c.in_ok-admit.was) _ _ _ _ refl refl
-    (ap (answers _) (ap a_truth c.is_above-truth.ensures)) c.accept.ensures.done
+    let s = c.args.state.now in
+    let keys = c.in_ok-above.ensures in
+    let above = named (part_of s.world c.args.owner) (word_view c.args.above) in
+    reads (may_act _ _ _ (Any c.args.above ∷ Any c.args.node ∷ []) (search namings) keys.passed refl) _ _ _ _ refl refl
+    (ap (answers _) (ap a_truth (c.is_above-truth.ensures
+    ∙ ap (λ (y : NodeName). is_inclusive_ancestor (trees_in s c.in_ok-above.node) y (name_in s c.in_ok-above.node)) keys.first.name
+    ∙ told_here s _ _ _ keys.second.name (λ p x. is_inclusive_ancestor p.trees above x)))) c.accept.ensures.done

@@ -1,18 +1,22 @@
-use Rattle.dom_base.proofs.Std.{◌∙◌, ap}
-use Rattle.dom_model.proofs.Model.{NodeName, named, is_in, name_eq, is_inclusive_ancestor, part_of}
-use Rattle.dom_reader.specs.Views.{word_view}
+use Rattle.dom_base.proofs.Std.{◌∙◌, List, ap}
+use Rattle.dom_model.proofs.Model.{NodeName, is_in, name_eq, is_inclusive_ancestor}
+use Rattle.dom_mutation.specs.Definitions.{name_in}
 use Rattle.dom_tree.specs.Definitions.{name_at}
-use Rattle.dom_admission.proofs.Finding.{read_at, read_by_key}
+use Rattle.dom_admission.proofs.Finding.{read_of}
 use Rattle.dom_query_commands.proofs.reads.is_above.Goals as goal
+
+pub is_inclusive_ancestor-requires-clause-above_is_node : goal.is_inclusive_ancestor-requires-clause-above_is_node
+is_inclusive_ancestor-requires-clause-above_is_node c = rw (c.forest.ensures.names) c.requires.above_is_node
+
+pub is_inclusive_ancestor-requires-clause-key_is_node : goal.is_inclusive_ancestor-requires-clause-key_is_node
+is_inclusive_ancestor-requires-clause-key_is_node c = rw (c.forest.ensures.names) c.requires.node_is_node
 
 pub returns : goal.returns
 returns c =
-    let f = c.forest.result.now in
-    let w = c.state.inside.doc.world in
-    let a = named (part_of w c.args.owner) (word_view c.args.above) in
-    let shown = c.forest.ensures in
-    let above = read_by_key _ c.state.inside.doc _ c.state.view_is _ _ _ c.key-above.ensures.name _ shown.names shown.owned shown.trees in
-    let node = read_by_key _ c.state.inside.doc _ c.state.view_is _ _ _ c.key-node.ensures.name _ shown.names shown.owned shown.trees in
-    rw (← c.state.view_is)
-    (c.is_inclusive_ancestor.ensures ∙ ap (λ (y : NodeName). is_inclusive_ancestor f.trees y (name_at f.names c.key-node.result)) above.here
-    ∙ read_at (λ ts y. is_inclusive_ancestor ts a y) f.trees node.here node.trees (ap (is_in name_eq a) node.reads.path))
+    let s = c.args.state.now in
+    let now = c.forest.result.now in
+    let f = c.forest.ensures in
+    let above = name_in s c.args.above in
+    c.is_inclusive_ancestor.ensures
+    ∙ ap (λ (names : List NodeName). is_inclusive_ancestor now.trees (name_at names c.args.above) (name_at now.names c.args.node)) f.names
+    ∙ read_of s _ (λ ts y. is_inclusive_ancestor ts above y) f.names f.owned f.trees (λ o x own. ap (is_in name_eq above) own.path)

@@ -1,16 +1,17 @@
-use Rattle.dom_base.proofs.Std.{◌∷◌, [], Ok, refl}
-use Rattle.dom_model.proofs.Model.{Command}
-use Rattle.dom_admission.specs.declared.admission.Operand.TheVariants.{Any}
+use Rattle.dom_base.proofs.Std.{◌∷◌, [], Ok, ap, refl}
+use Rattle.dom_model.proofs.Model.{Command, a_tree, answers, subtree}
 use Rattle.dom_reader.specs.Views.{word_view}
+use Rattle.dom_admission.specs.declared.admission.Operand.TheVariants.{Any}
+use Rattle.dom_admission.proofs.Finding.{told_here}
 use Rattle.dom_admission.proofs.Handling.{may_act, reads, refused}
 use Rattle.dom_admission.proofs.Refusing.{namings}
 use Rattle.dom_query_commands.proofs.reads.tree.Goals as goal
 
-pub returns-in_err-admit-clause-handled : goal.returns-in_err-admit-clause-handled
-returns-in_err-admit-clause-handled c = refused _ _ _ (Any c.args.node ∷ []) _ _ (search namings) c.admit.ensures c.in_err-admit.was c.from_residual.ensures.1
+pub returns-in_err-node-clause-handled : goal.returns-in_err-node-clause-handled
+returns-in_err-node-clause-handled c = refused _ _ _ (Any c.args.node ∷ []) _ _ (search namings) c.in_err-node.ensures.passed refl c.from_residual.ensures.1
 
 pub returns-clause-handled : goal.returns-clause-handled
 returns-clause-handled c =
-    reads {c = Command.tree (word_view c.args.node)} (may_act _ _ _ (Any c.args.node ∷ []) (search namings) c.admit.ensures c.in_ok-admit.was) _ _ _
-    (Ok tt) refl refl
-    refl (refl, c.open_turn.ensures.world, c.in_ok-reply_tree.ensures)
+    reads {c = Command.tree (word_view c.args.node)} (may_act _ _ _ (Any c.args.node ∷ []) (search namings) c.in_ok-node.ensures.passed refl) _ _ _
+    (Ok tt) refl refl (ap (answers _) (ap a_tree (told_here c.args.state.now _ _ _ c.in_ok-node.ensures.key.name (λ p x. subtree p.trees x))))
+    (refl, c.open_turn.ensures.world, c.in_ok-reply_tree.ensures)
