@@ -6,8 +6,8 @@ pub use Rattle.dom_model.proofs.Model.{changes, component_made, is_document, is_
 pub use Rattle.dom_model.proofs.Model.{normalizing, observed, own, own_document, part_of, past_end, past_limit, pre_insert_plan, pre_insert_refusal}
 pub use Rattle.dom_model.proofs.Model.{remove_plan, replace_plan, replace_refusal, replacing_all_data, replacing_data, setting_attribute, setting_text}
 pub use Rattle.dom_model.proofs.Model.{shadow_root_of, splitting, string_or_null, unsetting_attribute, world_after}
-pub use Rattle.dom_admission.proofs.Finding.{key_of, no_node-absent, read_of, told_one}
-pub use Rattle.dom_admission.proofs.Handling.{asks, faults, makes, may_act, one_there, opened-same, passes, plans, reads, refused}
+pub use Rattle.dom_admission.proofs.Finding.{key_of, no_node-absent, read_of, told_here, told_one}
+pub use Rattle.dom_admission.proofs.Handling.{asks, faults, makes, may_act, opened-same, plans, reads, refused}
 pub use Rattle.dom_admission.proofs.OwnRefusals.{held, lone_passes, lone_refuses, none_refused, none_stopped, refuses, unless}
 pub use Rattle.dom_admission.proofs.Refusing.{naming-assigned, namings}
 pub use Rattle.dom_admission.specs.Turned.{with_turn}

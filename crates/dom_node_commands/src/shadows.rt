@@ -73,8 +73,8 @@ pub fn assigned(
     if is_page(owner) {
         return Err(Fault::Refused(Refusal::Syntax));
     }
-    state.admit(owner, &[Operand::Slot(slot)])?;
-    let nodes = assigned_to(state, state.key(owner, slot))?;
+    let slot = state.admit_one(owner, Operand::Slot(slot))?;
+    let nodes = assigned_to(state, slot)?;
     state.accept(owner, &Value::List(&nodes), out)
 }
 

@@ -1,5 +1,5 @@
-use Rattle.dom_node_commands.proofs.Handlers.{◌∙◌, Node, Some, ap, if◌then◌else◌, is_document, is_some, key_of, name_in}
-use Rattle.dom_node_commands.proofs.Handlers.{no_node-absent, node_in, node_of, option_map, own, own_document, part_of, refl, sym, told_one, trees_in}
+use Rattle.dom_node_commands.proofs.Handlers.{◌∙◌, Node, Some, ap, if◌then◌else◌, is_document, is_some, name_in}
+use Rattle.dom_node_commands.proofs.Handlers.{no_node-absent, node_in, node_of, option_map, own, own_document, part_of, sym, told_here, trees_in}
 use Rattle.dom_node_commands.proofs.making.first_document.Goals as goal
 
 pub returns-in_err-first-clause-value : goal.returns-in_err-first-clause-value
@@ -17,7 +17,7 @@ returns-then-is_document-clause-value c =
     let s = c.args.state.now in
     let said = sym c.if-is_document.true ∙ c.is_document.ensures ∙ ap is_document c.kind.ensures in
     (λ j. if said j then Some (name_in s c.in_ok-first.first) else (node_in (trees_in s c.in_ok-first.first) (name_in s c.in_ok-first.first)).document)
-    ∙ told_one {w = own 0} (λ p x. own_document p.trees x) (key_of s.world.turn s s refl _ _ _ (c.find.ensures.found _ c.in_ok-first.was).1)
+    ∙ told_here s _ (own 0) _ (c.find.ensures.found _ c.in_ok-first.was).1 (λ p x. own_document p.trees x)
 
 pub returns-else-is_document-clause-value : goal.returns-else-is_document-clause-value
 returns-else-is_document-clause-value c =
@@ -25,4 +25,4 @@ returns-else-is_document-clause-value c =
     let said = sym c.if-is_document.false ∙ c.is_document.ensures ∙ ap is_document c.kind.ensures in
     c.document_of.ensures.value
     ∙ (λ j. if said j then Some (name_in s c.in_ok-first.first) else (node_in (trees_in s c.in_ok-first.first) (name_in s c.in_ok-first.first)).document)
-    ∙ told_one {w = own 0} (λ p x. own_document p.trees x) (key_of s.world.turn s s refl _ _ _ (c.find.ensures.found _ c.in_ok-first.was).1)
+    ∙ told_here s _ (own 0) _ (c.find.ensures.found _ c.in_ok-first.was).1 (λ p x. own_document p.trees x)

@@ -1,19 +1,16 @@
-use Rattle.dom_node_commands.proofs.Handlers.{◌∙◌, ◌∷◌, Slot, [], a_list, ap, asks, assigned_nodes, may_act, named, naming-assigned, one_there, opened-same}
-use Rattle.dom_node_commands.proofs.Handlers.{part_of, passes, refl, refused, sym, word_view}
+use Rattle.dom_node_commands.proofs.Handlers.{◌∙◌, ◌∷◌, Slot, [], a_list, ap, asks, assigned_nodes, may_act, named, naming-assigned, opened-same}
+use Rattle.dom_node_commands.proofs.Handlers.{part_of, refl, refused, sym, word_view}
 use Rattle.dom_node_commands.proofs.shadows.assigned.Goals as goal
 
-pub returns-in_err-admit-clause-handled : goal.returns-in_err-admit-clause-handled
-returns-in_err-admit-clause-handled c =
-    refused _ _ _ (Slot c.args.slot ∷ []) _ _ (naming-assigned _ (sym c.is_page.ensures ∙ c.if-is_page.false) _) c.admit.ensures c.in_err-admit.was
+pub returns-in_err-slot-clause-handled : goal.returns-in_err-slot-clause-handled
+returns-in_err-slot-clause-handled c =
+    refused _ _ _ (Slot c.args.slot ∷ []) _ _ (naming-assigned _ (sym c.is_page.ensures ∙ c.if-is_page.false) _) c.in_err-slot.ensures.passed refl
     c.from_residual.ensures.1
 
 pub returns-clause-handled : goal.returns-clause-handled
 returns-clause-handled c =
     let w = c.args.state.now.world in
     let opens = opened-same (λ u. assigned_nodes u (named (part_of u c.args.owner) (word_view c.args.slot))) w c.args.owner (λ t. refl) in
-    asks (may_act _ _ _ (Slot c.args.slot ∷ []) (naming-assigned _ (sym c.is_page.ensures ∙ c.if-is_page.false) _) c.admit.ensures
-    c.in_ok-admit.was) _ _ _ _ refl refl
-    (ap a_list (c.deref.ensures.value ∙ c.in_ok-nodes.ensures ∙ ap (assigned_nodes w) c.key.ensures.name ∙ opens)) c.accept.ensures.done
-
-pub key-requires : goal.key-requires
-key-requires c = one_there (passes c.args.state.now.world c.args.owner (Slot c.args.slot ∷ []) c.admit.ensures c.in_ok-admit.was)
+    asks (may_act _ _ _ (Slot c.args.slot ∷ []) (naming-assigned _ (sym c.is_page.ensures ∙ c.if-is_page.false) _) c.in_ok-slot.ensures.passed
+    refl) _ _ _ _ refl refl
+    (ap a_list (c.deref.ensures.value ∙ c.in_ok-nodes.ensures ∙ ap (assigned_nodes w) c.in_ok-slot.ensures.key.name ∙ opens)) c.accept.ensures.done
