@@ -1,12 +1,8 @@
 -- Hosts that belong to less deep owners than their shadow roots: their shadow trees lie in one another as a path asks.
-use Rattle.dom_base.proofs.Std.{◌≡◌, ℕ, zero, suc, ◌≤◌, ◌<◌, true, false, List, [], ◌∷◌, find, Option, Some, None, refl, sym, ap, ◌∙◌, arith, true≢false}
-use Rattle.dom_base.proofs.Std.{IsTrue, is_some, option_map, AllByRecursion, cond-true, cond-false}
-use Rattle.dom_model.proofs.Model.{NodeName, name_eq, owner_depth, parent_of, root_of, name_eq-same, name_eq-true}
-use Rattle.dom_worlds.proofs.ListLemmas.{by_cases}
-use Rattle.dom_tree.specs.Definitions.{NamedTrees, name_at}
-use Rattle.dom_tree.proofs.Owned.{stays_own}
-use Rattle.dom_slots.specs.Definitions.{ShadowHost, host_named, root_named, ShadowTrees, shadows}
-use Rattle.dom_path.specs.Definitions.{IsHosted, IsAttached, AreApart, AreAttached, host_above_at, EndsWithin}
+use Rattle.dom_path.proofs.Cited.{◌≡◌, ℕ, zero, suc, ◌≤◌, ◌<◌, true, false, List, [], ◌∷◌, find, Option, Some, None, refl, sym, ap, ◌∙◌, arith, true≢false}
+use Rattle.dom_path.proofs.Cited.{IsTrue, is_some, option_map, AllByRecursion, cond-true, cond-false, NodeName, name_eq, owner_depth, parent_of, root_of}
+use Rattle.dom_path.proofs.Cited.{name_eq-same, name_eq-true, by_cases, NamedTrees, name_at, stays_own, ShadowHost, host_named, root_named, ShadowTrees}
+use Rattle.dom_path.proofs.Cited.{shadows, IsHosted, IsAttached, AreApart, AreAttached, host_above_at, EndsWithin}
 use Rattle.dom_path.proofs.Places.{ends-outside}
 
 -- A host that is found by its root is one of the hosts.

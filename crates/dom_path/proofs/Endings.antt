@@ -1,15 +1,11 @@
 -- In trees whose shadow trees lie in one another each event has a path, and only one. From a node the way goes through its slot, whose
 -- tree lies one level further in, up to that tree's root, and on with the node's own parent: so by levels each way ends.
-use Rattle.dom_base.proofs.Std.{◌≡◌, ℕ, zero, suc, ◌≤◌, ◌<◌, ◌+◌, Bool, true, false, not, ◌||◌, List, [], ◌∷◌, drop, find, length, Option, Some, None, refl}
-use Rattle.dom_base.proofs.Std.{sym, ap, subst, ◌∙◌, arith, true≢false, is_some, option_map, if◌then◌else◌, ⊤, option_and_then, option_map_or, option_or}
-use Rattle.dom_base.proofs.Std.{cond-true, cond-false}
-use Rattle.dom_model.proofs.Model.{NodeName, name_eq, first_of, slot_in, is_shadow, inclusive_ancestors, node_in, parent_of, root_of, subtree}
-use Rattle.dom_worlds.proofs.ListLemmas.{by_cases}
-use Rattle.dom_tree.specs.Definitions.{NamedTrees, name_at}
-use Rattle.dom_laws.proofs.Laws.{Has, Has-subtree, above-parent, above-present, Once}
-use Rattle.dom_slots.specs.Definitions.{ShadowHost, HostsAreNodes, host_named, root_named, ShadowTrees, shadows, slot_at}
-use Rattle.dom_slots.proofs.Rooted.{root-alone, root-parent}
-use Rattle.dom_path.specs.Definitions.{IsHosted, GoesUp, IsPath, EndsWithin, host_above_at, event_parent_at, ends_at, is_empty_at, unless_ended}
+use Rattle.dom_path.proofs.Cited.{◌≡◌, ℕ, zero, suc, ◌≤◌, ◌<◌, ◌+◌, Bool, true, false, not, ◌||◌, List, [], ◌∷◌, drop, find, length, Option, Some, None, refl}
+use Rattle.dom_path.proofs.Cited.{sym, ap, subst, ◌∙◌, arith, true≢false, is_some, option_map, if◌then◌else◌, ⊤, option_and_then, option_map_or, option_or}
+use Rattle.dom_path.proofs.Cited.{cond-true, cond-false, NodeName, name_eq, first_of, slot_in, is_shadow, inclusive_ancestors, node_in, parent_of, root_of}
+use Rattle.dom_path.proofs.Cited.{subtree, by_cases, NamedTrees, name_at, Has, Has-subtree, above-parent, above-present, Once, ShadowHost, HostsAreNodes}
+use Rattle.dom_path.proofs.Cited.{host_named, root_named, ShadowTrees, shadows, slot_at, root-alone, root-parent, IsHosted, GoesUp, IsPath, EndsWithin}
+use Rattle.dom_path.proofs.Cited.{host_above_at, event_parent_at, ends_at, is_empty_at, unless_ended}
 use Rattle.dom_path.proofs.Steps.{slot-root, slot-has}
 
 -- ---- levels

@@ -1,14 +1,8 @@
 -- The trees from that of a node outward: found from the inside, and kept from the outside.
-use Rattle.dom_base.proofs.Std.{◌≡◌, inl, inr, ℕ, zero, suc, ◌<◌, ◌≤◌, true, List, [], ◌∷◌, ◌++◌, length, Option, Some, None, refl, sym, ap, subst, ◌∙◌, arith}
-use Rattle.dom_base.proofs.Std.{length-append, slice_get, is_some, option_map, ForSome}
-use Rattle.dom_model.proofs.Model.{NodeName, is_shadow, node_in, root_of}
-use Rattle.dom_tree.specs.Definitions.{NamedTrees, name_at}
-use Rattle.dom_tree.proofs.Changes.{slice_get-pushed}
-use Rattle.node_arena.proofs.Numbers.{slice_get-push}
-use Rattle.dom_slots.specs.Definitions.{ShadowHost}
-use Rattle.dom_path.specs.declared.path_node.PathNode.{PathNode}
-use Rattle.dom_path.specs.declared.trees.Tree.{Tree}
-use Rattle.dom_path.specs.Definitions.{IsHosted, IsNested, Grows, IsAround, GoesOut, IsTreeOf, HasTreeNodes, IsTree, AreTrees, IsPathNode}
+use Rattle.dom_path.proofs.Cited.{◌≡◌, inl, inr, ℕ, zero, suc, ◌<◌, ◌≤◌, true, List, [], ◌∷◌, ◌++◌, length, Option, Some, None, refl, sym, ap, subst, ◌∙◌}
+use Rattle.dom_path.proofs.Cited.{arith, length-append, slice_get, is_some, option_map, ForSome, NodeName, is_shadow, node_in, root_of, NamedTrees, name_at}
+use Rattle.dom_path.proofs.Cited.{slice_get-pushed, slice_get-push, ShadowHost, PathNode, Tree, IsHosted, IsNested, Grows, IsAround, GoesOut, IsTreeOf}
+use Rattle.dom_path.proofs.Cited.{HasTreeNodes, IsTree, AreTrees, IsPathNode}
 use Rattle.dom_path.proofs.Nesting.{nested-none, nested-more, kept-more, grows-longer, grows-twice}
 
 module _ (f : NamedTrees) (hosts : List ShadowHost) where

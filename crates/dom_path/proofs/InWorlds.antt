@@ -1,14 +1,10 @@
 -- The path of an event in trees with hosts is its path in each world that has just these.
-use Rattle.dom_base.proofs.Std.{◌≡◌, Bool, true, false, not, ◌&&◌, List, [], ◌∷◌, map, filter, take_while, Option, Some, None, refl, sym, ap, subst, ◌∙◌}
-use Rattle.dom_base.proofs.Std.{if◌then◌else◌, option_and_then, option_map_or, cond-true, cond-false, take_while-cons}
-use Rattle.dom_model.proofs.Model.{NodeName, name_eq, first_of, max_depth, View, is_node, retarget, retarget_related, event_parent, event_path, whole_path}
-use Rattle.dom_model.proofs.Model.{views, view_at, FollowsParents, is_assigned_to, has_node, World, name_eq-same}
-use Rattle.dom_worlds.proofs.ShadowTreeLemmas.{path-follows_parents}
-use Rattle.dom_worlds.proofs.ListLemmas.{by_cases}
-use Rattle.dom_tree.specs.Definitions.{NamedTrees}
-use Rattle.dom_slots.specs.Definitions.{ShadowHost, ShadowTrees, shadows, is_assigned_at}
-use Rattle.dom_path.specs.Definitions.{IsWorldOf, PathItem, path_item, items_along, path_items, item_at, items_at, view_of, GoesUp, IsPath, IsPathShown}
-use Rattle.dom_path.specs.Definitions.{unless_ended, ends_at, next_at}
+use Rattle.dom_path.proofs.Cited.{◌≡◌, Bool, true, false, not, ◌&&◌, List, [], ◌∷◌, map, filter, take_while, Option, Some, None, refl, sym, ap, subst, ◌∙◌}
+use Rattle.dom_path.proofs.Cited.{if◌then◌else◌, option_and_then, option_map_or, cond-true, cond-false, take_while-cons, NodeName, name_eq, first_of, max_depth}
+use Rattle.dom_path.proofs.Cited.{View, is_node, retarget, retarget_related, event_parent, event_path, whole_path, views, view_at, FollowsParents}
+use Rattle.dom_path.proofs.Cited.{is_assigned_to, has_node, World, name_eq-same, path-follows_parents, by_cases, NamedTrees, ShadowHost, ShadowTrees, shadows}
+use Rattle.dom_path.proofs.Cited.{is_assigned_at, IsWorldOf, PathItem, path_item, items_along, path_items, item_at, items_at, view_of, GoesUp, IsPath}
+use Rattle.dom_path.proofs.Cited.{IsPathShown, unless_ended, ends_at, next_at}
 use Rattle.dom_path.proofs.Sightings.{kind-is, there-is, hidden-is, seen-is, related-is, ends_at-is, empty-is, entered-is, up-is}
 
 module _ (f : NamedTrees) (hosts : List ShadowHost) (w : World) (is : IsWorldOf f hosts w) (t : NodeName) (r : Option NodeName) (composed : Bool) where

@@ -1,3 +1,4 @@
+mod Cited
 mod Nesting
 mod Goings
 mod Places

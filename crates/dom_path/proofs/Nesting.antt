@@ -1,11 +1,8 @@
 -- Up through the trees on an event's way, one at a time.
-use Rattle.dom_base.proofs.Std.{◌≡◌, inl, inr, ℕ, zero, suc, ◌<◌, ◌≤◌, Bool, true, false, ◌||◌, List, [], ◌∷◌, ◌++◌, length, Option, Some, None, refl, sym, ap}
-use Rattle.dom_base.proofs.Std.{subst, ◌∙◌, arith, append_assoc, length-append, nat_eq, slice_get, is_some, if◌then◌else◌, option_and_then, option_map_or}
-use Rattle.dom_base.proofs.Std.{append-nil, slice_get_within}
-use Rattle.dom_model.proofs.Model.{is_in}
-use Rattle.node_arena.proofs.Numbers.{slice_get-push}
-use Rattle.dom_path.specs.declared.trees.Tree.{Tree}
-use Rattle.dom_path.specs.Definitions.{IsNested, AreNested, Grows, roots_up, roots_around, hiding_host, outer_of, seen_up, seen_from}
+use Rattle.dom_path.proofs.Cited.{◌≡◌, inl, inr, ℕ, zero, suc, ◌<◌, ◌≤◌, Bool, true, false, ◌||◌, List, [], ◌∷◌, ◌++◌, length, Option, Some, None, refl, sym}
+use Rattle.dom_path.proofs.Cited.{ap, subst, ◌∙◌, arith, append_assoc, length-append, nat_eq, slice_get, is_some, if◌then◌else◌, option_and_then, option_map_or}
+use Rattle.dom_path.proofs.Cited.{append-nil, slice_get_within, is_in, slice_get-push, Tree, IsNested, AreNested, Grows, roots_up, roots_around, hiding_host}
+use Rattle.dom_path.proofs.Cited.{outer_of, seen_up, seen_from}
 
 -- no trees stand rightly
 pub nested-none : (trees : List Tree) → trees ≡ [] → AreNested trees

@@ -1,14 +1,10 @@
 -- The trees on an event's way by keys, and what is seen from them, are those by names.
-use Rattle.dom_base.proofs.Std.{◌≡◌, ℕ, zero, suc, ◌<◌, Bool, true, false, not, ◌&&◌, ◌||◌, List, [], ◌∷◌, length, map, find, flat_map, Option, Some, None}
-use Rattle.dom_base.proofs.Std.{refl, sym, ap, subst, ◌∙◌, arith, append-nil, nat_eq, option_map, option_to_list, unwrap_or, slice_get, is_some, if◌then◌else◌}
-use Rattle.dom_base.proofs.Std.{AllByRecursion, option_map_or, cond-true, cond-false}
-use Rattle.dom_model.proofs.Model.{NodeName, name_eq, is_in, root_of}
-use Rattle.dom_tree.specs.Definitions.{NamedTrees, name_at, TellApart}
-use Rattle.dom_slots.specs.Definitions.{ShadowHost, host_named, ShadowTrees, shadows}
-use Rattle.dom_slots.proofs.Hosted.{key-test, is_some-named}
-use Rattle.dom_path.specs.declared.trees.Tree.{Tree}
-use Rattle.dom_path.specs.Definitions.{IsHosted, AreNested, roots_up, roots_around, hiding_host, outer_of, seen_up, seen_from, IsTreeOf, AreTrees, EndsWithin}
-use Rattle.dom_path.specs.Definitions.{chain_at, host_above_at, is_hidden_at, seen_at}
+use Rattle.dom_path.proofs.Cited.{◌≡◌, ℕ, zero, suc, ◌<◌, Bool, true, false, not, ◌&&◌, ◌||◌, List, [], ◌∷◌, length, map, find, flat_map, Option, Some, None}
+use Rattle.dom_path.proofs.Cited.{refl, sym, ap, subst, ◌∙◌, arith, append-nil, nat_eq, option_map, option_to_list, unwrap_or, slice_get, is_some}
+use Rattle.dom_path.proofs.Cited.{if◌then◌else◌, AllByRecursion, option_map_or, cond-true, cond-false, NodeName, name_eq, is_in, root_of, NamedTrees, name_at}
+use Rattle.dom_path.proofs.Cited.{TellApart, ShadowHost, host_named, ShadowTrees, shadows, key-test, is_some-named, Tree, IsHosted, AreNested, roots_up}
+use Rattle.dom_path.proofs.Cited.{roots_around, hiding_host, outer_of, seen_up, seen_from, IsTreeOf, AreTrees, EndsWithin, chain_at, host_above_at}
+use Rattle.dom_path.proofs.Cited.{is_hidden_at, seen_at}
 use Rattle.dom_path.proofs.Nesting.{hides, hiding-is, outer-is, outer-below}
 
 -- ---- the chain of hosts of a node

@@ -1,15 +1,9 @@
 -- The items of a path by keys, and what the event shows at each, are by names the path of the event in the trees with hosts.
-use Rattle.dom_base.proofs.Std.{◌≡◌, ℕ, ◌<◌, length, Bool, true, false, not, List, [], ◌∷◌, map, filter, Option, Some, None, option_map, refl, sym, ap, ◌∙◌}
-use Rattle.dom_base.proofs.Std.{nat_eq, if◌then◌else◌, AllByRecursion, option_map_or, cond-true, cond-false}
-use Rattle.dom_model.proofs.Model.{NodeName, name_eq}
-use Rattle.dom_worlds.proofs.ListLemmas.{by_cases}
-use Rattle.dom_tree.specs.Definitions.{NamedTrees, name_at, TellApart}
-use Rattle.dom_slots.specs.Definitions.{ShadowHost, ShadowTrees, shadows, is_assigned_at}
-use Rattle.dom_slots.proofs.Hosted.{key-test}
-use Rattle.dom_path.specs.declared.item.Item.{Item}
-use Rattle.dom_path.specs.declared.trees.Tree.{Tree}
-use Rattle.dom_path.specs.Definitions.{IsItemOf, IsBuilt, GoesOn, IsHosted, HasNodes, ShowsNodes, item_named, view_named, AreInTrees, item_at, items_at}
-use Rattle.dom_path.specs.Definitions.{view_of, GoesUp, IsPath, IsPathShown, AreTrees, key_if, is_hidden_item, shown_nodes, view_in, is_hidden_at}
+use Rattle.dom_path.proofs.Cited.{◌≡◌, ℕ, ◌<◌, length, Bool, true, false, not, List, [], ◌∷◌, map, filter, Option, Some, None, option_map, refl, sym, ap, ◌∙◌}
+use Rattle.dom_path.proofs.Cited.{nat_eq, if◌then◌else◌, AllByRecursion, option_map_or, cond-true, cond-false, NodeName, name_eq, by_cases, NamedTrees, name_at}
+use Rattle.dom_path.proofs.Cited.{TellApart, ShadowHost, ShadowTrees, shadows, is_assigned_at, key-test, Item, Tree, IsItemOf, IsBuilt, GoesOn, IsHosted}
+use Rattle.dom_path.proofs.Cited.{HasNodes, ShowsNodes, item_named, view_named, AreInTrees, item_at, items_at, view_of, GoesUp, IsPath, IsPathShown, AreTrees}
+use Rattle.dom_path.proofs.Cited.{key_if, is_hidden_item, shown_nodes, view_in, is_hidden_at}
 use Rattle.dom_path.proofs.Places.{hidden-named}
 
 -- a key that is there or not, by its name

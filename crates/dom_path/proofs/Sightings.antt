@@ -1,22 +1,14 @@
 -- What is read of trees with hosts is what is read of a world that has just these: roots, chains of hosts, event parents, and what is
 -- hidden. So the trees with hosts of such a world are as a path asks.
-use Rattle.dom_base.proofs.Std.{◌≡◌, inl, inr, ℕ, zero, suc, ◌≤◌, Bool, true, false, ◌&&◌, ◌||◌, not, List, ◌∷◌, map, find, Option, Some, None, unwrap_or, refl}
-use Rattle.dom_base.proofs.Std.{sym, ap, ◌∙◌, arith, if◌then◌else◌, is_some, option_map, option_to_list, IsTrue, option_and_then, option_or, cases_Bool}
-use Rattle.dom_base.proofs.Std.{both_ways}
-use Rattle.dom_model.proofs.Model.{NodeName, Owner, name_eq, is_in, owner_depth, max_depth, is_node, is_hidden_from, retarget, retarget_related, event_parent}
-use Rattle.dom_model.proofs.Model.{slot_of, is_assigned_to, Trees, Node, is_shadow, has_node, node_in, parent_of, root_of, World, component_at, shadow_root_of}
-use Rattle.dom_model.proofs.Model.{some_if, host_above, host_chain, kind_at, node_at, parent_at, root_at, depth-maker, name_eq-true}
-use Rattle.dom_worlds.specs.Definitions.{IsNodeAt}
-use Rattle.dom_worlds.proofs.ShadowTreeLemmas.{above-host, below-host, hosts-alone, chain-below, hidden-by_chain, shadow-name}
-use Rattle.dom_worlds.proofs.OwnerLemmas.{hosted, hosted-maker, hosted-owned, hosted-is, component-host}
-use Rattle.dom_worlds.proofs.WorldLemmas.{shadow_roots-are_roots}
-use Rattle.dom_tree.specs.Definitions.{NamedTrees}
-use Rattle.dom_tree.proofs.Owned.{read_own, stays_own}
-use Rattle.dom_laws.proofs.Laws.{name_eq-from}
-use Rattle.dom_slots.specs.Definitions.{ShadowHost, host_named, root_named, ShadowTrees, shadows, IsShownBy, slot_at, is_assigned_at}
-use Rattle.dom_slots.proofs.Shown.{slot-shown, some_if-dropped, some_if-kept}
-use Rattle.dom_path.specs.Definitions.{IsHosted, IsWorldOf, host_above_at, EndsWithin, chain_at, is_hidden_at, seen_at, related_at, event_parent_at, ends_at}
-use Rattle.dom_path.specs.Definitions.{is_empty_at}
+use Rattle.dom_path.proofs.Cited.{◌≡◌, inl, inr, ℕ, zero, suc, ◌≤◌, Bool, true, false, ◌&&◌, ◌||◌, not, List, ◌∷◌, map, find, Option, Some, None, unwrap_or}
+use Rattle.dom_path.proofs.Cited.{refl, sym, ap, ◌∙◌, arith, if◌then◌else◌, is_some, option_map, option_to_list, IsTrue, option_and_then, option_or, cases_Bool}
+use Rattle.dom_path.proofs.Cited.{both_ways, NodeName, Owner, name_eq, is_in, owner_depth, max_depth, is_node, is_hidden_from, retarget, retarget_related}
+use Rattle.dom_path.proofs.Cited.{event_parent, slot_of, is_assigned_to, Trees, Node, is_shadow, has_node, node_in, parent_of, root_of, World, component_at}
+use Rattle.dom_path.proofs.Cited.{shadow_root_of, some_if, host_above, host_chain, kind_at, node_at, parent_at, root_at, depth-maker, name_eq-true, IsNodeAt}
+use Rattle.dom_path.proofs.Cited.{above-host, below-host, hosts-alone, chain-below, hidden-by_chain, shadow-name, hosted, hosted-maker, hosted-owned, hosted-is}
+use Rattle.dom_path.proofs.Cited.{component-host, shadow_roots-are_roots, NamedTrees, read_own, stays_own, name_eq-from, ShadowHost, host_named, root_named}
+use Rattle.dom_path.proofs.Cited.{ShadowTrees, shadows, IsShownBy, slot_at, is_assigned_at, slot-shown, some_if-dropped, some_if-kept, IsHosted, IsWorldOf}
+use Rattle.dom_path.proofs.Cited.{host_above_at, EndsWithin, chain_at, is_hidden_at, seen_at, related_at, event_parent_at, ends_at, is_empty_at}
 use Rattle.dom_path.proofs.Places.{chain-alone, chain-host, ends-outside}
 
 module _ (f : NamedTrees) (hosts : List ShadowHost) (w : World) (is : IsWorldOf f hosts w) where

@@ -1,16 +1,9 @@
 -- From a place to the next one: to the host of a shadow root, to the slot of a node, or to its parent.
-use Rattle.dom_base.proofs.Std.{◌≡◌, inl, inr, ℕ, ◌<◌, Bool, true, false, not, ◌||◌, List, [], ◌∷◌, length, find, Option, Some, None, refl, sym, ap, subst, ◌∙◌}
-use Rattle.dom_base.proofs.Std.{nat_eq, option_map, slice_get, is_some, if◌then◌else◌, option_and_then, option_or}
-use Rattle.dom_model.proofs.Model.{NodeName, DomString, name_eq, slot_in, has_slot_name, slottable_name, Trees, Node, nodes, names_of, node_in, parent_of}
-use Rattle.dom_model.proofs.Model.{root_of, subtree}
-use Rattle.dom_tree.specs.Definitions.{NamedTrees, name_at, TellApart}
-use Rattle.dom_laws.proofs.Laws.{Has-names, In, Has, Once}
-use Rattle.dom_slots.specs.Definitions.{ShadowHost, host_named, root_named, shadows, slot_at}
-use Rattle.dom_slots.proofs.Hosted.{key-test}
-use Rattle.dom_slots.proofs.Rooted.{root-alone, root-parent, root-below}
-use Rattle.dom_path.specs.declared.path_node.PathNode.{PathNode}
-use Rattle.dom_path.specs.declared.trees.Tree.{Tree}
-use Rattle.dom_path.specs.Definitions.{IsHosted, IsTreeOf, IsTree, AreTrees, IsPathNode, event_parent_at}
+use Rattle.dom_path.proofs.Cited.{◌≡◌, inl, inr, ℕ, ◌<◌, Bool, true, false, not, ◌||◌, List, [], ◌∷◌, length, find, Option, Some, None, refl, sym, ap, subst}
+use Rattle.dom_path.proofs.Cited.{◌∙◌, nat_eq, option_map, slice_get, is_some, if◌then◌else◌, option_and_then, option_or, NodeName, DomString, name_eq, slot_in}
+use Rattle.dom_path.proofs.Cited.{has_slot_name, slottable_name, Trees, Node, nodes, names_of, node_in, parent_of, root_of, subtree, NamedTrees, name_at}
+use Rattle.dom_path.proofs.Cited.{TellApart, Has-names, In, Has, Once, ShadowHost, host_named, root_named, shadows, slot_at, key-test, root-alone, root-parent}
+use Rattle.dom_path.proofs.Cited.{root-below, PathNode, Tree, IsHosted, IsTreeOf, IsTree, AreTrees, IsPathNode, event_parent_at}
 
 -- a slot that is found stands in the trees
 found-in : (q : Node → Bool) (ns : List Node) (y : NodeName) → option_map (λ (n : Node). n.name) (find q ns) ≡ Some y → In y (names_of ns)

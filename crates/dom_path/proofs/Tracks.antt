@@ -1,14 +1,8 @@
 -- The items of a path while it is built: what may still come, and what is there.
-use Rattle.dom_base.proofs.Std.{◌≡◌, ℕ, Bool, false, List, [], ◌∷◌, ◌++◌, Option, Some, None, refl, sym, ap, subst, ◌∙◌, arith, append_assoc, option_map, map}
-use Rattle.dom_base.proofs.Std.{Result, Ok, Err, IfOk, AllByRecursion, ForSome, append-nil}
-use Rattle.dom_model.proofs.Model.{NodeName, is_shadow, node_in, root_of}
-use Rattle.dom_tree.specs.Definitions.{NamedTrees, name_at}
-use Rattle.dom_slots.specs.Definitions.{ShadowHost, shadows, is_assigned_at}
-use Rattle.dom_path.specs.declared.item.Item.{Item}
-use Rattle.dom_path.specs.declared.path_node.PathNode.{PathNode}
-use Rattle.dom_path.specs.declared.trees.Tree.{Tree}
-use Rattle.dom_path.specs.Definitions.{IsEvent, IsItemOf, IsWay, IsBuilt, GoesOn, next_name, related_name, IsHosted, item_named, Grows, FollowsUp, IsTrail}
-use Rattle.dom_path.specs.Definitions.{AreTrees, IsPathNode, event_parent_at, is_empty_at}
+use Rattle.dom_path.proofs.Cited.{◌≡◌, ℕ, Bool, false, List, [], ◌∷◌, ◌++◌, Option, Some, None, refl, sym, ap, subst, ◌∙◌, arith, append_assoc, option_map, map}
+use Rattle.dom_path.proofs.Cited.{Result, Ok, Err, IfOk, AllByRecursion, ForSome, append-nil, NodeName, is_shadow, node_in, root_of, NamedTrees, name_at}
+use Rattle.dom_path.proofs.Cited.{ShadowHost, shadows, is_assigned_at, Item, PathNode, Tree, IsEvent, IsItemOf, IsWay, IsBuilt, GoesOn, next_name, related_name}
+use Rattle.dom_path.proofs.Cited.{IsHosted, item_named, Grows, FollowsUp, IsTrail, AreTrees, IsPathNode, event_parent_at, is_empty_at}
 use Rattle.dom_path.proofs.Goings.{tree-kept, stand-kept}
 use Rattle.dom_path.proofs.Nesting.{grows-longer}
 

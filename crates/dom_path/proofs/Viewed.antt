@@ -1,15 +1,9 @@
 -- What is seen from the places of a path by keys is what is seen by names, and so are its items.
-use Rattle.dom_base.proofs.Std.{◌≡◌, ℕ, ◌<◌, Bool, not, ◌&&◌, List, length, Option, Some, None, refl, sym, ap, ◌∙◌, option_map, option_to_list, if◌then◌else◌}
-use Rattle.dom_base.proofs.Std.{ForSome, option_and_then}
-use Rattle.dom_model.proofs.Model.{NodeName, name_eq, is_in, root_of}
-use Rattle.dom_tree.specs.Definitions.{NamedTrees, name_at, TellApart}
-use Rattle.dom_slots.specs.Definitions.{ShadowHost, ShadowTrees, shadows}
-use Rattle.dom_slots.proofs.Hosted.{key-test, found-test}
+use Rattle.dom_path.proofs.Cited.{◌≡◌, ℕ, ◌<◌, Bool, not, ◌&&◌, List, length, Option, Some, None, refl, sym, ap, ◌∙◌, option_map, option_to_list, if◌then◌else◌}
+use Rattle.dom_path.proofs.Cited.{ForSome, option_and_then, NodeName, name_eq, is_in, root_of, NamedTrees, name_at, TellApart, ShadowHost, ShadowTrees, shadows}
+use Rattle.dom_path.proofs.Cited.{key-test, found-test, PathNode, Tree, IsEvent, IsItemOf, related_name, IsHosted, AreTrees, IsPathNode, seen_of, related_from}
+use Rattle.dom_path.proofs.Cited.{is_key, ends_before, is_silent, item_from, seen_at, related_at, ends_at, event_parent_at, is_empty_at, next_at, unless_ended}
 use Rattle.dom_path.specs.declared.event.Event.{Event}
-use Rattle.dom_path.specs.declared.path_node.PathNode.{PathNode}
-use Rattle.dom_path.specs.declared.trees.Tree.{Tree}
-use Rattle.dom_path.specs.Definitions.{IsEvent, IsItemOf, related_name, IsHosted, AreTrees, IsPathNode, seen_of, related_from, is_key, ends_before, is_silent}
-use Rattle.dom_path.specs.Definitions.{item_from, seen_at, related_at, ends_at, event_parent_at, is_empty_at, next_at, unless_ended}
 use Rattle.dom_path.proofs.Places.{seen-node, seen-named}
 
 -- a related node by its place is that by its key

@@ -1,9 +1,5 @@
-use Rattle.dom_base.proofs.Std.{ℕ, List, Option, sym, ap, subst, option_map, map, Global, IfOk, Vec}
-use Rattle.dom_model.proofs.Model.{NodeName}
-use Rattle.dom_tree.specs.Definitions.{name_at}
-use Rattle.dom_slots.specs.Definitions.{shadows}
-use Rattle.dom_path.specs.declared.item.Item.{Item}
-use Rattle.dom_path.specs.Definitions.{IsBuilt, IsWay, related_name, IsHosted, item_named, IsTrail}
+use Rattle.dom_path.proofs.Cited.{ℕ, List, Option, sym, ap, subst, option_map, map, Global, IfOk, Vec, NodeName, name_at, shadows, Item, IsBuilt, IsWay}
+use Rattle.dom_path.proofs.Cited.{related_name, IsHosted, item_named, IsTrail}
 use Rattle.dom_path.proofs.Goings.{stand-kept, tree-kept}
 use Rattle.dom_path.proofs.Tracks.{ok-other, built-way}
 use Rattle.dom_path.proofs.Viewed.{silent-keys, related-key}

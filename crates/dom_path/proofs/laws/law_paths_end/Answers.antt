@@ -1,4 +1,4 @@
-use Rattle.dom_tree.proofs.Standing.{Once-forest, Has-forest}
+use Rattle.dom_path.proofs.Cited.{Once-forest, Has-forest}
 use Rattle.dom_path.proofs.Endings.{paths-end, path-once}
 use Rattle.dom_path.proofs.laws.law_paths_end.Goals as goal
 

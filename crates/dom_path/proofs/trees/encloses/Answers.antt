@@ -1,4 +1,4 @@
-use Rattle.dom_base.proofs.Std.{length, refl, sym, ◌∙◌, slice_get_read}
+use Rattle.dom_path.proofs.Cited.{length, refl, sym, ◌∙◌, slice_get_read}
 use Rattle.dom_path.proofs.Nesting.{encloses-step}
 use Rattle.dom_path.proofs.trees.encloses.Goals as goal
 

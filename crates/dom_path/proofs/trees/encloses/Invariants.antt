@@ -1,6 +1,4 @@
-use Rattle.dom_base.proofs.Std.{◌≡◌, ◌<◌, nat_eq, length}
-use Rattle.dom_model.proofs.Model.{is_in}
-use Rattle.dom_path.specs.Definitions.{roots_around}
+use Rattle.dom_path.proofs.Cited.{◌≡◌, ◌<◌, nat_eq, length, is_in, roots_around}
 use Rattle.dom_path.proofs.trees.encloses.Given as goal
 
 abbrev pub invariant-loop-root : goal.invariant-loop-root

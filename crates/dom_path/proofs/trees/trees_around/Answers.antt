@@ -1,7 +1,4 @@
-use Rattle.dom_base.proofs.Std.{Some, sym, ap, subst, ◌∙◌, option_map}
-use Rattle.dom_tree.specs.Definitions.{name_at}
-use Rattle.dom_slots.proofs.Hosted.{host-named, host-node}
-use Rattle.dom_path.specs.Definitions.{GoesOut}
+use Rattle.dom_path.proofs.Cited.{Some, sym, ap, subst, ◌∙◌, option_map, name_at, host-named, host-node, GoesOut}
 use Rattle.dom_path.proofs.Goings.{goes-on}
 use Rattle.dom_path.proofs.trees.trees_around.Goals as goal
 

@@ -1,6 +1,4 @@
-use Rattle.dom_base.proofs.Std.{◌<◌, ◌-◌, ◌^◌, Some, length, option_map, ForSome}
-use Rattle.dom_tree.specs.Definitions.{name_at}
-use Rattle.dom_path.specs.Definitions.{GoesOut}
+use Rattle.dom_path.proofs.Cited.{◌<◌, ◌-◌, ◌^◌, Some, length, option_map, ForSome, name_at, GoesOut}
 use Rattle.dom_path.proofs.trees.trees_around.Given as goal
 
 abbrev pub invariant-loop-next : goal.invariant-loop-next

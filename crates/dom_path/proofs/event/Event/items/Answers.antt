@@ -1,7 +1,4 @@
-use Rattle.dom_base.proofs.Std.{refl, sym, ap, subst}
-use Rattle.dom_tree.specs.Definitions.{name_at}
-use Rattle.dom_path.specs.declared.item.Item.{Item}
-use Rattle.dom_path.specs.Definitions.{IsItemOf, related_name}
+use Rattle.dom_path.proofs.Cited.{refl, sym, ap, subst, name_at, Item, IsItemOf, related_name}
 use Rattle.dom_path.proofs.Tracks.{IsTrack, track-more, track-last, trail-last, event-kept}
 use Rattle.dom_path.proofs.Viewed.{item-made}
 use Rattle.dom_path.proofs.event.Event.items.Goals as goal

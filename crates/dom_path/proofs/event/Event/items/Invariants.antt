@@ -1,4 +1,4 @@
-use Rattle.dom_base.proofs.Std.{◌-◌, ◌^◌, length}
+use Rattle.dom_path.proofs.Cited.{◌-◌, ◌^◌, length}
 use Rattle.dom_path.proofs.Tracks.{IsOnWay}
 use Rattle.dom_path.proofs.event.Event.items.Given as goal
 

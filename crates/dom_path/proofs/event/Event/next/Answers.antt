@@ -1,4 +1,4 @@
-use Rattle.dom_base.proofs.Std.{◌≡◌, Some, ◌∙◌, arith}
+use Rattle.dom_path.proofs.Cited.{◌≡◌, Some, ◌∙◌, arith}
 use Rattle.dom_path.proofs.Nesting.{grows-longer}
 use Rattle.dom_path.proofs.Tracks.{event-kept}
 use Rattle.dom_path.proofs.Viewed.{next-named, parent-named}

@@ -1,6 +1,4 @@
-use Rattle.dom_base.proofs.Std.{option_map}
-use Rattle.dom_model.proofs.Model.{max_depth}
-use Rattle.dom_tree.specs.Definitions.{name_at}
+use Rattle.dom_path.proofs.Cited.{option_map, max_depth, name_at}
 use Rattle.dom_path.proofs.InWorlds.{in-world}
 use Rattle.dom_path.proofs.Shows.{path-shown, nodes-within, shown-within}
 use Rattle.dom_path.proofs.Sightings.{world-hosted}

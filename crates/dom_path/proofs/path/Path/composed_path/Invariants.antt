@@ -1,5 +1,4 @@
-use Rattle.dom_base.proofs.Std.{◌≡◌, take}
-use Rattle.dom_path.specs.Definitions.{shown_nodes}
+use Rattle.dom_path.proofs.Cited.{◌≡◌, take, shown_nodes}
 use Rattle.dom_path.proofs.path.Path.composed_path.Given as goal
 
 abbrev pub invariant-loop-item : goal.invariant-loop-item

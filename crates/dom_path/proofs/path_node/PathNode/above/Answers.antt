@@ -1,8 +1,7 @@
-use Rattle.dom_base.proofs.Std.{◌≡◌, ◌||◌, not, true, sym, ◌∙◌, nat_eq}
-use Rattle.dom_worlds.proofs.ListLemmas.{or-first, or-second}
+use Rattle.dom_path.proofs.Cited.{◌≡◌, ◌||◌, not, true, sym, ◌∙◌, nat_eq, or-first, or-second}
 use Rattle.dom_path.proofs.Steps.{up-host}
-use Rattle.dom_path.proofs.path_node.PathNode.above.Goals as goal
 use Rattle.dom_path.proofs.path_node.PathNode.above.Goals.{then-composed-via-then-composed, then-composed-via-else-composed+then-ne}
+use Rattle.dom_path.proofs.path_node.PathNode.above.Goals as goal
 
 pub returns-then-composed-clause-value : goal.returns-then-composed-clause-value
 returns-then-composed-clause-value c =

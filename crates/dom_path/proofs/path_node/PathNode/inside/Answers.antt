@@ -1,8 +1,5 @@
-use Rattle.dom_base.proofs.Std.{◌≡◌, ◌<◌, ◌∷◌, [], ◌++◌, Some, length, refl, sym, ap, subst, ◌∙◌, arith, length-append}
-use Rattle.dom_tree.specs.Definitions.{name_at}
-use Rattle.dom_tree.proofs.Standing.{Once-forest, Has-forest}
-use Rattle.dom_path.specs.declared.trees.Tree.{Tree}
-use Rattle.dom_path.specs.Definitions.{AreTrees, IsPathNode, IsTreeOf}
+use Rattle.dom_path.proofs.Cited.{◌≡◌, ◌<◌, ◌∷◌, [], ◌++◌, Some, length, refl, sym, ap, subst, ◌∙◌, arith, length-append, name_at, Once-forest, Has-forest}
+use Rattle.dom_path.proofs.Cited.{Tree, AreTrees, IsPathNode, IsTreeOf}
 use Rattle.dom_path.proofs.Goings.{stand-made, trees-more, tree-pushed}
 use Rattle.dom_path.proofs.Steps.{tree-parent, slot-root, tree-entered}
 use Rattle.dom_path.proofs.path_node.PathNode.inside.Goals as goal

@@ -1,9 +1,5 @@
-use Rattle.dom_base.proofs.Std.{◌≡◌, None, Some, sym, ap, subst, ◌∙◌, arith, option_map}
-use Rattle.dom_tree.specs.Definitions.{name_at}
-use Rattle.dom_tree.proofs.Standing.{Once-forest, Has-forest}
-use Rattle.dom_slots.proofs.Hosted.{host-named, host-node}
-use Rattle.dom_path.specs.declared.path_node.PathNode.{PathNode}
-use Rattle.dom_path.specs.Definitions.{IsPathNode}
+use Rattle.dom_path.proofs.Cited.{◌≡◌, None, Some, sym, ap, subst, ◌∙◌, arith, option_map, name_at, Once-forest, Has-forest, host-named, host-node, PathNode}
+use Rattle.dom_path.proofs.Cited.{IsPathNode}
 use Rattle.dom_path.proofs.Goings.{stand-made}
 use Rattle.dom_path.proofs.Steps.{tree-outside}
 use Rattle.dom_path.proofs.path_node.PathNode.outside.Goals as goal

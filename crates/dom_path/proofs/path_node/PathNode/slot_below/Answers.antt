@@ -1,9 +1,5 @@
-use Rattle.dom_base.proofs.Std.{◌≡◌, None, refl, sym, ap, subst, ◌∙◌, option_map}
-use Rattle.dom_tree.specs.Definitions.{name_at}
-use Rattle.dom_slots.specs.Definitions.{root_named, shadows}
-use Rattle.dom_slots.proofs.Hosted.{root-named, root-node, slot-no_root}
-use Rattle.dom_path.specs.declared.path_node.SlotBelow.{SlotBelow}
-use Rattle.dom_path.specs.Definitions.{IsSlotBelow}
+use Rattle.dom_path.proofs.Cited.{◌≡◌, None, refl, sym, ap, subst, ◌∙◌, option_map, name_at, root_named, shadows, root-named, root-node, slot-no_root}
+use Rattle.dom_path.proofs.Cited.{SlotBelow, IsSlotBelow}
 use Rattle.dom_path.proofs.path_node.PathNode.slot_below.Goals as goal
 
 pub returns-in_err-root-clause-value : goal.returns-in_err-root-clause-value

@@ -1,4 +1,4 @@
-use Rattle.dom_base.proofs.Std.{◌++◌, None, sym, ap, ◌∙◌, arith, true≢false, is_some, option_to_list}
+use Rattle.dom_path.proofs.Cited.{◌++◌, None, sym, ap, ◌∙◌, arith, true≢false, is_some, option_to_list}
 use Rattle.dom_path.proofs.Goings.{outside-nested, outside-more, outside-last}
 use Rattle.dom_path.proofs.Nesting.{grows-none}
 use Rattle.dom_path.proofs.trees.Trees.add.Goals as goal

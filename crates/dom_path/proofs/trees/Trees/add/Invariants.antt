@@ -1,5 +1,4 @@
-use Rattle.dom_base.proofs.Std.{length}
-use Rattle.dom_tree.specs.Definitions.{name_at}
+use Rattle.dom_path.proofs.Cited.{length, name_at}
 use Rattle.dom_path.proofs.Goings.{IsOutside}
 use Rattle.dom_path.proofs.trees.Trees.add.Given as goal
 

@@ -1,6 +1,4 @@
-use Rattle.dom_base.proofs.Std.{◌≡◌, true, false, sym, subst, ◌∙◌, nat_eq}
-use Rattle.dom_model.proofs.Model.{is_in}
-use Rattle.dom_path.specs.Definitions.{AreNested, roots_around}
+use Rattle.dom_path.proofs.Cited.{◌≡◌, true, false, sym, subst, ◌∙◌, nat_eq, is_in, AreNested, roots_around}
 use Rattle.dom_path.proofs.Nesting.{hiding-is}
 use Rattle.dom_path.proofs.trees.Trees.hiding_host.Goals as goal
 

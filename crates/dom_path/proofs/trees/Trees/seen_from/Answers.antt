@@ -1,6 +1,5 @@
-use Rattle.dom_base.proofs.Std.{◌≡◌, length, Some, refl, sym, ap, subst, ◌∙◌, arith, slice_get, slice_index_or, slice_get_read}
-use Rattle.dom_path.specs.declared.trees.Tree.{Tree}
-use Rattle.dom_path.specs.Definitions.{AreNested, hiding_host, seen_from}
+use Rattle.dom_path.proofs.Cited.{◌≡◌, length, Some, refl, sym, ap, subst, ◌∙◌, arith, slice_get, slice_index_or, slice_get_read, Tree, AreNested, hiding_host}
+use Rattle.dom_path.proofs.Cited.{seen_from}
 use Rattle.dom_path.proofs.Nesting.{outer-below, outer-is, seen-host}
 use Rattle.dom_path.proofs.trees.Trees.seen_from.Goals as goal
 

@@ -1,5 +1,4 @@
-use Rattle.dom_base.proofs.Std.{◌≡◌, ◌<◌, length}
-use Rattle.dom_path.specs.Definitions.{seen_from}
+use Rattle.dom_path.proofs.Cited.{◌≡◌, ◌<◌, length, seen_from}
 use Rattle.dom_path.proofs.trees.Trees.seen_from.Given as goal
 
 abbrev pub invariant-loop-host : goal.invariant-loop-host
