@@ -1,11 +1,9 @@
 -- A dispatch with one list of all owners' listeners is the dispatch in the world.
-use Rattle.dom_base.proofs.Std.{◌≡◌, ◌≢◌, true, false, not, ◌&&◌, List, [], ◌∷◌, filter, fold, map, refl, sym, ap, subst, ◌∙◌, true≢false, nat_eq, beq}
-use Rattle.dom_base.proofs.Std.{and_left, and_parts}
-use Rattle.dom_model.proofs.Model.{Owner, NodeName, owner_eq, name_eq, text_eq, EventWords, Listener, Visit, Dispatching, after_invoke, begun, hears}
-use Rattle.dom_model.proofs.Model.{is_listener, world_visit, visits_of, event_output, Part, views, World, part_of, with_part, owner_eq-true, owner_eq-same}
-use Rattle.dom_model.proofs.Model.{ne-owner_eq, part_of-with_part, part_of-with_part-other, owner-part_of}
-use Rattle.dom_worlds.proofs.ListLemmas.{by_cases}
-use Rattle.dom_dispatch.specs.Definitions.{is_of_owner, DispatchedAmong, DispatchedAlong, dispatch_along, dispatch_among, listener_named, dispatching_named}
+use Rattle.dom_dispatch.proofs.Cited.{◌≡◌, ◌≢◌, true, false, not, ◌&&◌, List, [], ◌∷◌, filter, fold, map, refl, sym, ap, subst, ◌∙◌, true≢false, nat_eq, beq}
+use Rattle.dom_dispatch.proofs.Cited.{and_left, and_parts, Owner, NodeName, owner_eq, name_eq, text_eq, EventWords, Listener, Visit, Dispatching, after_invoke}
+use Rattle.dom_dispatch.proofs.Cited.{begun, hears, is_listener, world_visit, visits_of, event_output, Part, views, World, part_of, with_part, owner_eq-true}
+use Rattle.dom_dispatch.proofs.Cited.{owner_eq-same, ne-owner_eq, part_of-with_part, part_of-with_part-other, owner-part_of, by_cases, is_of_owner}
+use Rattle.dom_dispatch.proofs.Cited.{DispatchedAmong, DispatchedAlong, dispatch_along, dispatch_among, listener_named, dispatching_named}
 use Rattle.dom_dispatch.proofs.Naming.{dispatched-named}
 use Rattle.dom_dispatch.proofs.Narrowing.{narrowed, visited-narrow, visited-apart}
 

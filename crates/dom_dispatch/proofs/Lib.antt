@@ -1,3 +1,4 @@
+mod Cited
 pub mod Naming
 pub mod Narrowing
 mod Among

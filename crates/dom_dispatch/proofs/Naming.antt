@@ -1,15 +1,12 @@
 -- What is done to listeners by keys is what is done by names.
-use Rattle.dom_base.proofs.Std.{◌≡◌, ℕ, ◌<◌, Bool, true, false, not, ◌&&◌, ◌||◌, List, [], ◌∷◌, ◌++◌, length, map, filter, fold, reverse, option_map, refl, sym}
-use Rattle.dom_base.proofs.Std.{ap, ◌∙◌, nat_eq, if◌then◌else◌, AllByRecursion, list_any, beq, cond-true, cond-false, map-append, reverse-append}
-use Rattle.dom_model.proofs.Model.{Action, Log, Stop, StopNow, Cancel, NodeName, Word, text_eq, name_eq, EventWords, ListenerWords, Listener, Visit}
-use Rattle.dom_model.proofs.Model.{Dispatching, after_action, may_cancel, line_of, is_listener, with_listener_removed, with_listener_added, kept_after}
-use Rattle.dom_model.proofs.Model.{after_inner_invoke, hears, after_invoke, begun, View, is_at_target, visit_of, visits_of}
-use Rattle.dom_worlds.proofs.ListLemmas.{by_cases, all-append, all-filter, all-reverse}
-use Rattle.dom_slots.proofs.Hosted.{key-test}
-use Rattle.dom_tree.specs.Definitions.{name_at, TellApart}
-use Rattle.dom_path.specs.Definitions.{view_named}
+use Rattle.dom_dispatch.proofs.Cited.{◌≡◌, ℕ, ◌<◌, Bool, true, false, not, ◌&&◌, ◌||◌, List, [], ◌∷◌, ◌++◌, length, map, filter, fold, reverse, option_map}
+use Rattle.dom_dispatch.proofs.Cited.{refl, sym, ap, ◌∙◌, nat_eq, if◌then◌else◌, AllByRecursion, list_any, beq, cond-true, cond-false, map-append}
+use Rattle.dom_dispatch.proofs.Cited.{reverse-append, Action, Log, Stop, StopNow, Cancel, NodeName, Word, text_eq, name_eq, EventWords, ListenerWords, Listener}
+use Rattle.dom_dispatch.proofs.Cited.{Visit, Dispatching, after_action, may_cancel, line_of, is_listener, with_listener_removed, with_listener_added}
+use Rattle.dom_dispatch.proofs.Cited.{kept_after, after_inner_invoke, hears, after_invoke, begun, View, is_at_target, visit_of, visits_of, by_cases, all-append}
+use Rattle.dom_dispatch.proofs.Cited.{all-filter, all-reverse, key-test, name_at, TellApart, view_named, listener_named, visit_named, line_named}
+use Rattle.dom_dispatch.proofs.Cited.{dispatching_named, IsListenerAt, IsViewOf}
 use Rattle.dom_dispatch.proofs.Staying.{heard_by, called-at, visited-at}
-use Rattle.dom_dispatch.specs.Definitions.{listener_named, visit_named, line_named, dispatching_named, IsListenerAt, IsViewOf}
 
 -- a list mapped from its end
 reverse-mapped : {X Y : Type 0} (f : X → Y) (xs : List X) → map f (reverse xs) ≡ reverse (map f xs)

@@ -1,9 +1,8 @@
 -- A visit among some of the listeners only, where all that hear it are among these.
-use Rattle.dom_base.proofs.Std.{◌≡◌, Bool, true, false, not, List, [], ◌∷◌, ◌++◌, filter, fold, refl, sym, ap, ◌∙◌, if◌then◌else◌, AllByRecursion, cond-true}
-use Rattle.dom_base.proofs.Std.{cond-false}
-use Rattle.dom_model.proofs.Model.{Action, Log, Stop, StopNow, Cancel, EventWords, Listener, Visit, Dispatching, after_action, may_cancel, line_of, is_listener}
-use Rattle.dom_model.proofs.Model.{with_listener_removed, kept_after, after_inner_invoke, hears, after_invoke}
-use Rattle.dom_worlds.proofs.ListLemmas.{all-passed, by_cases, filter-filter}
+use Rattle.dom_dispatch.proofs.Cited.{◌≡◌, Bool, true, false, not, List, [], ◌∷◌, ◌++◌, filter, fold, refl, sym, ap, ◌∙◌, if◌then◌else◌, AllByRecursion}
+use Rattle.dom_dispatch.proofs.Cited.{cond-true, cond-false, Action, Log, Stop, StopNow, Cancel, EventWords, Listener, Visit, Dispatching, after_action}
+use Rattle.dom_dispatch.proofs.Cited.{may_cancel, line_of, is_listener, with_listener_removed, kept_after, after_inner_invoke, hears, after_invoke, all-passed}
+use Rattle.dom_dispatch.proofs.Cited.{by_cases, filter-filter}
 
 module _ {X : Type 0} where
   -- a test that all pass which pass another one

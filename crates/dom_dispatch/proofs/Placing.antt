@@ -1,14 +1,11 @@
 -- The places of a node's entries in a table, and the entries in them.
-use Rattle.dom_base.proofs.Std.{◌≡◌, ℕ, ◌+◌, ◌<◌, ◌||◌, Bool, true, false, not, List, [], ◌∷◌, ◌++◌, length, get_or, take, filter, Option, Some, None, zero}
-use Rattle.dom_base.proofs.Std.{suc, refl, sym, ap, subst, ◌∙◌, arith, append_assoc, append-nil, length-append, nat_eq, is_some, filter_map, slice_get}
-use Rattle.dom_base.proofs.Std.{slice_index_or, slice_set, remove, if◌then◌else◌, list_any, cons_option, option_flatten, option_map_or, or-false, or-true}
-use Rattle.dom_base.proofs.Std.{set-append_seam, cond-true, cond-false, eqb-true, map-append, length_push, take_more, list_any-append, slice_get_within}
-use Rattle.dom_base.proofs.Std.{slice_get-get_or, get_or_from_slice_get, filter_map-append, filter-append, filter_more, any-filter_same}
-use Rattle.dom_worlds.proofs.ListLemmas.{by_cases, filter-map}
-use Rattle.dom_model.proofs.Model.{Listener}
-use Rattle.dom_dispatch.specs.declared.listeners.Entry.{Entry}
-use Rattle.dom_dispatch.specs.Definitions.{listener_of, listeners_in, present, entry_at, is_of_node, places_at, places_from, passes_in, IsIndexed}
-use Rattle.dom_dispatch.specs.declared.places.Places.{Places}
+use Rattle.dom_dispatch.proofs.Cited.{◌≡◌, ℕ, ◌+◌, ◌<◌, ◌||◌, Bool, true, false, not, List, [], ◌∷◌, ◌++◌, length, get_or, take, filter, Option, Some, None}
+use Rattle.dom_dispatch.proofs.Cited.{zero, suc, refl, sym, ap, subst, ◌∙◌, arith, append_assoc, append-nil, length-append, nat_eq, is_some, filter_map}
+use Rattle.dom_dispatch.proofs.Cited.{slice_get, slice_index_or, slice_set, remove, if◌then◌else◌, list_any, cons_option, option_flatten, option_map_or}
+use Rattle.dom_dispatch.proofs.Cited.{or-false, or-true, set-append_seam, cond-true, cond-false, eqb-true, map-append, length_push, take_more, list_any-append}
+use Rattle.dom_dispatch.proofs.Cited.{slice_get_within, slice_get-get_or, get_or_from_slice_get, filter_map-append, filter-append, filter_more, any-filter_same}
+use Rattle.dom_dispatch.proofs.Cited.{by_cases, filter-map, Listener, Entry, listener_of, listeners_in, present, entry_at, is_of_node, places_at, places_from}
+use Rattle.dom_dispatch.proofs.Cited.{passes_in, IsIndexed, Places}
 use Rattle.dom_dispatch.proofs.Narrowing.{filter-wider}
 
 -- what stands behind others

@@ -1,11 +1,9 @@
 -- Listeners stay at nodes.
-use Rattle.dom_base.proofs.Std.{ℕ, Bool, true, false, not, List, [], ◌∷◌, ◌++◌, filter, fold, sym, subst, arith, nat_eq, if◌then◌else◌}
-use Rattle.dom_base.proofs.Std.{list_any, length-append}
-use Rattle.dom_model.proofs.Model.{NodeName, EventWords, visits_of, Listener, Visit, Dispatching, after_action, may_cancel}
-use Rattle.dom_model.proofs.Model.{line_of, is_listener, with_listener_removed, kept_after, after_inner_invoke, hears, after_invoke, begun}
-use Rattle.dom_worlds.proofs.ListLemmas.{all-filter}
+use Rattle.dom_dispatch.proofs.Cited.{ℕ, Bool, true, false, not, List, [], ◌∷◌, ◌++◌, filter, fold, sym, subst, arith, nat_eq, if◌then◌else◌, list_any}
+use Rattle.dom_dispatch.proofs.Cited.{length-append, NodeName, EventWords, visits_of, Listener, Visit, Dispatching, after_action, may_cancel, line_of}
+use Rattle.dom_dispatch.proofs.Cited.{is_listener, with_listener_removed, kept_after, after_inner_invoke, hears, after_invoke, begun, all-filter, IsListenerAt}
+use Rattle.dom_dispatch.proofs.Cited.{AreAtNodes, NoneStay, MoreStay, ListenedStay, UnlistenedStay, DispatchedStay}
 use Rattle.dom_dispatch.proofs.Narrowing.{acted-listeners}
-use Rattle.dom_dispatch.specs.Definitions.{IsListenerAt, AreAtNodes, NoneStay, MoreStay, ListenedStay, UnlistenedStay, DispatchedStay}
 
 -- the state in which a listener acts
 abbrev pub heard_by : Visit ℕ → Dispatching ℕ → Listener ℕ → Dispatching ℕ

@@ -1,12 +1,7 @@
 -- The types for which there are listeners.
-use Rattle.dom_base.proofs.Std.{◌≡◌, ℕ, Bool, true, false, ◌&&◌, cond, List, [], ◌∷◌, ◌++◌, Result, Ok, Err, refl, sym, ap, subst, ◌∙◌, true≢false}
-use Rattle.dom_base.proofs.Std.{OnOk, OnErr, if◌then◌else◌, beq, bytes_eq-Decides}
-use Rattle.dom_attributes.proofs.Attributes.{text_test}
-use Rattle.dom_model.proofs.Model.{Listener, Word, text_eq}
-use Rattle.dom_worlds.proofs.ListLemmas.{all-then}
-use Rattle.dom_dispatch.specs.declared.listeners.Entry.{Entry}
-use Rattle.dom_dispatch.specs.declared.types.Types.{Types}
-use Rattle.dom_dispatch.specs.Definitions.{listener_of, listeners_in, NoneHears, is_noted, HasTypes}
+use Rattle.dom_dispatch.proofs.Cited.{◌≡◌, ℕ, Bool, true, false, ◌&&◌, cond, List, [], ◌∷◌, ◌++◌, Result, Ok, Err, refl, sym, ap, subst, ◌∙◌, true≢false, OnOk}
+use Rattle.dom_dispatch.proofs.Cited.{OnErr, if◌then◌else◌, beq, bytes_eq-Decides, text_test, Listener, Word, text_eq, all-then, Entry, Types, listener_of}
+use Rattle.dom_dispatch.proofs.Cited.{listeners_in, NoneHears, is_noted, HasTypes}
 
 module _ (types : Types) where
   -- a listener of a type that is among them doesn't hear one that is not

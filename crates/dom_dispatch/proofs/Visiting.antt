@@ -1,20 +1,11 @@
 -- The steps of loops over listeners and over the visits of a path, and the dispatch in a world.
-use Rattle.dom_base.proofs.Std.{◌≡◌, ℕ, ◌+◌, ◌<◌, Bool, true, false, cond, List, [], ◌∷◌, ◌++◌, length, get_or, take, drop, filter, fold, map, reverse, Option}
-use Rattle.dom_base.proofs.Std.{Some, option_map, not, zero, suc, refl, sym, ap, subst, ◌∙◌, arith, drop-cons, ◌&&◌, ◌||◌, nat_eq, slice_get, if◌then◌else◌}
-use Rattle.dom_base.proofs.Std.{AllByRecursion, cond-false, map-append, reverse-append, filter_more, fold-append, slice_get-map, slice_get-get_or}
-use Rattle.dom_base.proofs.Std.{slice_get_within, get_or_from_slice_get}
-use Rattle.dom_model.proofs.Model.{NodeName, name_eq, Word, EventWords, event_output, visit_of, visits_of, is_at_target, begun, Dispatching, Listener, hears}
-use Rattle.dom_model.proofs.Model.{after_inner_invoke, after_invoke, EventLine, View, views, part_of}
-use Rattle.dom_tree.specs.Definitions.{NamedTrees, name_at, TellApart}
-use Rattle.dom_slots.specs.Definitions.{ShadowHost}
-use Rattle.dom_path.specs.declared.item.Item.{Item}
-use Rattle.dom_path.specs.declared.trees.Tree.{Tree}
-use Rattle.dom_path.specs.Definitions.{ShowsNodes, view_in}
-use Rattle.dom_worlds.proofs.ListLemmas.{all-then}
-use Rattle.dom_dispatch.specs.declared.event.LogLine.{LogLine}
-use Rattle.dom_dispatch.specs.declared.event.Outcome.{Outcome}
-use Rattle.dom_dispatch.specs.Definitions.{IsDispatched, IsDispatchedIn, NoneHears, is_of_owner, listener_named, line_named}
-use Rattle.dom_dispatch.specs.Definitions.{IsListenerAt, IsViewOf, line_in}
+use Rattle.dom_dispatch.proofs.Cited.{◌≡◌, ℕ, ◌+◌, ◌<◌, Bool, true, false, cond, List, [], ◌∷◌, ◌++◌, length, get_or, take, drop, filter, fold, map, reverse}
+use Rattle.dom_dispatch.proofs.Cited.{Option, Some, option_map, not, zero, suc, refl, sym, ap, subst, ◌∙◌, arith, drop-cons, ◌&&◌, ◌||◌, nat_eq, slice_get}
+use Rattle.dom_dispatch.proofs.Cited.{if◌then◌else◌, AllByRecursion, cond-false, map-append, reverse-append, filter_more, fold-append, slice_get-map}
+use Rattle.dom_dispatch.proofs.Cited.{slice_get-get_or, slice_get_within, get_or_from_slice_get, NodeName, name_eq, Word, EventWords, event_output, visit_of}
+use Rattle.dom_dispatch.proofs.Cited.{visits_of, is_at_target, begun, Dispatching, Listener, hears, after_inner_invoke, after_invoke, EventLine, View, views}
+use Rattle.dom_dispatch.proofs.Cited.{part_of, NamedTrees, name_at, TellApart, ShadowHost, Item, Tree, ShowsNodes, view_in, all-then, LogLine, Outcome}
+use Rattle.dom_dispatch.proofs.Cited.{IsDispatched, IsDispatchedIn, NoneHears, is_of_owner, listener_named, line_named, IsListenerAt, IsViewOf, line_in}
 use Rattle.dom_dispatch.proofs.Among.{dispatched-among, dispatched-along}
 
 -- one or none, mapped

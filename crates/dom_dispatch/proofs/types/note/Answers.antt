@@ -1,4 +1,4 @@
-use Rattle.dom_base.proofs.Std.{true, bytes_eq, string_bytes, contains_text, hash_set_updates_text}
+use Rattle.dom_dispatch.proofs.Cited.{true, bytes_eq, string_bytes, contains_text, hash_set_updates_text}
 use Rattle.dom_dispatch.proofs.Typed.{type-kept}
 use Rattle.dom_dispatch.proofs.types.note.Goals as goal
 

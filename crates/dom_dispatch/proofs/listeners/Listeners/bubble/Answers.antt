@@ -1,12 +1,10 @@
-use Rattle.dom_base.proofs.Std.{◌≡◌, ℕ, ◌||◌, Bool, true, false, cond, nat_eq, filter, length, Some, ap, subst, sym, ◌∙◌, arith, rules, tests, slice_get}
-use Rattle.dom_base.proofs.Std.{AllByRecursion, cond-true, cond-false}
-use Rattle.dom_model.proofs.Model.{visit_of, is_at_target, after_invoke, View}
-use Rattle.dom_path.specs.Definitions.{view_in}
-use Rattle.dom_dispatch.specs.Definitions.{event_words, dispatching_in, IsLineAlong, IsShownOf, paths_of, NoneHears}
+use Rattle.dom_dispatch.proofs.Cited.{◌≡◌, ℕ, ◌||◌, Bool, true, false, cond, nat_eq, filter, length, Some, ap, subst, sym, ◌∙◌, arith, rules, tests, slice_get}
+use Rattle.dom_dispatch.proofs.Cited.{AllByRecursion, cond-true, cond-false, visit_of, is_at_target, after_invoke, View, view_in, event_words, dispatching_in}
+use Rattle.dom_dispatch.proofs.Cited.{IsLineAlong, IsShownOf, paths_of, NoneHears}
 use Rattle.dom_dispatch.proofs.Visiting.{bubbled-more, silent, view-is}
-use Rattle.dom_dispatch.proofs.listeners.Listeners.bubble.Goals as goal
 use Rattle.dom_dispatch.proofs.listeners.Listeners.bubble.Goals.{then-event+in_ok-visit, then-event-via-then-event, then-event-via-else-event+then-eq}
 use Rattle.dom_dispatch.proofs.listeners.Listeners.bubble.Goals.{else-event+else-eq}
+use Rattle.dom_dispatch.proofs.listeners.Listeners.bubble.Goals as goal
 
 pub returns-then-not-may_hear-clause-visits : goal.returns-then-not-may_hear-clause-visits
 returns-then-not-may_hear-clause-visits c =

@@ -1,6 +1,5 @@
-use Rattle.dom_base.proofs.Std.{◌≡◌, ◌||◌, nat_eq, false, fold, map, filter, take, AllByRecursion}
-use Rattle.dom_model.proofs.Model.{visit_of, is_at_target, after_invoke}
-use Rattle.dom_dispatch.specs.Definitions.{event_words, dispatching_in, IsLineAlong, IsShownOf, paths_of}
+use Rattle.dom_dispatch.proofs.Cited.{◌≡◌, ◌||◌, nat_eq, false, fold, map, filter, take, AllByRecursion, visit_of, is_at_target, after_invoke, event_words}
+use Rattle.dom_dispatch.proofs.Cited.{dispatching_in, IsLineAlong, IsShownOf, paths_of}
 use Rattle.dom_dispatch.proofs.listeners.Listeners.bubble.Given as goal
 
 abbrev pub invariant-loop-at : goal.invariant-loop-at

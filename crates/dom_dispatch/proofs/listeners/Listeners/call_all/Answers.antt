@@ -1,5 +1,5 @@
 -- The lines of the calls so far, and of one more.
-use Rattle.dom_base.proofs.Std.{rules}
+use Rattle.dom_dispatch.proofs.Cited.{rules}
 use Rattle.dom_dispatch.proofs.listeners.Listeners.call_all.Goals as goal
 
 pub loop-listener-preserved : goal.loop-listener-preserved

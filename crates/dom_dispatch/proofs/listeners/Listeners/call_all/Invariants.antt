@@ -1,6 +1,4 @@
-use Rattle.dom_base.proofs.Std.{◌≡◌, nat_eq, fold, length}
-use Rattle.dom_model.proofs.Model.{after_inner_invoke}
-use Rattle.dom_dispatch.specs.Definitions.{listeners_in, event_words, visit_in, dispatching_in, KeepsLines}
+use Rattle.dom_dispatch.proofs.Cited.{◌≡◌, nat_eq, fold, length, after_inner_invoke, listeners_in, event_words, visit_in, dispatching_in, KeepsLines}
 use Rattle.dom_dispatch.proofs.listeners.Listeners.call_all.Given as goal
 
 -- those that are still to be called end where all do

@@ -1,6 +1,5 @@
-use Rattle.dom_base.proofs.Std.{◌≡◌, ◌<◌, ◌-◌, suc, true, nat_eq, length, reverse, subst, sym, arith}
-use Rattle.dom_model.proofs.Model.{visit_of, after_invoke}
-use Rattle.dom_dispatch.specs.Definitions.{event_words, dispatching_in, NoneHears}
+use Rattle.dom_dispatch.proofs.Cited.{◌≡◌, ◌<◌, ◌-◌, suc, true, nat_eq, length, reverse, subst, sym, arith, visit_of, after_invoke, event_words, dispatching_in}
+use Rattle.dom_dispatch.proofs.Cited.{NoneHears}
 use Rattle.dom_dispatch.proofs.Visiting.{captured-more, silent, view-there}
 use Rattle.dom_dispatch.proofs.listeners.Listeners.capture.Goals as goal
 

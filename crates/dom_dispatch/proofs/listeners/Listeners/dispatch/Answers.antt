@@ -1,7 +1,6 @@
-use Rattle.dom_base.proofs.Std.{◌≡◌, ℕ, ◌||◌, true, false, not, nat_eq, map, filter, fold, reverse, ap, subst, sym, ◌∙◌, AllByRecursion, fold-append}
-use Rattle.dom_model.proofs.Model.{visit_of, is_at_target, Dispatching, after_invoke, begun}
-use Rattle.dom_dispatch.specs.Definitions.{event_words, dispatching_in, HasPathOf, IsLineAlong, IsOwnLine, paths_of, dispatch_along}
-use Rattle.dom_worlds.proofs.ListLemmas.{all-then}
+use Rattle.dom_dispatch.proofs.Cited.{◌≡◌, ℕ, ◌||◌, true, false, not, nat_eq, map, filter, fold, reverse, ap, subst, sym, ◌∙◌, AllByRecursion, fold-append}
+use Rattle.dom_dispatch.proofs.Cited.{visit_of, is_at_target, Dispatching, after_invoke, begun, event_words, dispatching_in, HasPathOf, IsLineAlong, IsOwnLine}
+use Rattle.dom_dispatch.proofs.Cited.{paths_of, dispatch_along, all-then}
 use Rattle.dom_dispatch.proofs.Visiting.{dispatched-in}
 use Rattle.dom_dispatch.proofs.listeners.Listeners.dispatch.Goals as goal
 

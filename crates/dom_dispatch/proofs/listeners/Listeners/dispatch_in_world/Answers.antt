@@ -1,5 +1,4 @@
-use Rattle.dom_base.proofs.Std.{true, [], map, refl, sym, ap, subst, AllByRecursion, IfOk-weaker}
-use Rattle.dom_dispatch.specs.Definitions.{event_words, line_in, HasPathOf, NoneHears}
+use Rattle.dom_dispatch.proofs.Cited.{true, [], map, refl, sym, ap, subst, AllByRecursion, IfOk-weaker, event_words, line_in, HasPathOf, NoneHears}
 use Rattle.dom_dispatch.proofs.Visiting.{unheard-in}
 use Rattle.dom_dispatch.proofs.listeners.Listeners.dispatch_in_world.Goals as goal
 

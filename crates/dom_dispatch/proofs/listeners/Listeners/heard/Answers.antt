@@ -1,11 +1,9 @@
-use Rattle.dom_base.proofs.Std.{◌≡◌, ℕ, ◌&&◌, Bool, true, nat_eq, [], ◌∷◌, ◌++◌, take, filter, Option, Some, false, ap, sym, ◌∙◌, arith, slice_get}
-use Rattle.dom_base.proofs.Std.{slice_index_or, and_parts, beq, option_map_or, map-append, take_all, slice_get-get_or}
-use Rattle.dom_model.proofs.Model.{Listener, text_eq}
-use Rattle.dom_dispatch.specs.declared.listeners.Entry.{Entry}
-use Rattle.dom_dispatch.specs.Definitions.{listener_of, listeners_in, hears_at, places_from}
+use Rattle.dom_dispatch.proofs.Cited.{◌≡◌, ℕ, ◌&&◌, Bool, true, nat_eq, [], ◌∷◌, ◌++◌, take, filter, Option, Some, false, ap, sym, ◌∙◌, arith, slice_get}
+use Rattle.dom_dispatch.proofs.Cited.{slice_index_or, and_parts, beq, option_map_or, map-append, take_all, slice_get-get_or, Listener, text_eq, Entry}
+use Rattle.dom_dispatch.proofs.Cited.{listener_of, listeners_in, hears_at, places_from}
 use Rattle.dom_dispatch.proofs.Placing.{picked, picked-kept, kept-next, kept-same}
-use Rattle.dom_dispatch.proofs.listeners.Listeners.heard.Goals as goal
 use Rattle.dom_dispatch.proofs.listeners.Listeners.heard.Goals.{in-Some+then-hears+in_ok-copied+in_ok-push_back, in-Some+else-hears, in_default}
+use Rattle.dom_dispatch.proofs.listeners.Listeners.heard.Goals as goal
 
 pub loop-place-preserved : goal.loop-place-preserved
 loop-place-preserved c =

@@ -1,5 +1,4 @@
-use Rattle.dom_base.proofs.Std.{◌≡◌, filter, take}
-use Rattle.dom_dispatch.specs.Definitions.{listeners_in, hears_at}
+use Rattle.dom_dispatch.proofs.Cited.{◌≡◌, filter, take, listeners_in, hears_at}
 use Rattle.dom_dispatch.proofs.Placing.{picked}
 use Rattle.dom_dispatch.proofs.listeners.Listeners.heard.Given as goal
 

@@ -1,6 +1,4 @@
-use Rattle.dom_base.proofs.Std.{ap, sym, ◌∙◌}
-use Rattle.dom_model.proofs.Model.{ListenerWords}
-use Rattle.dom_dispatch.specs.Definitions.{listeners_in, present, is_noted}
+use Rattle.dom_dispatch.proofs.Cited.{ap, sym, ◌∙◌, ListenerWords, listeners_in, present, is_noted}
 use Rattle.dom_dispatch.proofs.Typed.{more-typed, pushed-typed}
 use Rattle.dom_dispatch.proofs.listeners.Listeners.listen.Goals as goal
 

@@ -1,5 +1,4 @@
-use Rattle.dom_base.proofs.Std.{subst, sym, ◌∙◌}
-use Rattle.dom_dispatch.specs.Definitions.{listeners_in, NoneHears, present}
+use Rattle.dom_dispatch.proofs.Cited.{subst, sym, ◌∙◌, listeners_in, NoneHears, present}
 use Rattle.dom_dispatch.proofs.Typed.{none-typed}
 use Rattle.dom_dispatch.proofs.listeners.Listeners.may_hear.Goals as goal
 

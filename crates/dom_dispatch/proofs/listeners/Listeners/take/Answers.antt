@@ -1,8 +1,6 @@
-use Rattle.dom_base.proofs.Std.{◌≡◌, ℕ, Bool, true, nat_eq, not, filter, subst, sym, ◌∙◌}
-use Rattle.dom_model.proofs.Model.{Listener, is_listener}
-use Rattle.dom_dispatch.specs.Definitions.{listeners_in, present, is_noted, HasTypes}
+use Rattle.dom_dispatch.proofs.Cited.{◌≡◌, ℕ, Bool, true, nat_eq, not, filter, subst, sym, ◌∙◌, Listener, is_listener, listeners_in, present, is_noted}
+use Rattle.dom_dispatch.proofs.Cited.{HasTypes, all-filter}
 use Rattle.dom_dispatch.proofs.Placing.{none-pass}
-use Rattle.dom_worlds.proofs.ListLemmas.{all-filter}
 use Rattle.dom_dispatch.proofs.listeners.Listeners.take.Goals as goal
 
 pub invariant_of-self : goal.invariant_of-self

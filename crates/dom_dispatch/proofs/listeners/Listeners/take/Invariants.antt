@@ -1,6 +1,4 @@
-use Rattle.dom_base.proofs.Std.{◌≡◌, not, nat_eq, filter, length}
-use Rattle.dom_model.proofs.Model.{is_listener}
-use Rattle.dom_dispatch.specs.Definitions.{listeners_in, present, IsIndexed, HasTypes}
+use Rattle.dom_dispatch.proofs.Cited.{◌≡◌, not, nat_eq, filter, length, is_listener, listeners_in, present, IsIndexed, HasTypes}
 use Rattle.dom_dispatch.proofs.listeners.Listeners.take.Given as goal
 
 abbrev pub invariant-loop-at : goal.invariant-loop-at

@@ -1,7 +1,6 @@
 -- Those that were heard at an item's node are those that hear the visit there.
-use Rattle.dom_base.proofs.Std.{◌≡◌, [], filter, fold, nat_eq, ap, sym, ◌∙◌, arith, common_steps, on_ok_weaker}
-use Rattle.dom_model.proofs.Model.{after_inner_invoke}
-use Rattle.dom_dispatch.specs.Definitions.{hears_at, listeners_in, event_words, dispatching_in, paths_of}
+use Rattle.dom_dispatch.proofs.Cited.{◌≡◌, [], filter, fold, nat_eq, ap, sym, ◌∙◌, arith, common_steps, on_ok_weaker, after_inner_invoke, hears_at}
+use Rattle.dom_dispatch.proofs.Cited.{listeners_in, event_words, dispatching_in, paths_of}
 use Rattle.dom_dispatch.proofs.Visiting.{view-is, visited-calls}
 use Rattle.dom_dispatch.proofs.listeners.Listeners.visit.Goals as goal
 

@@ -1,5 +1,4 @@
-use Rattle.dom_base.proofs.Std.{◌≡◌, ℕ, length}
-use Rattle.dom_dispatch.specs.Definitions.{places_at}
+use Rattle.dom_dispatch.proofs.Cited.{◌≡◌, ℕ, length, places_at}
 use Rattle.dom_dispatch.proofs.places.Places.reach.Given as goal
 
 abbrev pub invariant-loop : goal.invariant-loop

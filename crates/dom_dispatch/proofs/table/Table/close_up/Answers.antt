@@ -1,5 +1,4 @@
-use Rattle.dom_base.proofs.Std.{ap, sym, ◌∙◌, rules, tests, is_some, filter_same}
-use Rattle.dom_dispatch.specs.Definitions.{present, places_from}
+use Rattle.dom_dispatch.proofs.Cited.{ap, sym, ◌∙◌, rules, tests, is_some, filter_same, present, places_from}
 use Rattle.dom_dispatch.proofs.Placing.{closed-present}
 use Rattle.dom_dispatch.proofs.table.Table.close_up.Goals as goal
 

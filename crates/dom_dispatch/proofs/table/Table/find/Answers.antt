@@ -1,7 +1,5 @@
-use Rattle.dom_base.proofs.Std.{◌≡◌, ℕ, ◌&&◌, Bool, true, false, nat_eq, take, sym, ap, ◌∙◌, arith, slice_index_or, beq, list_any, option_map_or, take_all}
-use Rattle.dom_base.proofs.Std.{slice_get-get_or, and_parts}
-use Rattle.dom_model.proofs.Model.{Listener, is_listener, text_eq}
-use Rattle.dom_dispatch.specs.Definitions.{listeners_in, places_from, passes_in, holds_at}
+use Rattle.dom_dispatch.proofs.Cited.{◌≡◌, ℕ, ◌&&◌, Bool, true, false, nat_eq, take, sym, ap, ◌∙◌, arith, slice_index_or, beq, list_any, option_map_or}
+use Rattle.dom_dispatch.proofs.Cited.{take_all, slice_get-get_or, and_parts, Listener, is_listener, text_eq, listeners_in, places_from, passes_in, holds_at}
 use Rattle.dom_dispatch.proofs.Placing.{picked, picked-any, none-next, passes-any}
 use Rattle.dom_dispatch.proofs.table.Table.find.Goals as goal
 

@@ -1,6 +1,4 @@
-use Rattle.dom_base.proofs.Std.{◌≡◌, false, nat_eq, take, list_any}
-use Rattle.dom_model.proofs.Model.{is_listener}
-use Rattle.dom_dispatch.specs.Definitions.{listeners_in}
+use Rattle.dom_dispatch.proofs.Cited.{◌≡◌, false, nat_eq, take, list_any, is_listener, listeners_in}
 use Rattle.dom_dispatch.proofs.Placing.{picked}
 use Rattle.dom_dispatch.proofs.table.Table.find.Given as goal
 

@@ -1,8 +1,7 @@
-use Rattle.dom_base.proofs.Std.{◌≡◌, ◌+◌, length, get_or, take, ap, subst, sym, ◌∙◌, arith, if◌then◌else◌}
-use Rattle.dom_dispatch.specs.Definitions.{present}
+use Rattle.dom_dispatch.proofs.Cited.{◌≡◌, ◌+◌, length, get_or, take, ap, subst, sym, ◌∙◌, arith, if◌then◌else◌, present}
 use Rattle.dom_dispatch.proofs.Placing.{counted-next}
-use Rattle.dom_dispatch.proofs.table.Table.is_half_empty.Goals as goal
 use Rattle.dom_dispatch.proofs.table.Table.is_half_empty.Goals.{then-is_some, else-is_some}
+use Rattle.dom_dispatch.proofs.table.Table.is_half_empty.Goals as goal
 
 pub loop-entry-preserved : goal.loop-entry-preserved
 loop-entry-preserved c =

@@ -1,5 +1,4 @@
-use Rattle.dom_base.proofs.Std.{◌≡◌, ◌≤◌, length, take}
-use Rattle.dom_dispatch.specs.Definitions.{present}
+use Rattle.dom_dispatch.proofs.Cited.{◌≡◌, ◌≤◌, length, take, present}
 use Rattle.dom_dispatch.proofs.table.Table.is_half_empty.Given as goal
 
 abbrev pub invariant-loop-entry : goal.invariant-loop-entry

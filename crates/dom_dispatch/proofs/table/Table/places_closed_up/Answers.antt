@@ -1,9 +1,8 @@
-use Rattle.dom_base.proofs.Std.{◌≡◌, ◌+◌, ◌∷◌, ◌++◌, [], nat_eq, Some, filter, length, get_or, take, ap, subst, sym, ◌∙◌, arith, append-nil, is_some}
-use Rattle.dom_base.proofs.Std.{if◌then◌else◌, length_push}
-use Rattle.dom_dispatch.specs.Definitions.{places_at, places_from}
+use Rattle.dom_dispatch.proofs.Cited.{◌≡◌, ◌+◌, ◌∷◌, ◌++◌, [], nat_eq, Some, filter, length, get_or, take, ap, subst, sym, ◌∙◌, arith, append-nil, is_some}
+use Rattle.dom_dispatch.proofs.Cited.{if◌then◌else◌, length_push, places_at, places_from}
 use Rattle.dom_dispatch.proofs.Placing.{closed-next, places-more}
-use Rattle.dom_dispatch.proofs.table.Table.places_closed_up.Goals as goal
 use Rattle.dom_dispatch.proofs.table.Table.places_closed_up.Goals.{in-Some+in_ok-push, in_default}
+use Rattle.dom_dispatch.proofs.table.Table.places_closed_up.Goals as goal
 
 pub loop-entry-preserved : goal.loop-entry-preserved
 loop-entry-preserved c =

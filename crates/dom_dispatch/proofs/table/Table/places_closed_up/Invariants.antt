@@ -1,5 +1,4 @@
-use Rattle.dom_base.proofs.Std.{◌≡◌, ◌≤◌, filter, length, take, is_some}
-use Rattle.dom_dispatch.specs.Definitions.{IsIndexed}
+use Rattle.dom_dispatch.proofs.Cited.{◌≡◌, ◌≤◌, filter, length, take, is_some, IsIndexed}
 use Rattle.dom_dispatch.proofs.table.Table.places_closed_up.Given as goal
 
 abbrev pub invariant-loop-entry : goal.invariant-loop-entry

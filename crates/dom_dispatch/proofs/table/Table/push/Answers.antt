@@ -1,5 +1,5 @@
-use Rattle.dom_base.proofs.Std.{◌≡◌, ◌++◌, ◌∷◌, [], nat_eq, Some, length, sym, ap, ◌∙◌, arith, if◌then◌else◌, filter_map-append}
-use Rattle.dom_dispatch.specs.Definitions.{present, places_at, places_from}
+use Rattle.dom_dispatch.proofs.Cited.{◌≡◌, ◌++◌, ◌∷◌, [], nat_eq, Some, length, sym, ap, ◌∙◌, arith, if◌then◌else◌, filter_map-append, present, places_at}
+use Rattle.dom_dispatch.proofs.Cited.{places_from}
 use Rattle.dom_dispatch.proofs.Placing.{places-more}
 use Rattle.dom_dispatch.proofs.table.Table.push.Goals as goal
 

@@ -1,6 +1,5 @@
-use Rattle.dom_base.proofs.Std.{◌≡◌, nat_eq, true, false, sym, ap, ◌∙◌, arith, slice_index_or, remove, if◌then◌else◌, option_map_or}
-use Rattle.dom_dispatch.specs.declared.listeners.Entry.{Entry}
-use Rattle.dom_dispatch.specs.Definitions.{listener_of, passes_in}
+use Rattle.dom_dispatch.proofs.Cited.{◌≡◌, nat_eq, true, false, sym, ap, ◌∙◌, arith, slice_index_or, remove, if◌then◌else◌, option_map_or, Entry, listener_of}
+use Rattle.dom_dispatch.proofs.Cited.{passes_in}
 use Rattle.dom_dispatch.proofs.Placing.{parted-at, parted-within, parted-entry, parted-fewer, parted-others, parted-places}
 use Rattle.dom_dispatch.proofs.table.Table.take.Goals as goal
 
