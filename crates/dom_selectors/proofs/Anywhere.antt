@@ -1,8 +1,6 @@
 -- Tests of lists whose items are seen in some way.
-use Rattle.dom_base.proofs.Std.{◌≡◌, ℕ, Bool, List, [], ◌∷◌, Option, Some, None, refl, ap, sym, not, ◌&&◌, ◌||◌, map, list_any, list_all, option_map, is_some}
-use Rattle.dom_base.proofs.Std.{none-some}
-use Rattle.dom_model.proofs.Model.{NodeName, last_of, is_empty}
-use Rattle.dom_laws.proofs.Laws.{no_last}
+use Rattle.dom_selectors.proofs.Cited.{◌≡◌, ℕ, Bool, List, [], ◌∷◌, Option, Some, None, refl, ap, sym, not, ◌&&◌, ◌||◌, map, list_any, list_all, option_map}
+use Rattle.dom_selectors.proofs.Cited.{is_some, none-some, NodeName, last_of, is_empty, no_last}
 
 -- all that are seen pass where all pass as they are seen
 pub all_seen : {X Y : Type 0} (test : Y → Bool) (view : X → Y) (xs : List X) → list_all (λ x. test (view x)) xs ≡ list_all test (map view xs)

@@ -1,9 +1,8 @@
 -- The siblings before a node and behind it, by the links.
-use Rattle.dom_base.proofs.Std.{◌≡◌, List, [], ◌∷◌, ◌++◌, Option, Some, None, refl, ap, sym, subst, ◌∙◌, append_assoc, inl, option_map_or, none-some}
-use Rattle.dom_model.proofs.Model.{NodeName, name_eq, first_of, last_of, items_before, items_after, Trees, children_of, siblings, parent_of, previous_sibling}
-use Rattle.dom_model.proofs.Model.{next_sibling}
-use Rattle.dom_laws.proofs.Laws.{In, In-right, Single, Single-apart, split_at, before-split, after-split, first_split, last_split, no_first, no_last, Has, Once}
-use Rattle.dom_laws.proofs.Laws.{parent-of_child, child-of_parent, children-single}
+use Rattle.dom_selectors.proofs.Cited.{◌≡◌, List, [], ◌∷◌, ◌++◌, Option, Some, None, refl, ap, sym, subst, ◌∙◌, append_assoc, inl, option_map_or, none-some}
+use Rattle.dom_selectors.proofs.Cited.{NodeName, name_eq, first_of, last_of, items_before, items_after, Trees, children_of, siblings, parent_of}
+use Rattle.dom_selectors.proofs.Cited.{previous_sibling, next_sibling, In, In-right, Single, Single-apart, split_at, before-split, after-split, first_split}
+use Rattle.dom_selectors.proofs.Cited.{last_split, no_first, no_last, Has, Once, parent-of_child, child-of_parent, children-single}
 
 -- the siblings before a node
 abbrev pub before_list : Trees → NodeName → List NodeName

@@ -1,10 +1,9 @@
 -- A search along a run of `>` and `+`, step by step: what it has come to answers for what it began with.
-use Rattle.dom_base.proofs.Std.{◌≡◌, inl, inr, Bool, true, false, List, [], ◌∷◌, ◌++◌, Option, Some, None, refl, ap, sym, subst, ◌∙◌, append_assoc, true≢false}
-use Rattle.dom_base.proofs.Std.{◌&&◌, option_to_list, list_any, and_parts, and_left}
-use Rattle.dom_model.proofs.Model.{NodeName, last_of, Trees, ancestors, parent_of, Complex, alone, joined, Combinator, descendant, child, next, later}
-use Rattle.dom_model.proofs.Model.{CompoundPart, compound_matches, complex_matches, combined_with, elements_before}
-use Rattle.dom_laws.proofs.Laws.{In, In-left, In-right, In-parts, Has, proper-parent, Once}
-use Rattle.dom_selectors.specs.Definitions.{last_compound, elements_to, only_left, IsSearched, MatchesAbove}
+use Rattle.dom_selectors.proofs.Cited.{◌≡◌, inl, inr, Bool, true, false, List, [], ◌∷◌, ◌++◌, Option, Some, None, refl, ap, sym, subst, ◌∙◌, append_assoc}
+use Rattle.dom_selectors.proofs.Cited.{true≢false, ◌&&◌, option_to_list, list_any, and_parts, and_left, NodeName, last_of, Trees, ancestors, parent_of, Complex}
+use Rattle.dom_selectors.proofs.Cited.{alone, joined, Combinator, descendant, child, next, later, CompoundPart, compound_matches, complex_matches}
+use Rattle.dom_selectors.proofs.Cited.{combined_with, elements_before, In, In-left, In-right, In-parts, Has, proper-parent, Once, last_compound, elements_to}
+use Rattle.dom_selectors.proofs.Cited.{only_left, IsSearched, MatchesAbove}
 use Rattle.dom_selectors.proofs.JoinedLaws.{or_none}
 use Rattle.dom_selectors.proofs.Earlier.{any-passes, passes-any, stands-matching, IsEarlier, earlier-in, nearest}
 

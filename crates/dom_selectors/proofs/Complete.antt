@@ -1,12 +1,11 @@
 -- What is in the grammar is read: tokens and simple selectors.
-use Rattle.dom_base.proofs.Std.{◌≡◌, ℕ, Bool, true, false, [], ◌∷◌, ◌++◌, Option, Some, None, refl, ap, ◌∙◌, append_assoc, arith, ◌||◌, ◌==◌, option_map}
-use Rattle.dom_base.proofs.Std.{take_while, codes, option_and_then, option_or, list_all, cond-true, cond-false, and_parts, eq-eqb, nat_tests, take_while-cons}
-use Rattle.dom_model.proofs.Model.{Word, DomString, begins_name, continues_name, is_name, Simple, AttributeTest, is_space, of_type, of_any_type, of_id}
-use Rattle.dom_model.proofs.Model.{of_class, with_value, first_child, last_child, equals, has_word, begins_with_dash, begins, ends, holds, drop_while}
-use Rattle.dom_model.proofs.Model.{skip_space, read_map, expect, closed_by, read_name, may_stand_quoted, read_quoted, read_value, read_one_of, signs}
-use Rattle.dom_model.proofs.Model.{read_test_of, read_test, read_attribute, read_simple}
-use Rattle.dom_model.specs.Selectors.{with_attribute}
-use Rattle.dom_selectors.specs.Definitions.{IsBracketed, IsTested, IsSpaces, IsValue, plain, double, single, sign, IsSimple}
+use Rattle.dom_selectors.proofs.Cited.{◌≡◌, ℕ, Bool, true, false, [], ◌∷◌, ◌++◌, Option, Some, None, refl, ap, ◌∙◌, append_assoc, arith, ◌||◌, ◌==◌, option_map}
+use Rattle.dom_selectors.proofs.Cited.{take_while, codes, option_and_then, option_or, list_all, cond-true, cond-false, and_parts, eq-eqb, nat_tests}
+use Rattle.dom_selectors.proofs.Cited.{take_while-cons, Word, DomString, begins_name, continues_name, is_name, Simple, AttributeTest, is_space, of_type}
+use Rattle.dom_selectors.proofs.Cited.{of_any_type, of_id, of_class, with_value, first_child, last_child, equals, has_word, begins_with_dash, begins, ends}
+use Rattle.dom_selectors.proofs.Cited.{holds, drop_while, skip_space, read_map, expect, closed_by, read_name, may_stand_quoted, read_quoted, read_value}
+use Rattle.dom_selectors.proofs.Cited.{read_one_of, signs, read_test_of, read_test, read_attribute, read_simple, with_attribute, IsBracketed, IsTested}
+use Rattle.dom_selectors.proofs.Cited.{IsSpaces, IsValue, plain, double, single, sign, IsSimple}
 use Rattle.dom_selectors.proofs.TokenLaws.{expect_at}
 
 -- whether the first unit passes

@@ -1,17 +1,14 @@
 -- What is in the grammar is read: combinators, complex selectors and lists.
-use Rattle.dom_base.proofs.Std.{◌≡◌, ◌<◌, false, List, [], ◌∷◌, ◌++◌, length, Option, Some, None, refl, ap, sym, subst, ◌∙◌, append_assoc, length-append, arith}
-use Rattle.dom_base.proofs.Std.{◌||◌, ◌==◌, fold, option_map, codes, nat_lt, if◌then◌else◌, option_and_then, option_or, list_all, cond-true, cond_both}
-use Rattle.dom_base.proofs.Std.{and_parts, or_parts, lt-ltb, false≢true, append-nil, none-some}
-use Rattle.dom_model.proofs.Model.{DomString, is_empty, CompoundPart, Combinator, Complex, is_space, descendant, child, next, later, alone, skip_space}
-use Rattle.dom_model.proofs.Model.{read_map, expect, read_all, read_one_of, read_compound, read_combinator, read_link, read_complex, read_next, link}
-use Rattle.dom_model.proofs.Model.{parse_selectors}
-use Rattle.dom_model.specs.SelectorText.{whole}
-use Rattle.dom_selectors.specs.Definitions.{IsSpaces, IsSpaced, IsCombinator, IsLink, IsComplex, IsSelector, combinator_signs, behind_list}
+use Rattle.dom_selectors.proofs.Cited.{◌≡◌, ◌<◌, false, List, [], ◌∷◌, ◌++◌, length, Option, Some, None, refl, ap, sym, subst, ◌∙◌, append_assoc, length-append}
+use Rattle.dom_selectors.proofs.Cited.{arith, ◌||◌, ◌==◌, fold, option_map, codes, nat_lt, if◌then◌else◌, option_and_then, option_or, list_all, cond-true}
+use Rattle.dom_selectors.proofs.Cited.{cond_both, and_parts, or_parts, lt-ltb, false≢true, append-nil, none-some, DomString, is_empty, CompoundPart, Combinator}
+use Rattle.dom_selectors.proofs.Cited.{Complex, is_space, descendant, child, next, later, alone, skip_space, read_map, expect, read_all, read_one_of}
+use Rattle.dom_selectors.proofs.Cited.{read_compound, read_combinator, read_link, read_complex, read_next, link, parse_selectors, whole, IsSpaces, IsSpaced}
+use Rattle.dom_selectors.proofs.Cited.{IsCombinator, IsLink, IsComplex, IsSelector, combinator_signs, behind_list}
 use Rattle.dom_selectors.proofs.Shorter.{link-ends, next-ends}
 use Rattle.dom_selectors.proofs.Repeats.{all-one, all-none}
 use Rattle.dom_selectors.proofs.Complete.{head_passes, skip-read}
-use Rattle.dom_selectors.proofs.CompleteLists.{begins_sign, Off, Begins, space_not_name, space_not_part, spaces_off, each-ok}
-use Rattle.dom_selectors.proofs.CompleteLists.{each-read, full-read, full-begins}
+use Rattle.dom_selectors.proofs.CompleteLists.{begins_sign, Off, Begins, space_not_name, space_not_part, spaces_off, each-ok, each-read, full-read, full-begins}
 
 -- the combinator at the front of units, which become these without white space
 abbrev combinator_at : DomString → DomString → Option (Combinator × DomString)

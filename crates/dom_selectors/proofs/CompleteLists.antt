@@ -1,11 +1,10 @@
 -- What is in the grammar is read: compounds, complex selectors and lists of them.
-use Rattle.dom_base.proofs.Std.{◌≡◌, ℕ, Bool, true, false, List, [], ◌∷◌, ◌++◌, Option, Some, None, refl, ap, sym, subst, ◌∙◌, append_assoc, arith, ◌||◌, ◌==◌}
-use Rattle.dom_base.proofs.Std.{map, option_map, codes, option_or, option_map_or, list_all, cond-false, and_parts, or_parts, nat_tests}
-use Rattle.dom_model.proofs.Model.{Word, DomString, begins_name, continues_name, is_name, is_empty, Simple, CompoundPart, is_space, of_type, of_any_type, of_id}
-use Rattle.dom_model.proofs.Model.{of_class, with_value, first_child, last_child, simple, is_not, Reader, skip_space, read_map, expect, closed_by, read_all}
-use Rattle.dom_model.proofs.Model.{read_one_of, read_simple, read_type_name, read_type, read_compound_of, read_not, read_part, read_compound}
-use Rattle.dom_model.specs.Selectors.{with_attribute}
-use Rattle.dom_selectors.specs.Definitions.{Form, IsSpaces, IsSimple, IsType, AreEach, IsCompoundOf, IsPart, IsCompound, behind_list}
+use Rattle.dom_selectors.proofs.Cited.{◌≡◌, ℕ, Bool, true, false, List, [], ◌∷◌, ◌++◌, Option, Some, None, refl, ap, sym, subst, ◌∙◌, append_assoc, arith, ◌||◌}
+use Rattle.dom_selectors.proofs.Cited.{◌==◌, map, option_map, codes, option_or, option_map_or, list_all, cond-false, and_parts, or_parts, nat_tests, Word}
+use Rattle.dom_selectors.proofs.Cited.{DomString, begins_name, continues_name, is_name, is_empty, Simple, CompoundPart, is_space, of_type, of_any_type, of_id}
+use Rattle.dom_selectors.proofs.Cited.{of_class, with_value, first_child, last_child, simple, is_not, Reader, skip_space, read_map, expect, closed_by, read_all}
+use Rattle.dom_selectors.proofs.Cited.{read_one_of, read_simple, read_type_name, read_type, read_compound_of, read_not, read_part, read_compound}
+use Rattle.dom_selectors.proofs.Cited.{with_attribute, Form, IsSpaces, IsSimple, IsType, AreEach, IsCompoundOf, IsPart, IsCompound, behind_list}
 use Rattle.dom_selectors.proofs.Shorter.{Shrinks, simple-ends, part-ends}
 use Rattle.dom_selectors.proofs.Repeats.{all-one, all-none}
 use Rattle.dom_selectors.proofs.FoundCompounds.{some_of}

@@ -1,14 +1,11 @@
 -- The elements before a node among its siblings: how they split, and what stands above them.
-use Rattle.dom_base.proofs.Std.{◌≡◌, inl, inr, ℕ, ◌<◌, Bool, true, false, List, [], ◌∷◌, ◌++◌, length, Option, Some, None, refl, ap, sym, subst, ◌∙◌, arith}
-use Rattle.dom_base.proofs.Std.{append_assoc, length-append, true≢false, ◌||◌, filter, list_any, find, option_map, ForSome, none-some, same_Some, unwrap_or}
-use Rattle.dom_base.proofs.Std.{cases_Bool, or_left, or_right, or_cases, and_parts, list_any-append}
-use Rattle.dom_model.proofs.Model.{NodeName, name_eq, last_of, items_before, items_after, Trees, Node, nodes, names_of, no_node, is_element, kind_of, ancestors}
-use Rattle.dom_model.proofs.Model.{inclusive_ancestors, parent_of, compound_matches, elements_before, CompoundPart, name_eq-other}
-use Rattle.dom_tree.specs.Definitions.{NamedTrees, name_at}
-use Rattle.dom_laws.proofs.Laws.{In, split_at, last_split, no_last, filter-yes, filter-no, Has, has_or_not, Has-above, above-proper, proper-parent, Once}
-use Rattle.dom_laws.proofs.Laws.{Has-names, above-split}
-use Rattle.dom_tree.proofs.Standing.{StandOnce, StandAlone, Once-forest, Has-forest}
-use Rattle.dom_selectors.specs.Definitions.{elements_to}
+use Rattle.dom_selectors.proofs.Cited.{◌≡◌, inl, inr, ℕ, ◌<◌, Bool, true, false, List, [], ◌∷◌, ◌++◌, length, Option, Some, None, refl, ap, sym, subst, ◌∙◌}
+use Rattle.dom_selectors.proofs.Cited.{arith, append_assoc, length-append, true≢false, ◌||◌, filter, list_any, find, option_map, ForSome, none-some, same_Some}
+use Rattle.dom_selectors.proofs.Cited.{unwrap_or, cases_Bool, or_left, or_right, or_cases, and_parts, list_any-append, NodeName, name_eq, last_of, items_before}
+use Rattle.dom_selectors.proofs.Cited.{items_after, Trees, Node, nodes, names_of, no_node, is_element, kind_of, ancestors, inclusive_ancestors, parent_of}
+use Rattle.dom_selectors.proofs.Cited.{compound_matches, elements_before, CompoundPart, name_eq-other, NamedTrees, name_at, In, split_at, last_split, no_last}
+use Rattle.dom_selectors.proofs.Cited.{filter-yes, filter-no, Has, has_or_not, Has-above, above-proper, proper-parent, Once, Has-names, above-split, StandOnce}
+use Rattle.dom_selectors.proofs.Cited.{StandAlone, Once-forest, Has-forest, elements_to}
 use Rattle.dom_selectors.proofs.Beside.{before_list, before-at}
 use Rattle.dom_selectors.proofs.JoinedLaws.{from_above, above-parent, or_none}
 

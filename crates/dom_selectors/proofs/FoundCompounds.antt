@@ -1,7 +1,7 @@
 -- Compounds, from NAME or `*` and the parts behind it.
-use Rattle.dom_base.proofs.Std.{◌≡◌, false, List, [], ◌∷◌, length, Option, Some, None, refl, ap, sym, ◌∙◌, map, if◌then◌else◌, cond-false, map-id}
-use Rattle.dom_model.proofs.Model.{DomString, is_empty, Simple, CompoundPart, read_all, read_type, read_simple, read_part, read_compound, read_compound_of}
-use Rattle.dom_selectors.specs.Definitions.{behind_list, as_parts}
+use Rattle.dom_selectors.proofs.Cited.{◌≡◌, false, List, [], ◌∷◌, length, Option, Some, None, refl, ap, sym, ◌∙◌, map, if◌then◌else◌, cond-false, map-id}
+use Rattle.dom_selectors.proofs.Cited.{DomString, is_empty, Simple, CompoundPart, read_all, read_type, read_simple, read_part, read_compound, read_compound_of}
+use Rattle.dom_selectors.proofs.Cited.{behind_list, as_parts}
 
 -- the compound of some parts, with the units behind them
 abbrev pub some_of : {A : Type 0} → List A × DomString → Option (List A × DomString)

@@ -1,13 +1,9 @@
 -- Complex selectors seen from the right, and the ancestors of a node one after another.
-use Rattle.dom_base.proofs.Std.{◌≡◌, ℕ, suc, ◌<◌, Bool, true, false, List, [], ◌∷◌, ◌++◌, length, Option, Some, None, refl, ap, sym, ◌∙◌, arith, ◌||◌, map}
-use Rattle.dom_base.proofs.Std.{fold, list_any, option_map, map-append, fold-append, drop}
-use Rattle.dom_model.proofs.Model.{NodeName, alone, joined, link, Trees, ancestors, parent_of}
-use Rattle.dom_tree.specs.Definitions.{NamedTrees, name_at}
+use Rattle.dom_selectors.proofs.Cited.{◌≡◌, ℕ, suc, ◌<◌, Bool, true, false, List, [], ◌∷◌, ◌++◌, length, Option, Some, None, refl, ap, sym, ◌∙◌, arith, ◌||◌}
+use Rattle.dom_selectors.proofs.Cited.{map, fold, list_any, option_map, map-append, fold-append, drop, NodeName, alone, joined, link, Trees, ancestors}
+use Rattle.dom_selectors.proofs.Cited.{parent_of, NamedTrees, name_at, Link, compound_view, combinator_view, link_view, complex_from, StandOnce, StandAlone}
+use Rattle.dom_selectors.proofs.Cited.{Once-forest, Has-forest, Has, above-root, proper-parent, Once}
 use Rattle.dom_selectors.specs.declared.selector.CompoundPart.{CompoundPart}
-use Rattle.dom_selectors.specs.declared.selector.Link.{Link}
-use Rattle.dom_selectors.specs.Definitions.{compound_view, combinator_view, link_view, complex_from}
-use Rattle.dom_tree.proofs.Standing.{StandOnce, StandAlone, Once-forest, Has-forest}
-use Rattle.dom_laws.proofs.Laws.{Has, above-root, proper-parent, Once}
 
 -- a last link is the outermost
 pub joined_last : (first : List CompoundPart) (left : List Link) (last : Link) →

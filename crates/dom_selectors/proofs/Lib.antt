@@ -1,3 +1,4 @@
+mod Cited
 mod TokenLaws
 mod NameLaws
 mod Shorter

@@ -1,7 +1,7 @@
 -- Names are ASCII.
-use Rattle.dom_base.proofs.Std.{◌≡◌, ℕ, zero, suc, ◌<◌, Bool, true, false, cond, List, [], ◌∷◌, Option, Some, None, refl, ap, sym, subst, ◌∙◌, arith, ◌||◌}
-use Rattle.dom_base.proofs.Std.{◌==◌, take_while, IsAscii, or_left, cond-true, cond-false, cond_both, take_while-cons, nat_tests}
-use Rattle.dom_model.proofs.Model.{Word, DomString, begins_name, continues_name, is_digit, drop_while, read_name}
+use Rattle.dom_selectors.proofs.Cited.{◌≡◌, ℕ, zero, suc, ◌<◌, Bool, true, false, cond, List, [], ◌∷◌, Option, Some, None, refl, ap, sym, subst, ◌∙◌, arith}
+use Rattle.dom_selectors.proofs.Cited.{◌||◌, ◌==◌, take_while, IsAscii, or_left, cond-true, cond-false, cond_both, take_while-cons, nat_tests, Word, DomString}
+use Rattle.dom_selectors.proofs.Cited.{begins_name, continues_name, is_digit, drop_while, read_name}
 
 -- a unit of a name is below 128
 name_unit : (c : ℕ) → continues_name c ≡ true → c < 128

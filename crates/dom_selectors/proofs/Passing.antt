@@ -1,13 +1,8 @@
 -- The walk along the siblings on one side of a node, as far as the nearest element.
-use Rattle.dom_base.proofs.Std.{◌≡◌, ℕ, suc, ◌<◌, Bool, true, false, List, [], ◌∷◌, ◌++◌, length, Option, Some, None, refl, ap, sym, ◌∙◌, arith, length-append}
-use Rattle.dom_base.proofs.Std.{filter, option_map}
-use Rattle.dom_model.proofs.Model.{NodeName, first_of, last_of, Trees, is_element, kind_of}
-use Rattle.dom_tree.specs.Definitions.{NamedTrees, name_at}
-use Rattle.dom_tree.proofs.Standing.{StandOnce, StandAlone, Once-forest, Has-forest}
-use Rattle.dom_laws.proofs.Laws.{filter-no, first-hit, last-hit, last-miss}
-use Rattle.dom_selectors.specs.declared.siblings.Side.{Side}
+use Rattle.dom_selectors.proofs.Cited.{◌≡◌, ℕ, suc, ◌<◌, Bool, true, false, List, [], ◌∷◌, ◌++◌, length, Option, Some, None, refl, ap, sym, ◌∙◌, arith}
+use Rattle.dom_selectors.proofs.Cited.{length-append, filter, option_map, NodeName, first_of, last_of, Trees, is_element, kind_of, NamedTrees, name_at}
+use Rattle.dom_selectors.proofs.Cited.{StandOnce, StandAlone, Once-forest, Has-forest, filter-no, first-hit, last-hit, last-miss, Side, sibling_on, element_on}
 use Rattle.dom_selectors.specs.declared.siblings.Side.TheVariants.{Before, Behind}
-use Rattle.dom_selectors.specs.Definitions.{sibling_on, element_on}
 use Rattle.dom_selectors.proofs.Beside.{before_list, after_list, up_to, from, before-previous, after-next}
 
 -- the siblings on a side of a node

@@ -1,11 +1,8 @@
 -- A walk through the tree below a node.
-use Rattle.dom_base.proofs.Std.{◌≡◌, ℕ, Bool, true, false, List, [], ◌∷◌, ◌++◌, ap, sym, ◌∙◌, append_assoc, map, filter, drop, map-append, None, none-some}
-use Rattle.dom_model.proofs.Model.{NodeName, Trees, descendants}
-use Rattle.dom_tree.specs.Definitions.{NamedTrees}
-use Rattle.dom_laws.specs.Within.{behind}
+use Rattle.dom_selectors.proofs.Cited.{◌≡◌, ℕ, Bool, true, false, List, [], ◌∷◌, ◌++◌, ap, sym, ◌∙◌, append_assoc, map, filter, drop, map-append, None}
+use Rattle.dom_selectors.proofs.Cited.{none-some, NodeName, Trees, descendants, NamedTrees, behind, IsKnownOfFirst, filter-yes, filter-no, IsWithin, ordered}
+use Rattle.dom_selectors.proofs.Cited.{top_places}
 use Rattle.dom_selectors.specs.declared.selector.Complex.{Complex}
-use Rattle.dom_selectors.specs.Definitions.{IsKnownOfFirst}
-use Rattle.dom_laws.proofs.Laws.{filter-yes, filter-no, IsWithin, ordered, top_places}
 
 -- at first nothing is remembered
 pub nothing_known : (f : NamedTrees) (cs : List Complex) → IsKnownOfFirst f cs None

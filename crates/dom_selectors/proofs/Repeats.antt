@@ -1,8 +1,6 @@
 -- Readers that read one after another.
-use Rattle.dom_base.proofs.Std.{◌≡◌, ℕ, zero, suc, ◌<◌, ◌≤◌, List, [], ◌∷◌, ◌++◌, length, Option, Some, None, Bor, refl, ap, sym, ◌∙◌, arith, append_assoc, map}
-use Rattle.dom_base.proofs.Std.{option_map, map-append}
-use Rattle.dom_model.proofs.Model.{DomString, Reader, read_more, read_each, read_all}
-use Rattle.dom_selectors.specs.Definitions.{behind_list}
+use Rattle.dom_selectors.proofs.Cited.{◌≡◌, ℕ, zero, suc, ◌<◌, ◌≤◌, List, [], ◌∷◌, ◌++◌, length, Option, Some, None, Bor, refl, ap, sym, ◌∙◌, arith}
+use Rattle.dom_selectors.proofs.Cited.{append_assoc, map, option_map, map-append, DomString, Reader, read_more, read_each, read_all, behind_list}
 use Rattle.dom_selectors.proofs.Shorter.{Shrinks, Shrinks-rest, Ends}
 
 -- rounds at the end of the units read nothing

@@ -1,10 +1,9 @@
 -- Where a search stops, and why the nearest node at which it holds answers for all that are farther.
-use Rattle.dom_base.proofs.Std.{◌≡◌, inl, inr, Bool, true, false, List, [], ◌∷◌, ◌++◌, refl, ap, sym, subst, ◌∙◌, true≢false, list_any, or_left, or_right}
-use Rattle.dom_base.proofs.Std.{or_cases, false_from_ne_true, list_any-append}
-use Rattle.dom_model.proofs.Model.{NodeName, Trees, ancestors, Complex, alone, joined, Combinator, descendant, child, next, later, CompoundPart}
-use Rattle.dom_model.proofs.Model.{complex_matches, elements_before}
-use Rattle.dom_laws.proofs.Laws.{In, In-left, In-right, In-parts, Has, Once}
-use Rattle.dom_selectors.specs.Definitions.{elements_to, MatchesAbove, IsDescendant, IsSearched, StopsAt, ChainEnds, ChainIsBefore, SegmentEnds, SegmentIsAbove}
+use Rattle.dom_selectors.proofs.Cited.{◌≡◌, inl, inr, Bool, true, false, List, [], ◌∷◌, ◌++◌, refl, ap, sym, subst, ◌∙◌, true≢false, list_any, or_left}
+use Rattle.dom_selectors.proofs.Cited.{or_right, or_cases, false_from_ne_true, list_any-append, NodeName, Trees, ancestors, Complex, alone, joined, Combinator}
+use Rattle.dom_selectors.proofs.Cited.{descendant, child, next, later, CompoundPart, complex_matches, elements_before, In, In-left, In-right, In-parts, Has}
+use Rattle.dom_selectors.proofs.Cited.{Once, elements_to, MatchesAbove, IsDescendant, IsSearched, StopsAt, ChainEnds, ChainIsBefore, SegmentEnds}
+use Rattle.dom_selectors.proofs.Cited.{SegmentIsAbove}
 use Rattle.dom_selectors.proofs.Earlier.{any-passes, passes-any, stands-matching, earlier-in, ancestor-in}
 use Rattle.dom_selectors.proofs.Chains.{Leads, combined, matches-parts}
 

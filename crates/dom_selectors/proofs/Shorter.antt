@@ -1,14 +1,13 @@
 -- What a reader leaves is shorter than what it was given.
-use Rattle.dom_base.proofs.Std.{◌≡◌, ℕ, zero, suc, ◌<◌, ◌≤◌, Bool, List, [], ◌∷◌, length, drop, Option, Some, None, subst, arith, length-drop, ◌++◌, map, fold}
-use Rattle.dom_base.proofs.Std.{option_map, take_while, codes, nat_eq, nat_lt, if◌then◌else◌, option_and_then, option_or, option_map_or, starts_with, cond_both}
-use Rattle.dom_base.proofs.Std.{ltb-true}
-use Rattle.dom_model.proofs.Model.{Word, DomString, begins_name, continues_name, is_empty, Simple, CompoundPart, Combinator, AttributeTest, is_space, of_type}
-use Rattle.dom_model.proofs.Model.{of_any_type, of_id, of_class, with_value, first_child, last_child, simple, is_not, descendant, child, next, later, equals}
-use Rattle.dom_model.proofs.Model.{has_word, begins_with_dash, begins, ends, holds, alone, Reader, drop_while, skip_space, read_map, expect, closed_by}
-use Rattle.dom_model.proofs.Model.{read_more, read_each, read_all, read_name, may_stand_quoted, read_quoted, read_value, read_one_of, signs, read_test_of}
-use Rattle.dom_model.proofs.Model.{read_test, read_attribute, read_simple, read_type_name, read_type, read_compound_of, read_not, read_part, read_compound}
-use Rattle.dom_model.proofs.Model.{read_combinator, read_link, read_complex, read_next, link}
-use Rattle.dom_selectors.specs.Definitions.{combinator_signs}
+use Rattle.dom_selectors.proofs.Cited.{◌≡◌, ℕ, zero, suc, ◌<◌, ◌≤◌, Bool, List, [], ◌∷◌, length, drop, Option, Some, None, subst, arith, length-drop, ◌++◌, map}
+use Rattle.dom_selectors.proofs.Cited.{fold, option_map, take_while, codes, nat_eq, nat_lt, if◌then◌else◌, option_and_then, option_or, option_map_or}
+use Rattle.dom_selectors.proofs.Cited.{starts_with, cond_both, ltb-true, Word, DomString, begins_name, continues_name, is_empty, Simple, CompoundPart}
+use Rattle.dom_selectors.proofs.Cited.{Combinator, AttributeTest, is_space, of_type, of_any_type, of_id, of_class, with_value, first_child, last_child, simple}
+use Rattle.dom_selectors.proofs.Cited.{is_not, descendant, child, next, later, equals, has_word, begins_with_dash, begins, ends, holds, alone, Reader}
+use Rattle.dom_selectors.proofs.Cited.{drop_while, skip_space, read_map, expect, closed_by, read_more, read_each, read_all, read_name, may_stand_quoted}
+use Rattle.dom_selectors.proofs.Cited.{read_quoted, read_value, read_one_of, signs, read_test_of, read_test, read_attribute, read_simple, read_type_name}
+use Rattle.dom_selectors.proofs.Cited.{read_type, read_compound_of, read_not, read_part, read_compound, read_combinator, read_link, read_complex, read_next}
+use Rattle.dom_selectors.proofs.Cited.{link, combinator_signs}
 
 -- units are left of which there are fewer than n, if any were read
 abbrev pub Behind : ℕ → Option DomString → Type 0

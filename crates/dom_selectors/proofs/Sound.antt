@@ -1,13 +1,11 @@
 -- What is read is in the grammar.
-use Rattle.dom_base.proofs.Std.{◌≡◌, ℕ, Bool, true, false, [], ◌∷◌, ◌++◌, Option, Some, None, refl, ap, sym, subst, ◌∙◌, append_assoc, ◌||◌, ◌==◌, option_map}
-use Rattle.dom_base.proofs.Std.{take_while, codes, option_and_then, option_or, list_all, cond_both, cond-true, cond-false, and_from, eqb-true, take_while-cons}
-use Rattle.dom_base.proofs.Std.{list_all-append}
-use Rattle.dom_model.proofs.Model.{Word, DomString, begins_name, continues_name, is_name, Simple, AttributeTest, is_space, of_id, of_class, with_value}
-use Rattle.dom_model.proofs.Model.{first_child, last_child, equals, has_word, begins_with_dash, begins, ends, holds, Reader, drop_while, skip_space, read_map}
-use Rattle.dom_model.proofs.Model.{expect, closed_by, read_name, may_stand_quoted, read_quoted, read_value, read_one_of, signs, read_test_of, read_test}
-use Rattle.dom_model.proofs.Model.{read_attribute, read_simple}
-use Rattle.dom_model.specs.Selectors.{with_attribute}
-use Rattle.dom_selectors.specs.Definitions.{Form, IsSpaces, IsName, IsQuoted, IsValue, plain, double, single, sign, IsSimple}
+use Rattle.dom_selectors.proofs.Cited.{◌≡◌, ℕ, Bool, true, false, [], ◌∷◌, ◌++◌, Option, Some, None, refl, ap, sym, subst, ◌∙◌, append_assoc, ◌||◌, ◌==◌}
+use Rattle.dom_selectors.proofs.Cited.{option_map, take_while, codes, option_and_then, option_or, list_all, cond_both, cond-true, cond-false, and_from}
+use Rattle.dom_selectors.proofs.Cited.{eqb-true, take_while-cons, list_all-append, Word, DomString, begins_name, continues_name, is_name, Simple, AttributeTest}
+use Rattle.dom_selectors.proofs.Cited.{is_space, of_id, of_class, with_value, first_child, last_child, equals, has_word, begins_with_dash, begins, ends, holds}
+use Rattle.dom_selectors.proofs.Cited.{Reader, drop_while, skip_space, read_map, expect, closed_by, read_name, may_stand_quoted, read_quoted, read_value}
+use Rattle.dom_selectors.proofs.Cited.{read_one_of, signs, read_test_of, read_test, read_attribute, read_simple, with_attribute, Form, IsSpaces, IsName}
+use Rattle.dom_selectors.proofs.Cited.{IsQuoted, IsValue, plain, double, single, sign, IsSimple}
 use Rattle.dom_selectors.proofs.TokenLaws.{expect_at}
 
 -- what was read stands in front, if anything was

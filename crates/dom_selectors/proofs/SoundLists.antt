@@ -1,14 +1,12 @@
 -- What is read as compounds, complex selectors and lists of them is in the grammar.
-use Rattle.dom_base.proofs.Std.{◌≡◌, ℕ, zero, suc, Bool, true, false, List, [], ◌∷◌, ◌++◌, length, Option, Some, None, refl, ap, sym, subst, ◌∙◌, ◌<◌, arith}
-use Rattle.dom_base.proofs.Std.{append_assoc, map, fold, option_map, codes, nat_lt, if◌then◌else◌, option_and_then, option_or, option_map_or, cond_both}
-use Rattle.dom_base.proofs.Std.{ltb-true, append-nil, none-some, same_Some}
-use Rattle.dom_model.proofs.Model.{DomString, is_empty, Simple, CompoundPart, Combinator, Complex, of_type, of_any_type, simple, is_not, descendant, child}
-use Rattle.dom_model.proofs.Model.{next, later, alone, Reader, skip_space, read_map, expect, closed_by, read_more, read_each, read_all, read_name, read_one_of}
-use Rattle.dom_model.proofs.Model.{read_simple, read_type_name, read_type, read_compound_of, read_not, read_part, read_compound, read_combinator, read_link}
-use Rattle.dom_model.proofs.Model.{read_complex, read_next, link, parse_selectors}
-use Rattle.dom_model.specs.SelectorText.{whole}
-use Rattle.dom_selectors.specs.Definitions.{Form, IsSpaces, IsName, IsSimple, IsType, AreEach, IsCompoundOf, IsPart, IsCompound, IsSpaced, IsCombinator, IsLink}
-use Rattle.dom_selectors.specs.Definitions.{IsComplex, IsSelector, combinator_signs}
+use Rattle.dom_selectors.proofs.Cited.{◌≡◌, ℕ, zero, suc, Bool, true, false, List, [], ◌∷◌, ◌++◌, length, Option, Some, None, refl, ap, sym, subst, ◌∙◌, ◌<◌}
+use Rattle.dom_selectors.proofs.Cited.{arith, append_assoc, map, fold, option_map, codes, nat_lt, if◌then◌else◌, option_and_then, option_or, option_map_or}
+use Rattle.dom_selectors.proofs.Cited.{cond_both, ltb-true, append-nil, none-some, same_Some, DomString, is_empty, Simple, CompoundPart, Combinator, Complex}
+use Rattle.dom_selectors.proofs.Cited.{of_type, of_any_type, simple, is_not, descendant, child, next, later, alone, Reader, skip_space, read_map, expect}
+use Rattle.dom_selectors.proofs.Cited.{closed_by, read_more, read_each, read_all, read_name, read_one_of, read_simple, read_type_name, read_type}
+use Rattle.dom_selectors.proofs.Cited.{read_compound_of, read_not, read_part, read_compound, read_combinator, read_link, read_complex, read_next, link}
+use Rattle.dom_selectors.proofs.Cited.{parse_selectors, whole, Form, IsSpaces, IsName, IsSimple, IsType, AreEach, IsCompoundOf, IsPart, IsCompound, IsSpaced}
+use Rattle.dom_selectors.proofs.Cited.{IsCombinator, IsLink, IsComplex, IsSelector, combinator_signs}
 use Rattle.dom_selectors.proofs.Sound.{Says, Stands, put, skips, expect-stands, says-or, says-map, says-means, says-then, name-says, simple-says}
 
 -- what was read, with what it is read from

@@ -1,7 +1,7 @@
 -- What the readers of the definitions do at the first units.
-use Rattle.dom_base.proofs.Std.{◌≡◌, ℕ, suc, ◌+◌, Bool, true, false, cond, List, [], ◌∷◌, length, take, drop, Some, None, one-add, refl, ap, sym, ◌∙◌, ◌&&◌}
-use Rattle.dom_base.proofs.Std.{◌||◌, ◌==◌, nat_eq, slice_index_or, if◌then◌else◌, prefix_len, starts_with, or_left, cond-true, cond-false, ne_eqb}
-use Rattle.dom_model.proofs.Model.{DomString, begins_name, continues_name, is_digit, drop_while, expect, read_name}
+use Rattle.dom_selectors.proofs.Cited.{◌≡◌, ℕ, suc, ◌+◌, Bool, true, false, cond, List, [], ◌∷◌, length, take, drop, Some, None, one-add, refl, ap, sym, ◌∙◌}
+use Rattle.dom_selectors.proofs.Cited.{◌&&◌, ◌||◌, ◌==◌, nat_eq, slice_index_or, if◌then◌else◌, prefix_len, starts_with, or_left, cond-true, cond-false, ne_eqb}
+use Rattle.dom_selectors.proofs.Cited.{DomString, begins_name, continues_name, is_digit, drop_while, expect, read_name}
 
 -- the units behind those that pass are those behind their number
 pub behind_those : (test : ℕ → Bool) (cs : List ℕ) → drop (prefix_len test cs) cs ≡ drop_while test cs

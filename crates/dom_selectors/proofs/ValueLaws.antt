@@ -1,8 +1,7 @@
 -- Words of strings, and fronts of strings.
-use Rattle.dom_base.proofs.Std.{◌≡◌, ℕ, ◌<◌, Bool, true, false, List, [], ◌∷◌, ◌++◌, length, drop, refl, ap, sym, ◌∙◌, arith, not, ◌&&◌, ◌||◌, ◌==◌, nat_eq}
-use Rattle.dom_base.proofs.Std.{Option, Some, None, if◌then◌else◌, starts_with, list_any, none-some}
-use Rattle.dom_model.proofs.Model.{DomString, text_eq, is_space, words_from}
-use Rattle.dom_selectors.specs.Definitions.{begins_with_word, behind_space}
+use Rattle.dom_selectors.proofs.Cited.{◌≡◌, ℕ, ◌<◌, Bool, true, false, List, [], ◌∷◌, ◌++◌, length, drop, refl, ap, sym, ◌∙◌, arith, not, ◌&&◌, ◌||◌, ◌==◌}
+use Rattle.dom_selectors.proofs.Cited.{nat_eq, Option, Some, None, if◌then◌else◌, starts_with, list_any, none-some, DomString, text_eq, is_space, words_from}
+use Rattle.dom_selectors.proofs.Cited.{begins_with_word, behind_space}
 
 -- a front of two parts stands where the first does and the second behind it
 pub behind_front : (front more text : List ℕ) →

@@ -1,9 +1,6 @@
 -- The ancestors of a node are its parent and those above it.
-use Rattle.dom_base.proofs.Std.{◌≡◌, ℕ, Bool, ◌∷◌, Option, Some, None, MatchOption, refl, ap, sym, subst, ◌∙◌, list_any, same_Some}
-use Rattle.dom_model.proofs.Model.{ancestors, Complex, complex_matches}
-use Rattle.dom_tree.specs.Definitions.{NamedTrees, name_at}
-use Rattle.dom_selectors.specs.declared.above.Above.{Above}
-use Rattle.dom_selectors.specs.Definitions.{IsKnown, complex_from}
+use Rattle.dom_selectors.proofs.Cited.{◌≡◌, ℕ, Bool, ◌∷◌, Option, Some, None, MatchOption, refl, ap, sym, subst, ◌∙◌, list_any, same_Some, ancestors, Complex}
+use Rattle.dom_selectors.proofs.Cited.{complex_matches, NamedTrees, name_at, Above, IsKnown, complex_from}
 use Rattle.dom_selectors.proofs.JoinedLaws.{above_step}
 use Rattle.dom_selectors.proofs.above.left_matches.Goals as goal
 

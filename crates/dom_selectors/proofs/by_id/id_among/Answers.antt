@@ -1,4 +1,4 @@
-use Rattle.dom_base.proofs.Std.{◌≡◌, true, sym, subst}
+use Rattle.dom_selectors.proofs.Cited.{◌≡◌, true, sym, subst}
 use Rattle.dom_model.specs.Selectors.{part_matches}
 use Rattle.dom_selectors.specs.declared.selector.CompoundPart.{CompoundPart}
 use Rattle.dom_selectors.specs.Views.{part_view}

@@ -1,4 +1,4 @@
-use Rattle.dom_base.proofs.Std.{⊤}
+use Rattle.dom_selectors.proofs.Cited.{⊤}
 use Rattle.dom_selectors.proofs.by_id.id_among.Given as goal
 
 abbrev pub invariant-loop-part : goal.invariant-loop-part

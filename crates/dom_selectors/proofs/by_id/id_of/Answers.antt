@@ -1,5 +1,4 @@
-use Rattle.dom_base.proofs.Std.{◌≡◌, Some, true, ap, sym, subst, ◌∙◌}
-use Rattle.dom_model.specs.Selectors.{simple_matches}
+use Rattle.dom_selectors.proofs.Cited.{◌≡◌, Some, true, ap, sym, subst, ◌∙◌, simple_matches}
 use Rattle.dom_selectors.specs.declared.selector.Simple.{Simple}
 use Rattle.dom_selectors.specs.Views.{simple_view}
 use Rattle.dom_selectors.proofs.IdQueries.{id_asked}

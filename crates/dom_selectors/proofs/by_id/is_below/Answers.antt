@@ -1,7 +1,4 @@
-use Rattle.dom_base.proofs.Std.{ap, sym, ◌∙◌, eqb-true, not-false}
-use Rattle.dom_tree.specs.Definitions.{name_at}
-use Rattle.dom_tree.proofs.Searching.{IsWithin-itself}
-use Rattle.dom_tree.proofs.Standing.{other_name}
+use Rattle.dom_selectors.proofs.Cited.{ap, sym, ◌∙◌, eqb-true, not-false, name_at, IsWithin-itself, other_name}
 use Rattle.dom_selectors.proofs.IdQueries.{below_itself, below_other}
 use Rattle.dom_selectors.proofs.by_id.is_below.Goals as goal
 

@@ -1,8 +1,5 @@
 -- One element after another is tried.
-use Rattle.dom_base.proofs.Std.{ap, sym, ◌∙◌, list_any, option_map}
-use Rattle.dom_model.proofs.Model.{complex_matches}
-use Rattle.dom_tree.specs.Definitions.{name_at}
-use Rattle.dom_selectors.specs.Definitions.{complex_from}
+use Rattle.dom_selectors.proofs.Cited.{ap, sym, ◌∙◌, list_any, option_map, complex_matches, name_at, complex_from}
 use Rattle.dom_selectors.proofs.Earlier.{elements_upto, earlier_step, earlier_less, earlier_passed}
 use Rattle.dom_selectors.proofs.Searches.{chain-before}
 use Rattle.dom_selectors.proofs.chain.chain_before.Goals as goal

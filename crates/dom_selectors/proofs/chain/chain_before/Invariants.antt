@@ -1,8 +1,5 @@
 -- The elements that are still to be tried hold what all hold.
-use Rattle.dom_base.proofs.Std.{◌≡◌, ◌<◌, length, list_any, option_map, ForSome}
-use Rattle.dom_model.proofs.Model.{ancestors, complex_matches, elements_before}
-use Rattle.dom_tree.specs.Definitions.{name_at}
-use Rattle.dom_selectors.specs.Definitions.{complex_from}
+use Rattle.dom_selectors.proofs.Cited.{◌≡◌, ◌<◌, length, list_any, option_map, ForSome, ancestors, complex_matches, elements_before, name_at, complex_from}
 use Rattle.dom_selectors.proofs.Earlier.{elements_upto}
 use Rattle.dom_selectors.proofs.chain.chain_before.Given as goal
 

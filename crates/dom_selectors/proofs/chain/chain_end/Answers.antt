@@ -1,9 +1,6 @@
 -- Each link leads to the node that answers for it.
-use Rattle.dom_base.proofs.Std.{ap, sym, subst, ◌∙◌, arith, option_map}
-use Rattle.dom_model.proofs.Model.{compound_matches}
-use Rattle.dom_tree.specs.Definitions.{name_at}
-use Rattle.dom_tree.proofs.Standing.{Once-forest, Has-forest}
-use Rattle.dom_selectors.specs.Definitions.{IsSearched, StopsAt, complex_from, last_compound}
+use Rattle.dom_selectors.proofs.Cited.{ap, sym, subst, ◌∙◌, arith, option_map, compound_matches, name_at, Once-forest, Has-forest, IsSearched, StopsAt}
+use Rattle.dom_selectors.proofs.Cited.{complex_from, last_compound}
 use Rattle.dom_selectors.proofs.JoinedLaws.{last-joined, no-links}
 use Rattle.dom_selectors.proofs.Chains.{leads-same, leads-on, hits, leads-left, none_left, not_last}
 use Rattle.dom_selectors.proofs.Searches.{chain-ends}

@@ -1,8 +1,5 @@
 -- What is left answers for the whole.
-use Rattle.dom_base.proofs.Std.{◌≡◌, ◌<◌, ◌≤◌, true, length}
-use Rattle.dom_model.proofs.Model.{compound_matches}
-use Rattle.dom_tree.specs.Definitions.{name_at}
-use Rattle.dom_selectors.specs.Definitions.{complex_from, last_compound}
+use Rattle.dom_selectors.proofs.Cited.{◌≡◌, ◌<◌, ◌≤◌, true, length, compound_matches, name_at, complex_from, last_compound}
 use Rattle.dom_selectors.proofs.Chains.{Leads}
 use Rattle.dom_selectors.proofs.chain.chain_end.Given as goal
 

@@ -1,6 +1,5 @@
 -- The compound on the right is that of the last link, or the first one where there is none.
-use Rattle.dom_base.proofs.Std.{sym, ap, ◌∙◌}
-use Rattle.dom_selectors.specs.Definitions.{last_compound, compound_view}
+use Rattle.dom_selectors.proofs.Cited.{sym, ap, ◌∙◌, last_compound, compound_view}
 use Rattle.dom_selectors.proofs.JoinedLaws.{last-joined, no-links}
 use Rattle.dom_selectors.proofs.chain.last_of.Goals as goal
 

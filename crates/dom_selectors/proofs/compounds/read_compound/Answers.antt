@@ -1,6 +1,5 @@
 -- Some parts were read.
-use Rattle.dom_base.proofs.Std.{arith}
-use Rattle.dom_selectors.specs.Definitions.{part_view}
+use Rattle.dom_selectors.proofs.Cited.{arith, part_view}
 use Rattle.dom_selectors.proofs.FoundCompounds.{parts_found}
 use Rattle.dom_selectors.proofs.compounds.read_compound.Goals as goal
 

@@ -1,7 +1,5 @@
 -- One more is read.
-use Rattle.dom_base.proofs.Std.{◌≡◌, None, ap, sym, ◌∙◌, arith, append-nil, map}
-use Rattle.dom_model.proofs.Model.{read_link}
-use Rattle.dom_selectors.specs.Definitions.{behind_list, link_view}
+use Rattle.dom_selectors.proofs.Cited.{◌≡◌, None, ap, sym, ◌∙◌, arith, append-nil, map, read_link, behind_list, link_view}
 use Rattle.dom_selectors.proofs.Shorter.{link-ends}
 use Rattle.dom_selectors.proofs.Repeats.{round-less, round-more, all-none}
 use Rattle.dom_selectors.proofs.compounds.read_links.Goals as goal

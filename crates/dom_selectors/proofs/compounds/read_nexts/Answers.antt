@@ -1,6 +1,5 @@
 -- One more is read.
-use Rattle.dom_base.proofs.Std.{◌∙◌}
-use Rattle.dom_selectors.specs.Definitions.{complex_view}
+use Rattle.dom_selectors.proofs.Cited.{◌∙◌, complex_view}
 use Rattle.dom_selectors.proofs.Shorter.{next-ends}
 use Rattle.dom_selectors.proofs.Repeats.{round-less, round-more}
 use Rattle.dom_selectors.proofs.compounds.read_nexts.Goals as goal

@@ -1,7 +1,5 @@
 -- Those so far, and those read from here on, are all.
-use Rattle.dom_base.proofs.Std.{◌≡◌, length, [], ◌∷◌, map}
-use Rattle.dom_model.proofs.Model.{read_all, read_next}
-use Rattle.dom_selectors.specs.Definitions.{behind_list, complex_view}
+use Rattle.dom_selectors.proofs.Cited.{◌≡◌, length, [], ◌∷◌, map, read_all, read_next, behind_list, complex_view}
 use Rattle.dom_selectors.proofs.compounds.read_nexts.Given as goal
 
 abbrev pub invariant-loop-complexes : goal.invariant-loop-complexes

@@ -1,7 +1,5 @@
 -- Those so far, and those read from here on, are all.
-use Rattle.dom_base.proofs.Std.{◌≡◌, length, map}
-use Rattle.dom_model.proofs.Model.{read_all, read_part}
-use Rattle.dom_selectors.specs.Definitions.{behind_list, part_view}
+use Rattle.dom_selectors.proofs.Cited.{◌≡◌, length, map, read_all, read_part, behind_list, part_view}
 use Rattle.dom_selectors.proofs.compounds.read_parts.Given as goal
 
 abbrev pub invariant-loop-parts : goal.invariant-loop-parts

@@ -1,6 +1,5 @@
 -- Some simple selectors were read.
-use Rattle.dom_base.proofs.Std.{arith}
-use Rattle.dom_selectors.specs.Definitions.{simple_view}
+use Rattle.dom_selectors.proofs.Cited.{arith, simple_view}
 use Rattle.dom_selectors.proofs.FoundCompounds.{simples_found}
 use Rattle.dom_selectors.proofs.compounds.read_simple_compound.Goals as goal
 

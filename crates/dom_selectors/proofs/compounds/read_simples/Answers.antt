@@ -1,6 +1,5 @@
 -- One more is read.
-use Rattle.dom_base.proofs.Std.{◌∙◌}
-use Rattle.dom_selectors.specs.Definitions.{simple_view}
+use Rattle.dom_selectors.proofs.Cited.{◌∙◌, simple_view}
 use Rattle.dom_selectors.proofs.Shorter.{simple-ends}
 use Rattle.dom_selectors.proofs.Repeats.{round-less, round-more}
 use Rattle.dom_selectors.proofs.compounds.read_simples.Goals as goal

@@ -1,7 +1,5 @@
 -- Those so far, and those read from here on, are all.
-use Rattle.dom_base.proofs.Std.{◌≡◌, length, map}
-use Rattle.dom_model.proofs.Model.{read_all, read_simple}
-use Rattle.dom_selectors.specs.Definitions.{behind_list, simple_view}
+use Rattle.dom_selectors.proofs.Cited.{◌≡◌, length, map, read_all, read_simple, behind_list, simple_view}
 use Rattle.dom_selectors.proofs.compounds.read_simples.Given as goal
 
 abbrev pub invariant-loop-simples : goal.invariant-loop-simples

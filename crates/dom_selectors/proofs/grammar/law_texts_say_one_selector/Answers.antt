@@ -1,4 +1,4 @@
-use Rattle.dom_base.proofs.Std.{sym, ◌∙◌, same_Some}
+use Rattle.dom_selectors.proofs.Cited.{sym, ◌∙◌, same_Some}
 use Rattle.dom_selectors.proofs.SoundLists.{parsed_says}
 use Rattle.dom_selectors.proofs.CompleteCombinators.{said_parsed}
 use Rattle.dom_selectors.proofs.grammar.law_texts_say_one_selector.Goals as goal

@@ -1,8 +1,5 @@
 -- From the end of one segment to that of the next, above white space.
-use Rattle.dom_base.proofs.Std.{ap, refl, sym, subst, ◌∙◌}
-use Rattle.dom_model.proofs.Model.{complex_matches}
-use Rattle.dom_tree.specs.Definitions.{name_at}
-use Rattle.dom_selectors.specs.Definitions.{IsDescendant, StopsAt}
+use Rattle.dom_selectors.proofs.Cited.{ap, refl, sym, subst, ◌∙◌, complex_matches, name_at, IsDescendant, StopsAt}
 use Rattle.dom_selectors.proofs.JoinedLaws.{last-joined, no-links}
 use Rattle.dom_selectors.proofs.Searches.{goes-above, none-above}
 use Rattle.dom_selectors.proofs.joined.end_matches.Goals as goal

@@ -1,8 +1,5 @@
 -- What is left answers for the whole.
-use Rattle.dom_base.proofs.Std.{◌≡◌, ◌<◌, length}
-use Rattle.dom_model.proofs.Model.{complex_matches}
-use Rattle.dom_tree.specs.Definitions.{name_at}
-use Rattle.dom_selectors.specs.Definitions.{IsDescendant, StopsAt, complex_from}
+use Rattle.dom_selectors.proofs.Cited.{◌≡◌, ◌<◌, length, complex_matches, name_at, IsDescendant, StopsAt, complex_from}
 use Rattle.dom_selectors.proofs.joined.end_matches.Given as goal
 
 abbrev pub invariant-loop-left : goal.invariant-loop-left

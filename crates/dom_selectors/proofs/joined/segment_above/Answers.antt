@@ -1,9 +1,5 @@
 -- One ancestor after another is tried.
-use Rattle.dom_base.proofs.Std.{ap, sym, ◌∙◌, list_any, option_map}
-use Rattle.dom_model.proofs.Model.{complex_matches}
-use Rattle.dom_tree.specs.Definitions.{name_at}
-use Rattle.dom_tree.proofs.Standing.{Once-forest, Has-forest}
-use Rattle.dom_selectors.specs.Definitions.{complex_from}
+use Rattle.dom_selectors.proofs.Cited.{ap, sym, ◌∙◌, list_any, option_map, complex_matches, name_at, Once-forest, Has-forest, complex_from}
 use Rattle.dom_selectors.proofs.JoinedLaws.{from_above, above_step, above_less, above_miss}
 use Rattle.dom_selectors.proofs.Searches.{segment-above}
 use Rattle.dom_selectors.proofs.joined.segment_above.Goals as goal

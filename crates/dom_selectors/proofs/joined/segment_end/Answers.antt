@@ -1,15 +1,11 @@
 -- From the end of one chain to that of the next, left of `~`.
-use Rattle.dom_base.proofs.Std.{◌≡◌, refl, ap, sym, subst, ◌∙◌, arith, true≢false}
-use Rattle.dom_model.proofs.Model.{joined, later}
-use Rattle.dom_tree.specs.Definitions.{name_at}
-use Rattle.dom_tree.proofs.Standing.{Once-forest}
+use Rattle.dom_selectors.proofs.Cited.{◌≡◌, refl, ap, sym, subst, ◌∙◌, arith, true≢false, joined, later, name_at, Once-forest, Descendant, Child, Next, Later}
+use Rattle.dom_selectors.proofs.Cited.{IsDescendant, IsSearched, StopsAt, compound_view, combinator_view, complex_from}
 use Rattle.dom_selectors.specs.declared.selector.Combinator.{Combinator}
-use Rattle.dom_selectors.specs.declared.selector.Combinator.TheVariants.{Descendant, Child, Next, Later}
-use Rattle.dom_selectors.specs.Definitions.{IsDescendant, IsSearched, StopsAt, compound_view, combinator_view, complex_from}
 use Rattle.dom_selectors.proofs.JoinedLaws.{last-joined, no-links}
 use Rattle.dom_selectors.proofs.Searches.{comes-first, comes-before, none-before, stops-white, segment-ends}
-use Rattle.dom_selectors.proofs.joined.segment_end.Goals as goal
 use Rattle.dom_selectors.proofs.joined.segment_end.Goals.{in-Later, in_default-matches}
+use Rattle.dom_selectors.proofs.joined.segment_end.Goals as goal
 
 -- `~` alone is seen as it
 no_later : (h : Combinator) → (h ≡ Later → ⊥) → combinator_view h ≡ later → ⊥

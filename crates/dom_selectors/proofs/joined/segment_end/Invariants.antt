@@ -1,7 +1,5 @@
 -- What is left answers for the whole, as far as it goes.
-use Rattle.dom_base.proofs.Std.{◌<◌, ◌≤◌, length}
-use Rattle.dom_tree.specs.Definitions.{name_at}
-use Rattle.dom_selectors.specs.Definitions.{complex_from}
+use Rattle.dom_selectors.proofs.Cited.{◌<◌, ◌≤◌, length, name_at, complex_from}
 use Rattle.dom_selectors.proofs.Searches.{Comes}
 use Rattle.dom_selectors.proofs.joined.segment_end.Given as goal
 

@@ -1,9 +1,7 @@
 -- What the segment on the right ends at answers for the whole.
-use Rattle.dom_base.proofs.Std.{◌≡◌, List, ap, sym, ◌∙◌}
+use Rattle.dom_selectors.proofs.Cited.{◌≡◌, List, ap, sym, ◌∙◌, Link, complex_from, complex_view}
 use Rattle.dom_selectors.specs.declared.selector.CompoundPart.{CompoundPart}
-use Rattle.dom_selectors.specs.declared.selector.Link.{Link}
 use Rattle.dom_selectors.specs.declared.selector.Complex.{Complex}
-use Rattle.dom_selectors.specs.Definitions.{complex_from, complex_view}
 
 -- its parts are those of the selector
 seen : (complex : Complex) (first : List CompoundPart) (links : List Link) → first ≡ complex.first.items → links ≡ complex.links.items →

@@ -1,8 +1,5 @@
 -- The parts that are left match where all do.
-use Rattle.dom_base.proofs.Std.{◌≡◌, drop, list_all}
-use Rattle.dom_model.proofs.Model.{part_matches}
-use Rattle.dom_tree.specs.Definitions.{name_at}
-use Rattle.dom_selectors.specs.Definitions.{part_view}
+use Rattle.dom_selectors.proofs.Cited.{◌≡◌, drop, list_all, part_matches, name_at, part_view}
 use Rattle.dom_selectors.proofs.matching.all_parts_match.Given as goal
 
 abbrev pub invariant-loop-part : goal.invariant-loop-part

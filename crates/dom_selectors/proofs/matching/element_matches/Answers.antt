@@ -1,8 +1,5 @@
 -- All are seen.
-use Rattle.dom_base.proofs.Std.{sym, ap, ◌∙◌, ◌&&◌, list_all}
-use Rattle.dom_model.proofs.Model.{part_matches}
-use Rattle.dom_tree.specs.Definitions.{name_at}
-use Rattle.dom_selectors.specs.Definitions.{part_view, compound_view}
+use Rattle.dom_selectors.proofs.Cited.{sym, ap, ◌∙◌, ◌&&◌, list_all, part_matches, name_at, part_view, compound_view}
 use Rattle.dom_selectors.proofs.Anywhere.{all_seen}
 use Rattle.dom_selectors.proofs.matching.element_matches.Goals as goal
 

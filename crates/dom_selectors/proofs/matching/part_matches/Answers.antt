@@ -1,8 +1,6 @@
 -- All are seen.
-use Rattle.dom_base.proofs.Std.{sym, ap, ◌∙◌, not, list_all}
-use Rattle.dom_model.proofs.Model.{simple_matches, part_matches}
-use Rattle.dom_tree.specs.Definitions.{name_at}
-use Rattle.dom_selectors.specs.Definitions.{simple_view, part_view}
+use Rattle.dom_selectors.proofs.Cited.{sym, ap, ◌∙◌, not, list_all, part_matches, name_at, simple_view, part_view}
+use Rattle.dom_model.proofs.Model.{simple_matches}
 use Rattle.dom_selectors.proofs.Anywhere.{all_seen}
 use Rattle.dom_selectors.proofs.matching.part_matches.Goals as goal
 

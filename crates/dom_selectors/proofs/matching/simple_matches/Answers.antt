@@ -1,8 +1,6 @@
 -- There is no last element before a node where there is none.
-use Rattle.dom_base.proofs.Std.{ap, arith}
-use Rattle.dom_model.proofs.Model.{simple_matches, elements_before}
-use Rattle.dom_tree.specs.Definitions.{name_at}
-use Rattle.dom_selectors.specs.Definitions.{simple_view}
+use Rattle.dom_selectors.proofs.Cited.{ap, arith, elements_before, name_at, simple_view}
+use Rattle.dom_model.proofs.Model.{simple_matches}
 use Rattle.dom_selectors.proofs.Anywhere.{no_last_seen}
 use Rattle.dom_selectors.proofs.matching.simple_matches.Goals as goal
 

@@ -1,8 +1,5 @@
 -- Some that is left matches where some of all does.
-use Rattle.dom_base.proofs.Std.{◌≡◌, drop, list_any}
-use Rattle.dom_model.proofs.Model.{complex_matches}
-use Rattle.dom_tree.specs.Definitions.{name_at}
-use Rattle.dom_selectors.specs.Definitions.{complex_view}
+use Rattle.dom_selectors.proofs.Cited.{◌≡◌, drop, list_any, complex_matches, name_at, complex_view}
 use Rattle.dom_selectors.proofs.query.some_complex_matches.Given as goal
 
 abbrev pub invariant-loop-complex : goal.invariant-loop-complex

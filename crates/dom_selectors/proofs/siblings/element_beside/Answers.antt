@@ -1,5 +1,5 @@
 -- Nodes that are no elements are passed.
-use Rattle.dom_base.proofs.Std.{ap, sym, ◌∙◌}
+use Rattle.dom_selectors.proofs.Cited.{ap, sym, ◌∙◌}
 use Rattle.dom_selectors.proofs.Passing.{nearest_from, nearest-first, nearest-more, nearest-less, nearest-here, nearest-none}
 use Rattle.dom_selectors.proofs.siblings.element_beside.Goals as goal
 

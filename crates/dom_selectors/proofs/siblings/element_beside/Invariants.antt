@@ -1,7 +1,5 @@
 -- The nearest element from where the walk is on is the one that is sought.
-use Rattle.dom_base.proofs.Std.{◌≡◌, ◌<◌, length, ForSome}
-use Rattle.dom_tree.specs.Definitions.{name_at}
-use Rattle.dom_selectors.specs.Definitions.{element_on}
+use Rattle.dom_selectors.proofs.Cited.{◌≡◌, ◌<◌, length, ForSome, name_at, element_on}
 use Rattle.dom_selectors.proofs.Passing.{left_on, nearest_from}
 use Rattle.dom_selectors.proofs.siblings.element_beside.Given as goal
 

@@ -1,6 +1,5 @@
 -- The text left and the units left are to be read as those at the start.
-use Rattle.dom_base.proofs.Std.{◌≡◌, drop}
-use Rattle.dom_model.proofs.Model.{expect}
+use Rattle.dom_selectors.proofs.Cited.{◌≡◌, drop, expect}
 use Rattle.dom_selectors.proofs.tokens.expect.Given as goal
 
 abbrev pub invariant-loop-byte : goal.invariant-loop-byte

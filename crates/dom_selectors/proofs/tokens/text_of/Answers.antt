@@ -1,5 +1,5 @@
 -- ASCII units are text.
-use Rattle.dom_base.proofs.Std.{◌≡◌, sym, subst, ◌∙◌, arith, IsAscii, take_all, IsUtf8-from_ascii}
+use Rattle.dom_selectors.proofs.Cited.{◌≡◌, sym, subst, ◌∙◌, arith, IsAscii, take_all, IsUtf8-from_ascii}
 use Rattle.dom_selectors.proofs.tokens.text_of.Goals as goal
 
 pub unreachable-requires : goal.unreachable-requires

@@ -1,5 +1,5 @@
 -- A word that is not at its end is not in front of nothing.
-use Rattle.dom_base.proofs.Std.{◌∙◌, drop, length-drop, arith}
+use Rattle.dom_selectors.proofs.Cited.{◌∙◌, drop, length-drop, arith}
 use Rattle.dom_selectors.proofs.ValueLaws.{not_begun}
 use Rattle.dom_selectors.proofs.values.begins_with_word.Goals as goal
 

@@ -1,6 +1,5 @@
 -- The word left and the units left are compared as those at the start.
-use Rattle.dom_base.proofs.Std.{◌≡◌, drop}
-use Rattle.dom_selectors.specs.Definitions.{begins_with_word}
+use Rattle.dom_selectors.proofs.Cited.{◌≡◌, drop, begins_with_word}
 use Rattle.dom_selectors.proofs.values.begins_with_word.Given as goal
 
 abbrev pub invariant-loop-unit : goal.invariant-loop-unit

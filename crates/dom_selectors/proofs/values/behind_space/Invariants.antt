@@ -1,6 +1,5 @@
 -- What is behind white space in the units that are left is so in all.
-use Rattle.dom_base.proofs.Std.{◌≡◌, length}
-use Rattle.dom_selectors.specs.Definitions.{behind_space}
+use Rattle.dom_selectors.proofs.Cited.{◌≡◌, length, behind_space}
 use Rattle.dom_selectors.proofs.values.behind_space.Given as goal
 
 abbrev pub invariant-loop-rest : goal.invariant-loop-rest

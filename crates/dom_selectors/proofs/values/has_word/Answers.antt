@@ -1,5 +1,5 @@
 -- The first word, or those behind it.
-use Rattle.dom_base.proofs.Std.{Some, None, sym, ◌∙◌}
+use Rattle.dom_selectors.proofs.Cited.{Some, None, sym, ◌∙◌}
 use Rattle.dom_selectors.proofs.ValueLaws.{word_here, word_behind, behind-less}
 use Rattle.dom_selectors.proofs.values.has_word.Goals as goal
 

@@ -1,6 +1,5 @@
 -- The words that are left have it where those at the start have.
-use Rattle.dom_base.proofs.Std.{◌≡◌, [], length, list_any}
-use Rattle.dom_model.proofs.Model.{text_eq, words_from}
+use Rattle.dom_selectors.proofs.Cited.{◌≡◌, [], length, list_any, text_eq, words_from}
 use Rattle.dom_selectors.proofs.values.has_word.Given as goal
 
 abbrev pub invariant-loop-rest : goal.invariant-loop-rest

@@ -1,6 +1,5 @@
 -- The units that are left have it where all have.
-use Rattle.dom_base.proofs.Std.{◌≡◌, length}
-use Rattle.dom_model.proofs.Model.{holds_text}
+use Rattle.dom_selectors.proofs.Cited.{◌≡◌, length, holds_text}
 use Rattle.dom_selectors.proofs.values.holds_text.Given as goal
 
 abbrev pub invariant-loop-rest : goal.invariant-loop-rest

@@ -1,8 +1,5 @@
 -- Some is seen.
-use Rattle.dom_base.proofs.Std.{ap, ◌∙◌, list_any}
-use Rattle.dom_model.proofs.Model.{complex_matches}
-use Rattle.dom_tree.specs.Definitions.{name_at}
-use Rattle.dom_selectors.specs.Definitions.{complex_view}
+use Rattle.dom_selectors.proofs.Cited.{ap, ◌∙◌, list_any, complex_matches, name_at, complex_view}
 use Rattle.dom_selectors.proofs.Anywhere.{any_seen}
 use Rattle.dom_selectors.proofs.selector.Selector.matches.Goals as goal
 

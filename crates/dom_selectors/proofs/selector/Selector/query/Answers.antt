@@ -1,8 +1,4 @@
-use Rattle.dom_base.proofs.Std.{Some, ap, sym, subst, ◌∙◌, map}
-use Rattle.dom_model.proofs.Model.{NodeName, descendants, selector_matches}
-use Rattle.dom_tree.specs.Definitions.{name_at}
-use Rattle.dom_tree.specs.Ids.{HasId, MayBear}
-use Rattle.dom_selectors.specs.Definitions.{selector_view}
+use Rattle.dom_selectors.proofs.Cited.{Some, ap, sym, subst, ◌∙◌, map, NodeName, descendants, selector_matches, name_at, HasId, MayBear, selector_view}
 use Rattle.dom_selectors.proofs.IdQueries.{key_below, nobody_found}
 use Rattle.dom_selectors.proofs.selector.Selector.query.Goals as goal
 

@@ -1,14 +1,10 @@
 -- The nodes that match are taken, one after another.
-use Rattle.dom_base.proofs.Std.{◌≡◌, ◌<◌, Bool, [], ◌∷◌, ◌++◌, length, refl, sym, ap, subst, ◌∙◌, arith, map, filter, All, option_map, All-push}
-use Rattle.dom_model.proofs.Model.{NodeName, selector_matches}
-use Rattle.dom_tree.specs.Definitions.{name_at, StandsIn}
-use Rattle.dom_laws.specs.Within.{from_node}
-use Rattle.dom_laws.proofs.Laws.{above-itself}
-use Rattle.dom_tree.proofs.Searching.{IsWithin-key, following_step, length-behind}
-use Rattle.dom_selectors.specs.Definitions.{selector_view}
+use Rattle.dom_selectors.proofs.Cited.{◌≡◌, ◌<◌, Bool, [], ◌∷◌, ◌++◌, length, refl, sym, ap, subst, ◌∙◌, arith, map, filter, All, option_map, All-push}
+use Rattle.dom_selectors.proofs.Cited.{NodeName, selector_matches, name_at, StandsIn, from_node, above-itself, IsWithin-key, following_step, length-behind}
+use Rattle.dom_selectors.proofs.Cited.{selector_view}
 use Rattle.dom_selectors.proofs.QueryLaws.{behind_top, nothing_known, taken, left_out}
-use Rattle.dom_selectors.proofs.selector.Selector.query_all.Goals as goal
 use Rattle.dom_selectors.proofs.selector.Selector.query_all.Goals.{then-matches_with+in_ok-push, else-matches_with}
+use Rattle.dom_selectors.proofs.selector.Selector.query_all.Goals as goal
 
 pub following-at-requires-clause-within : goal.following-at-requires-clause-within
 following-at-requires-clause-within c = above-itself c.args.forest.now.trees (name_at c.args.forest.now.names c.args.top)

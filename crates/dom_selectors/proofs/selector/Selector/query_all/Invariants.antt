@@ -1,9 +1,6 @@
 -- Those found and those still to be found are all.
-use Rattle.dom_base.proofs.Std.{◌≡◌, ◌<◌, ◌++◌, length, filter, map, All, option_map, ForSome}
-use Rattle.dom_model.proofs.Model.{selector_matches, query_all}
-use Rattle.dom_tree.specs.Definitions.{name_at, StandsIn}
-use Rattle.dom_laws.specs.Within.{from_node}
-use Rattle.dom_selectors.specs.Definitions.{IsKnownOfFirst, selector_view}
+use Rattle.dom_selectors.proofs.Cited.{◌≡◌, ◌<◌, ◌++◌, length, filter, map, All, option_map, ForSome, selector_matches, query_all, name_at, StandsIn, from_node}
+use Rattle.dom_selectors.proofs.Cited.{IsKnownOfFirst, selector_view}
 use Rattle.dom_selectors.proofs.selector.Selector.query_all.Given as goal
 
 abbrev pub invariant-loop-at : goal.invariant-loop-at

@@ -1,11 +1,7 @@
-use Rattle.dom_base.proofs.Std.{◌≡◌, [], ◌∷◌, ◌++◌, Bool, map, ap, sym, ◌∙◌}
-use Rattle.dom_model.proofs.Model.{NodeName, selector_matches}
-use Rattle.dom_tree.specs.Definitions.{name_at}
-use Rattle.dom_tree.proofs.Searching.{IsWithin-itself}
-use Rattle.dom_selectors.specs.Definitions.{selector_view}
+use Rattle.dom_selectors.proofs.Cited.{◌≡◌, [], ◌∷◌, ◌++◌, Bool, map, ap, sym, ◌∙◌, NodeName, selector_matches, name_at, IsWithin-itself, selector_view}
 use Rattle.dom_selectors.proofs.IdQueries.{one_found, none_found}
-use Rattle.dom_selectors.proofs.selector.Selector.query_one.Goals as goal
 use Rattle.dom_selectors.proofs.selector.Selector.query_one.Goals.{then-matches_below+in_ok-push, else-matches_below}
+use Rattle.dom_selectors.proofs.selector.Selector.query_one.Goals as goal
 
 pub returns-clause-found : goal.returns-clause-found
 returns-clause-found c =
