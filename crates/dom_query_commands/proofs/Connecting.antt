@@ -1,10 +1,7 @@
 -- Whether a node is connected does not go by the open turn.
-use Rattle.dom_base.proofs.Std.{◌≡◌, ℕ, zero, suc, List, [], ◌∷◌, ◌++◌, Option, Some, None, flat_map, unwrap_or, refl, sym, ap, ◌∙◌, is_some, option_to_list}
-use Rattle.dom_base.proofs.Std.{if◌then◌else◌}
-use Rattle.dom_model.proofs.Model.{Owner, NodeName, last_of, owner_depth, is_document, NodeWord, named, Part, opening_turn, World, part_of, host_above}
-use Rattle.dom_model.proofs.Model.{hosts_from, ancestors_at, kind_at, is_connected}
-use Rattle.dom_admission.specs.Turned.{with_turn}
-use Rattle.dom_admission.proofs.Handling.{opened-part}
+use Rattle.dom_query_commands.proofs.Cited.{◌≡◌, ℕ, zero, suc, List, [], ◌∷◌, ◌++◌, Option, Some, None, flat_map, unwrap_or, refl, sym, ap, ◌∙◌, is_some}
+use Rattle.dom_query_commands.proofs.Cited.{option_to_list, if◌then◌else◌, Owner, NodeName, last_of, owner_depth, is_document, NodeWord, named, Part}
+use Rattle.dom_query_commands.proofs.Cited.{opening_turn, World, part_of, host_above, hosts_from, ancestors_at, kind_at, is_connected, with_turn, opened-part}
 
 module _ (t : Option Owner) (w : World) where
   hosts_turned : (depth : ℕ) (x : NodeName) → hosts_from depth (with_turn t w) x ≡ hosts_from depth w x

@@ -1,3 +1,4 @@
+mod Cited
 mod Connecting
 mod Notices
 mod ObserverLaws

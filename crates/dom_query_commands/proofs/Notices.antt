@@ -1,9 +1,8 @@
 -- The lines of a notification are those of the records that each pending observer is given.
-use Rattle.dom_base.proofs.Std.{Vec, flat_map, map, ◌≡◌, ℕ, List, [], ◌∷◌, ◌++◌, sym, ap, ◌∙◌, refl}
-use Rattle.dom_model.proofs.Model.{NodeName, Owner, Output, Change, says, recorded, queue_of, notified_lines, World, part_of, owner-part_of}
+use Rattle.dom_query_commands.proofs.Cited.{Vec, flat_map, map, ◌≡◌, ℕ, List, [], ◌∷◌, ◌++◌, sym, ap, ◌∙◌, refl, NodeName, Owner, Output, Change, says}
+use Rattle.dom_query_commands.proofs.Cited.{recorded, queue_of, notified_lines, World, part_of, owner-part_of, DocState, change_in, notice_in, notices_of}
+use Rattle.dom_query_commands.proofs.Cited.{record_lines, notice_lines}
 use Rattle.dom_observers.specs.declared.change.Change.{Change as KeyedChange}
-use Rattle.dom_mutation.specs.Definitions.{DocState, change_in, notice_in, notices_of}
-use Rattle.dom_query_commands.specs.Recorded.{record_lines, notice_lines}
 
 lines_mapped : {X Y Z : Type 0} (f : Y → List Z) (g : X → Y) (xs : List X) → flat_map f (map g xs) ≡ flat_map (λ x. f (g x)) xs
 lines_mapped f g [] = refl

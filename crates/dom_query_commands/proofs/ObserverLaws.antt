@@ -1,13 +1,9 @@
 -- What the commands on observers say of records, and what the command for a microtask does.
-use Rattle.dom_base.proofs.Std.{◌≡◌, ℕ, List, map, sym, [], ◌∷◌, ◌++◌, Option, Some, None, refl}
-use Rattle.dom_model.proofs.Model.{Owner, Command, Word, nothing, recorded, says, replied, World, Task, micro_task, accepted, opening_turn}
+use Rattle.dom_query_commands.proofs.Cited.{◌≡◌, ℕ, List, map, sym, [], ◌∷◌, ◌++◌, Option, Some, None, refl, Owner, Command, Word, nothing, recorded, says}
+use Rattle.dom_query_commands.proofs.Cited.{replied, World, Task, micro_task, accepted, opening_turn, DocState, change_in, record_lines, Observer, with_turn}
+use Rattle.dom_query_commands.proofs.Cited.{IsNaming, namings}
 use Rattle.dom_observers.specs.declared.change.Change.{Change}
-use Rattle.dom_mutation.specs.Definitions.{DocState, change_in}
-use Rattle.dom_query_commands.specs.Recorded.{record_lines}
 use Rattle.dom_query_commands.proofs.Notices.{map_twice}
-use Rattle.dom_admission.specs.declared.admission.Operand.TheVariants.{Observer}
-use Rattle.dom_admission.specs.Turned.{with_turn}
-use Rattle.dom_admission.proofs.Refusing.{IsNaming, namings}
 
 -- the taking of records names its observer alone
 pub naming-take : (o : Owner) (k : ℕ) → IsNaming o (Command.take k) (Observer k ∷ [])

@@ -1,20 +1,15 @@
 -- The rest of the steps at a place of whole trees, and that the next place has the rest but for one step.
-use Rattle.dom_base.proofs.Std.{ℕ, ◌<◌, length, arith, ◌≡◌, inl, inr, ◌≤◌, Bool, true, false, List, [], ◌∷◌, ◌++◌, Option, Some, refl, sym, ap, subst, ◌∙◌}
-use Rattle.dom_base.proofs.Std.{append_assoc, true≢false, option_map, option_map_or, cases_Bool, or_left, or_right, or_cases}
-use Rattle.dom_model.proofs.Model.{NodeName, name_eq, first_of, is_in, Trees, none, tree, Node, names_of, roots, subtree, node_in, parent_of, next_sibling}
-use Rattle.dom_model.proofs.Model.{is_inclusive_ancestor, times_in, name_eq-same, name_eq-true, name_eq-turned}
-use Rattle.dom_text.specs.Definitions.{TreeStep, opens, closes}
-use Rattle.dom_printer.specs.Steps.{shown, shown_steps}
-use Rattle.dom_tree.specs.Definitions.{name_at}
-use Rattle.dom_query_commands.specs.declared.tree_text.Place.{Place}
-use Rattle.dom_query_commands.specs.declared.tree_text.Place.TheVariants as places
+use Rattle.dom_query_commands.proofs.Cited.{ℕ, ◌<◌, length, arith, ◌≡◌, inl, inr, ◌≤◌, Bool, true, false, List, [], ◌∷◌, ◌++◌, Option, Some, refl, sym, ap}
+use Rattle.dom_query_commands.proofs.Cited.{subst, ◌∙◌, append_assoc, true≢false, option_map, option_map_or, cases_Bool, or_left, or_right, or_cases, NodeName}
+use Rattle.dom_query_commands.proofs.Cited.{name_eq, first_of, is_in, Trees, none, tree, Node, names_of, roots, subtree, node_in, parent_of, next_sibling}
+use Rattle.dom_query_commands.proofs.Cited.{is_inclusive_ancestor, times_in, name_eq-same, name_eq-true, name_eq-turned, TreeStep, opens, closes, shown}
+use Rattle.dom_query_commands.proofs.Cited.{shown_steps, name_at, Place, Once, StandOnce, StandAlone, Once-forest}
 use Rattle.dom_query_commands.specs.TreeText.{NamedPlace, opening, closing, key_of, place_view, step_at, place_after}
-use Rattle.dom_query_commands.proofs.Spots.{Spot, spot_of, IsSpot, IsChild, closed, spot_of-spot, spot_there, child_spot, IsSpot-child, next_spot}
-use Rattle.dom_query_commands.proofs.Spots.{IsSpot-next, cases_root, above-root, after-root}
-use Rattle.dom_laws.proofs.Laws.{Once}
-use Rattle.dom_tree.proofs.Standing.{StandOnce, StandAlone, Once-forest}
+use Rattle.dom_query_commands.proofs.Spots.{Spot, spot_of, IsSpot, IsChild, closed, spot_of-spot, spot_there, child_spot, IsSpot-child, next_spot, IsSpot-next}
+use Rattle.dom_query_commands.proofs.Spots.{cases_root, above-root, after-root}
 use Rattle.dom_query_commands.proofs.UniqueNames.{named, times-key}
 use Rattle.dom_query_commands.proofs.SpotReads.{subtree-spot, node_in-spot, ancestors-spot, children-spot, parent-spot, next-child}
+use Rattle.dom_query_commands.specs.declared.tree_text.Place.TheVariants as places
 
 -- the name of the node of a place
 abbrev pub name_of : NamedPlace → NodeName

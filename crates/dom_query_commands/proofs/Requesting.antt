@@ -1,16 +1,9 @@
 -- What a line asks of a thing is refused by the tests that all commands share, and by no other; what it has made at a root only by a limit too.
-use Rattle.dom_base.proofs.Std.{◌≡◌, ℕ, [], ◌∷◌, ◌++◌, length, None, refl}
-use Rattle.dom_model.proofs.Model.{Owner, Filter, NodeWord, effect, own_refusal, named, limit_on, accepted, answers, new_iterator, new_walker, a_walker}
-use Rattle.dom_model.proofs.Model.{an_iterator, Part, World}
-use Rattle.dom_admission.proofs.Handling.{effecting}
-use Rattle.dom_admission.proofs.Refusing.{IsNaming, namings}
-use Rattle.dom_admission.specs.declared.admission.Operand.TheVariants.{Any}
-use Rattle.dom_reader.specs.Views.{word_view}
+use Rattle.dom_query_commands.proofs.Cited.{◌≡◌, ℕ, [], ◌∷◌, ◌++◌, length, None, refl, Owner, Filter, NodeWord, effect, own_refusal, named, limit_on, accepted}
+use Rattle.dom_query_commands.proofs.Cited.{answers, new_iterator, new_walker, a_walker, an_iterator, Part, World, effecting, IsNaming, namings, Any, word_view}
+use Rattle.dom_query_commands.proofs.Cited.{command_of, thing_of, cursor_count, cursor_new, Cursor, Request}
 use Rattle.dom_reader.specs.declared.line.NodeWord as line
-use Rattle.dom_query_commands.specs.Requests.{command_of, thing_of, cursor_count, cursor_new}
-use Rattle.dom_query_commands.specs.declared.cursors.Cursor.{Cursor}
 use Rattle.dom_query_commands.specs.declared.cursors.Cursor.TheVariants as cursors
-use Rattle.dom_query_commands.specs.declared.things.Request.{Request}
 use Rattle.dom_query_commands.specs.declared.things.Request.TheVariants as asks
 
 -- it names the thing alone, has no refusal of its own, and does what it does in its owner's part

@@ -1,18 +1,15 @@
 -- Selectors match an owner's nodes in the trees of all owners as they do in the owner's own trees; and what was read of a
 -- selector's text.
-use Rattle.dom_base.proofs.Std.{◌≡◌, ℕ, inl, inr, Bool, true, false, not, ◌&&◌, ◌||◌, List, [], ◌∷◌, Option, Some, None, refl, sym, ap, subst, ◌∙◌, codes}
-use Rattle.dom_base.proofs.Std.{filter, drop, is_some, is_none, unwrap_or, option_to_list, if◌then◌else◌, list_any, list_all, ForSome, option_map_or}
-use Rattle.dom_model.proofs.Model.{Fault, Refused, Refusal, Selector, Owner, NodeName, name_eq, text_eq, is_empty, last_of, items_before, items_after, Trees}
-use Rattle.dom_model.proofs.Model.{Node, kind_of, is_element, attribute_value, parent_of, children_of, siblings, inclusive_ancestors, descendants}
-use Rattle.dom_model.proofs.Model.{inclusive_descendants, Simple, of_type, of_any_type, of_id, of_class, with_value, first_child, last_child, CompoundPart}
-use Rattle.dom_model.proofs.Model.{simple, is_not, Combinator, descendant, child, next, later, Complex, alone, joined, equals, has_word, attribute_passes}
-use Rattle.dom_model.proofs.Model.{elements_before, elements_behind, simple_matches, part_matches, compound_matches, combined_with, complex_matches}
-use Rattle.dom_model.proofs.Model.{selector_matches, query_all, parse_selectors, selectors_of, first_refusal}
-use Rattle.dom_model.specs.Selectors.{with_attribute}
-use Rattle.dom_selectors.specs.Definitions.{IsRefusalWhere}
-use Rattle.dom_tree.specs.Definitions.{AreOwned, trees_of_owner}
-use Rattle.dom_tree.proofs.Owned.{read_own, stays_own}
-use Rattle.dom_laws.proofs.Laws.{In, is_in-from, In-right, before-in, after-in, filter-same, last_split}
+use Rattle.dom_query_commands.proofs.Cited.{◌≡◌, ℕ, inl, inr, Bool, true, false, not, ◌&&◌, ◌||◌, List, [], ◌∷◌, Option, Some, None, refl, sym, ap, subst, ◌∙◌}
+use Rattle.dom_query_commands.proofs.Cited.{codes, filter, drop, is_some, is_none, unwrap_or, option_to_list, if◌then◌else◌, list_any, list_all, ForSome}
+use Rattle.dom_query_commands.proofs.Cited.{option_map_or, Fault, Refused, Refusal, Selector, Owner, NodeName, name_eq, text_eq, is_empty, last_of}
+use Rattle.dom_query_commands.proofs.Cited.{items_before, items_after, Trees, Node, kind_of, is_element, attribute_value, parent_of, children_of, siblings}
+use Rattle.dom_query_commands.proofs.Cited.{inclusive_ancestors, descendants, inclusive_descendants, Simple, of_type, of_any_type, of_id, of_class, with_value}
+use Rattle.dom_query_commands.proofs.Cited.{first_child, last_child, CompoundPart, simple, is_not, Combinator, descendant, child, next, later, Complex, alone}
+use Rattle.dom_query_commands.proofs.Cited.{joined, equals, has_word, attribute_passes, elements_before, elements_behind, simple_matches, part_matches}
+use Rattle.dom_query_commands.proofs.Cited.{compound_matches, combined_with, complex_matches, selector_matches, query_all, parse_selectors, selectors_of}
+use Rattle.dom_query_commands.proofs.Cited.{first_refusal, with_attribute, IsRefusalWhere, AreOwned, trees_of_owner, read_own, stays_own, In, is_in-from}
+use Rattle.dom_query_commands.proofs.Cited.{In-right, before-in, after-in, filter-same, last_split}
 
 -- ---- tests that agree
 

@@ -1,11 +1,9 @@
 -- The children of a node from one of them on, along the links from sibling to sibling.
-use Rattle.dom_base.proofs.Std.{◌≡◌, ℕ, ◌<◌, inl, inr, List, [], ◌∷◌, length, Option, Some, None, refl, sym, ap, subst, ◌∙◌, arith, option_map, option_map_or}
-use Rattle.dom_model.proofs.Model.{NodeName, first_of, Trees, none, tree, names_of, roots, parent_of, children_of, next_sibling}
-use Rattle.dom_query_commands.proofs.Spots.{Spot, spot_of, IsSpot, IsChild, spot_of-spot, spot_there, child_spot, IsSpot-child, next_spot}
-use Rattle.dom_query_commands.proofs.Spots.{IsSpot-next, cases_root, above-root}
-use Rattle.dom_tree.specs.Definitions.{name_at}
-use Rattle.dom_laws.proofs.Laws.{Once}
-use Rattle.dom_tree.proofs.Standing.{StandOnce, StandAlone, Once-forest}
+use Rattle.dom_query_commands.proofs.Cited.{◌≡◌, ℕ, ◌<◌, inl, inr, List, [], ◌∷◌, length, Option, Some, None, refl, sym, ap, subst, ◌∙◌, arith, option_map}
+use Rattle.dom_query_commands.proofs.Cited.{option_map_or, NodeName, first_of, Trees, none, tree, names_of, roots, parent_of, children_of, next_sibling}
+use Rattle.dom_query_commands.proofs.Cited.{name_at, Once, StandOnce, StandAlone, Once-forest}
+use Rattle.dom_query_commands.proofs.Spots.{Spot, spot_of, IsSpot, IsChild, spot_of-spot, spot_there, child_spot, IsSpot-child, next_spot, IsSpot-next}
+use Rattle.dom_query_commands.proofs.Spots.{cases_root, above-root}
 use Rattle.dom_query_commands.proofs.UniqueNames.{named, times-key}
 use Rattle.dom_query_commands.proofs.SpotReads.{children-spot, parent-spot, next-child}
 

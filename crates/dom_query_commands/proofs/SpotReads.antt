@@ -1,11 +1,9 @@
 -- What is read of a node is what its spot says.
-use Rattle.dom_base.proofs.Std.{◌≡◌, inl, inr, ◌≤◌, false, List, [], ◌∷◌, ◌++◌, Option, Some, None, refl, sym, ap, subst, ◌∙◌, arith, append_assoc, find}
-use Rattle.dom_base.proofs.Std.{unwrap_or, drop, option_or, option_map, option_map_or, cases_Bool, cond-true, append-nil, find-append}
-use Rattle.dom_model.proofs.Model.{NodeName, name_eq, first_of, items_after, Trees, none, tree, Node, nodes, names_of, roots, or_else, subtree, no_node}
-use Rattle.dom_model.proofs.Model.{node_in, trees_below, children_of, times_in, inclusive_ancestors, on_top, parent_of, siblings, next_sibling, name_eq-same}
-use Rattle.dom_model.proofs.Model.{name_eq-true, name_eq-turned}
-use Rattle.dom_laws.proofs.Laws.{Once, times-here, times-elsewhere}
-use Rattle.dom_text.specs.Definitions.{TreeStep}
+use Rattle.dom_query_commands.proofs.Cited.{◌≡◌, inl, inr, ◌≤◌, false, List, [], ◌∷◌, ◌++◌, Option, Some, None, refl, sym, ap, subst, ◌∙◌, arith, append_assoc}
+use Rattle.dom_query_commands.proofs.Cited.{find, unwrap_or, drop, option_or, option_map, option_map_or, cases_Bool, cond-true, append-nil, find-append}
+use Rattle.dom_query_commands.proofs.Cited.{NodeName, name_eq, first_of, items_after, Trees, none, tree, Node, nodes, names_of, roots, or_else, subtree}
+use Rattle.dom_query_commands.proofs.Cited.{no_node, node_in, trees_below, children_of, times_in, inclusive_ancestors, on_top, parent_of, siblings}
+use Rattle.dom_query_commands.proofs.Cited.{next_sibling, name_eq-same, name_eq-true, name_eq-turned, Once, times-here, times-elsewhere, TreeStep}
 use Rattle.dom_query_commands.proofs.Spots.{Spot, spot_of, IsSpot, IsRoot, IsChild, closed, spot_of-spot, times-root, times-below, above-root}
 
 -- ---- the first spot of a name, and what is read of the name

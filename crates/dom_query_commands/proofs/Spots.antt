@@ -1,10 +1,7 @@
 -- Where nodes stand in trees, and that a name that stands there once has one spot.
-use Rattle.dom_base.proofs.Std.{◌≡◌, ◌⊎◌, inl, inr, ◌+◌, ◌≤◌, List, ◌∷◌, ◌++◌, Option, Some, None, refl, sym, ap, subst, arith, if◌then◌else◌, option_or}
-use Rattle.dom_base.proofs.Std.{cases_Bool, cond-true}
-use Rattle.dom_model.proofs.Model.{NodeName, name_eq, Trees, none, tree, Node, times_in, name_eq-same, name_eq-true}
-use Rattle.dom_laws.proofs.Laws.{by_times, times_in-none, times-here, times-elsewhere, times-more}
-use Rattle.dom_text.specs.Definitions.{TreeStep, closes}
-use Rattle.dom_printer.specs.Steps.{shown_steps}
+use Rattle.dom_query_commands.proofs.Cited.{◌≡◌, ◌⊎◌, inl, inr, ◌+◌, ◌≤◌, List, ◌∷◌, ◌++◌, Option, Some, None, refl, sym, ap, subst, arith, if◌then◌else◌}
+use Rattle.dom_query_commands.proofs.Cited.{option_or, cases_Bool, cond-true, NodeName, name_eq, Trees, none, tree, Node, times_in, name_eq-same, name_eq-true}
+use Rattle.dom_query_commands.proofs.Cited.{by_times, times_in-none, times-here, times-elsewhere, times-more, TreeStep, closes, shown_steps}
 
 -- a node where it stands: the trees of its children, the trees right of it, the names of its ancestors from its parent on, and
 -- the steps behind the trees right of it

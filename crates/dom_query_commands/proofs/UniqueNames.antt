@@ -1,9 +1,5 @@
 -- The names and the trees of a forest, as laws of dom_tree take them.
-use Rattle.dom_base.proofs.Std.{◌≡◌, ℕ, ◌<◌, List, length, ◌∙◌}
-use Rattle.dom_model.proofs.Model.{NodeName, Trees, times_in}
-use Rattle.dom_laws.proofs.Laws.{times_count}
-use Rattle.dom_tree.specs.Definitions.{NamedTrees, name_at}
-use Rattle.dom_tree.proofs.Standing.{StandOnce}
+use Rattle.dom_query_commands.proofs.Cited.{◌≡◌, ℕ, ◌<◌, List, length, ◌∙◌, NodeName, Trees, times_in, times_count, NamedTrees, name_at, StandOnce}
 
 -- names by their keys, and the trees in which they stand
 abbrev pub named : List NodeName → Trees → NamedTrees

@@ -1,11 +1,5 @@
-use Rattle.dom_base.proofs.Std.{◌∙◌, refl, sym}
-use Rattle.dom_reader.specs.Views.{filter_view}
-use Rattle.dom_model.proofs.Model.{own, part_of}
-use Rattle.dom_admission.specs.Turned.{with_turn}
-use Rattle.dom_mutation.specs.Definitions.{name_in}
-use Rattle.dom_admission.proofs.Finding.{key_of}
-use Rattle.dom_admission.proofs.Handling.{faults, keeps, may_act, refused}
-use Rattle.dom_admission.proofs.OwnRefusals.{lone_passes, lone_refuses}
+use Rattle.dom_query_commands.proofs.Cited.{◌∙◌, refl, sym, filter_view, own, part_of, with_turn, name_in, key_of, faults, keeps, may_act, refused, lone_passes}
+use Rattle.dom_query_commands.proofs.Cited.{lone_refuses}
 use Rattle.dom_query_commands.proofs.Requesting.{makes_cursor}
 use Rattle.dom_query_commands.proofs.cursors.new_cursor.Goals as goal
 

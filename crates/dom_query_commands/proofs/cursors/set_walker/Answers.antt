@@ -1,9 +1,5 @@
-use Rattle.dom_base.proofs.Std.{◌∷◌, ◌∙◌, [], Some, refl, sym}
-use Rattle.dom_model.proofs.Model.{of_walker, sets_walker, nothing, part_of}
-use Rattle.dom_admission.specs.declared.admission.Operand.TheVariants.{Any, Walker}
-use Rattle.dom_admission.proofs.Finding.{key_of}
-use Rattle.dom_admission.proofs.Handling.{keeps, may_act, refused}
-use Rattle.dom_admission.proofs.Refusing.{namings}
+use Rattle.dom_query_commands.proofs.Cited.{◌∷◌, ◌∙◌, [], Some, refl, sym, of_walker, sets_walker, nothing, part_of, Any, Walker, key_of, keeps, may_act}
+use Rattle.dom_query_commands.proofs.Cited.{refused, namings}
 use Rattle.dom_query_commands.proofs.cursors.set_walker.Goals as goal
 
 pub returns-in_err-admit-clause-handled : goal.returns-in_err-admit-clause-handled

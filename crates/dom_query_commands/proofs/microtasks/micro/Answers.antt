@@ -1,9 +1,5 @@
-use Rattle.dom_base.proofs.Std.{◌∷◌, ◌∙◌, ◌++◌, [], ap, refl, string_bytes}
-use Rattle.dom_model.proofs.Model.{Command, Word, nothing, replied, says, opening_turn, micro_task}
-use Rattle.dom_admission.specs.Turned.{with_turn}
-use Rattle.dom_mutation.specs.Definitions.{DocState, with_tasks}
-use Rattle.dom_admission.proofs.Handling.{finished, in_state, may_act, refused}
-use Rattle.dom_admission.proofs.Refusing.{namings}
+use Rattle.dom_query_commands.proofs.Cited.{◌∷◌, ◌∙◌, ◌++◌, [], ap, refl, string_bytes, Command, Word, nothing, replied, says, opening_turn, micro_task}
+use Rattle.dom_query_commands.proofs.Cited.{with_turn, DocState, with_tasks, finished, in_state, may_act, refused, namings}
 use Rattle.dom_query_commands.proofs.ObserverLaws.{micro_queued}
 use Rattle.dom_query_commands.proofs.microtasks.micro.Goals as goal
 

@@ -1,8 +1,5 @@
-use Rattle.dom_base.proofs.Std.{◌≡◌, List, ◌++◌, subst, sym, ◌∙◌, OnOk, AllByRecursion}
-use Rattle.dom_model.proofs.Model.{NodeName, Output, notified_lines, part_of}
-use Rattle.dom_mutation.specs.Definitions.{DocState}
-use Rattle.dom_text.specs.Definitions.{output_text}
-use Rattle.dom_query_commands.specs.Recorded.{notice_lines, IsNotice}
+use Rattle.dom_query_commands.proofs.Cited.{◌≡◌, List, ◌++◌, subst, sym, ◌∙◌, OnOk, AllByRecursion, NodeName, Output, notified_lines, part_of, DocState}
+use Rattle.dom_query_commands.proofs.Cited.{output_text, notice_lines, IsNotice}
 use Rattle.dom_query_commands.proofs.Notices.{notice_lines_are}
 use Rattle.dom_query_commands.proofs.microtasks.tell_observers.Goals as goal
 

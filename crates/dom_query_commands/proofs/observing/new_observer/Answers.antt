@@ -1,8 +1,4 @@
-use Rattle.dom_base.proofs.Std.{[], refl}
-use Rattle.dom_model.proofs.Model.{Command}
-use Rattle.dom_admission.proofs.Handling.{faults, keeps, may_act, passes, refused}
-use Rattle.dom_admission.proofs.OwnRefusals.{lone_passes, lone_refuses}
-use Rattle.dom_admission.proofs.Refusing.{namings}
+use Rattle.dom_query_commands.proofs.Cited.{[], refl, Command, faults, keeps, may_act, passes, refused, lone_passes, lone_refuses, namings}
 use Rattle.dom_query_commands.proofs.observing.new_observer.Goals as goal
 
 pub returns-in_err-admit-clause-handled : goal.returns-in_err-admit-clause-handled

@@ -1,10 +1,5 @@
-use Rattle.dom_base.proofs.Std.{◌∷◌, ◌∙◌, [], refl, sym}
-use Rattle.dom_model.proofs.Model.{answers, name_eq, asks_for_nothing, options_of, with_registration, nothing, part_of}
-use Rattle.dom_admission.specs.declared.admission.Operand.TheVariants.{Any, Observer}
-use Rattle.dom_admission.proofs.Finding.{key_of}
-use Rattle.dom_admission.proofs.Handling.{faults, keeps, may_act, refused}
-use Rattle.dom_admission.proofs.OwnRefusals.{lone_passes, lone_refuses}
-use Rattle.dom_admission.proofs.Refusing.{namings}
+use Rattle.dom_query_commands.proofs.Cited.{◌∷◌, ◌∙◌, [], refl, sym, answers, name_eq, asks_for_nothing, options_of, with_registration, nothing, part_of, Any}
+use Rattle.dom_query_commands.proofs.Cited.{Observer, key_of, faults, keeps, may_act, refused, lone_passes, lone_refuses, namings}
 use Rattle.dom_query_commands.proofs.observing.observe.Goals as goal
 
 pub returns-in_err-admit-clause-handled : goal.returns-in_err-admit-clause-handled

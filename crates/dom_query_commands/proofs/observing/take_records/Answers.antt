@@ -1,7 +1,4 @@
-use Rattle.dom_base.proofs.Std.{◌∙◌, ◌++◌, List, ap, length, refl, sym}
-use Rattle.dom_model.proofs.Model.{Output, a_count}
-use Rattle.dom_text.specs.Definitions.{output_text}
-use Rattle.dom_admission.proofs.Handling.{keeps_saying, may_act, refused}
+use Rattle.dom_query_commands.proofs.Cited.{◌∙◌, ◌++◌, List, ap, length, refl, sym, Output, a_count, output_text, keeps_saying, may_act, refused}
 use Rattle.dom_query_commands.proofs.ObserverLaws.{naming-take, record_lines_are}
 use Rattle.dom_query_commands.proofs.observing.take_records.Goals as goal
 

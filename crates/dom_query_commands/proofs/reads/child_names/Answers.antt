@@ -1,7 +1,5 @@
 -- Each turn lists a child, until there is none.
-use Rattle.dom_base.proofs.Std.{◌++◌, ◌∷◌, [], length, sym, ap, ◌∙◌, arith, append_assoc, option_map, append-nil}
-use Rattle.dom_model.proofs.Model.{NodeName}
-use Rattle.dom_tree.specs.Definitions.{name_at}
+use Rattle.dom_query_commands.proofs.Cited.{◌++◌, ◌∷◌, [], length, sym, ap, ◌∙◌, arith, append_assoc, option_map, append-nil, NodeName, name_at}
 use Rattle.dom_query_commands.proofs.Siblings.{from_or, begins, goes_on}
 use Rattle.dom_query_commands.proofs.reads.child_names.Goals as goal
 

@@ -1,7 +1,5 @@
 -- The names so far, and those of the siblings from here on, are the children's.
-use Rattle.dom_base.proofs.Std.{◌≡◌, ◌<◌, ◌++◌, length, option_map, ForSome}
-use Rattle.dom_model.proofs.Model.{children_of}
-use Rattle.dom_tree.specs.Definitions.{name_at}
+use Rattle.dom_query_commands.proofs.Cited.{◌≡◌, ◌<◌, ◌++◌, length, option_map, ForSome, children_of, name_at}
 use Rattle.dom_query_commands.proofs.Siblings.{from_or, IsChildOf}
 use Rattle.dom_query_commands.proofs.reads.child_names.Given as goal
 

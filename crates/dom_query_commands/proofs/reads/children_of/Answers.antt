@@ -1,8 +1,4 @@
-use Rattle.dom_base.proofs.Std.{◌∙◌, ◌≡◌, IfOk-weaker}
-use Rattle.dom_model.proofs.Model.{children_of}
-use Rattle.dom_mutation.specs.Definitions.{name_in, trees_in}
-use Rattle.dom_tree.specs.Definitions.{name_at}
-use Rattle.dom_admission.proofs.Finding.{read_of}
+use Rattle.dom_query_commands.proofs.Cited.{◌∙◌, ◌≡◌, IfOk-weaker, children_of, name_in, trees_in, name_at, read_of}
 use Rattle.dom_query_commands.proofs.reads.children_of.Goals as goal
 
 pub child_names-requires : goal.child_names-requires

@@ -1,10 +1,5 @@
-use Rattle.dom_base.proofs.Std.{◌∷◌, ◌∙◌, ◌≡◌, [], ap, refl, sym}
-use Rattle.dom_model.proofs.Model.{named, a_truth, is_connected, part_of}
-use Rattle.dom_admission.specs.declared.admission.Operand.TheVariants.{Any}
-use Rattle.dom_reader.specs.Views.{word_view}
-use Rattle.dom_admission.proofs.Finding.{key_of}
-use Rattle.dom_admission.proofs.Handling.{asks, may_act, refused}
-use Rattle.dom_admission.proofs.Refusing.{namings}
+use Rattle.dom_query_commands.proofs.Cited.{◌∷◌, ◌∙◌, ◌≡◌, [], ap, refl, sym, named, a_truth, is_connected, part_of, Any, word_view, key_of, asks, may_act}
+use Rattle.dom_query_commands.proofs.Cited.{refused, namings}
 use Rattle.dom_query_commands.proofs.Connecting.{connected-opened, connected-turned}
 use Rattle.dom_query_commands.proofs.reads.connected.Goals as goal
 

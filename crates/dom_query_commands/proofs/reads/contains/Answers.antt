@@ -1,11 +1,5 @@
-use Rattle.dom_base.proofs.Std.{◌∷◌, ◌∙◌, [], ap, refl}
-use Rattle.dom_model.proofs.Model.{NodeName, answers, a_truth, is_inclusive_ancestor, named, part_of}
-use Rattle.dom_mutation.specs.Definitions.{name_in, trees_in}
-use Rattle.dom_reader.specs.Views.{word_view}
-use Rattle.dom_admission.specs.declared.admission.Operand.TheVariants.{Any}
-use Rattle.dom_admission.proofs.Finding.{told_here}
-use Rattle.dom_admission.proofs.Handling.{may_act, reads, refused}
-use Rattle.dom_admission.proofs.Refusing.{namings}
+use Rattle.dom_query_commands.proofs.Cited.{◌∷◌, ◌∙◌, [], ap, refl, NodeName, answers, a_truth, is_inclusive_ancestor, named, part_of, name_in, trees_in}
+use Rattle.dom_query_commands.proofs.Cited.{word_view, Any, told_here, may_act, reads, refused, namings}
 use Rattle.dom_query_commands.proofs.reads.contains.Goals as goal
 
 pub returns-in_err-above-clause-handled : goal.returns-in_err-above-clause-handled

@@ -1,8 +1,4 @@
-use Rattle.dom_base.proofs.Std.{◌∙◌, List, ap}
-use Rattle.dom_model.proofs.Model.{NodeName, is_in, name_eq, is_inclusive_ancestor}
-use Rattle.dom_mutation.specs.Definitions.{name_in}
-use Rattle.dom_tree.specs.Definitions.{name_at}
-use Rattle.dom_admission.proofs.Finding.{read_of}
+use Rattle.dom_query_commands.proofs.Cited.{◌∙◌, List, ap, NodeName, is_in, name_eq, is_inclusive_ancestor, name_in, name_at, read_of}
 use Rattle.dom_query_commands.proofs.reads.is_above.Goals as goal
 
 pub is_inclusive_ancestor-requires-clause-above_is_node : goal.is_inclusive_ancestor-requires-clause-above_is_node

@@ -1,9 +1,4 @@
-use Rattle.dom_base.proofs.Std.{◌∷◌, ◌∙◌, [], ap, refl}
-use Rattle.dom_model.proofs.Model.{answers, node_or_null, parent_of}
-use Rattle.dom_admission.specs.declared.admission.Operand.TheVariants.{Any}
-use Rattle.dom_admission.proofs.Finding.{told_here}
-use Rattle.dom_admission.proofs.Handling.{may_act, reads, refused}
-use Rattle.dom_admission.proofs.Refusing.{namings}
+use Rattle.dom_query_commands.proofs.Cited.{◌∷◌, ◌∙◌, [], ap, refl, answers, node_or_null, parent_of, Any, told_here, may_act, reads, refused, namings}
 use Rattle.dom_query_commands.proofs.reads.parent.Goals as goal
 
 pub returns-in_err-node-clause-handled : goal.returns-in_err-node-clause-handled

@@ -1,7 +1,4 @@
-use Rattle.dom_base.proofs.Std.{◌∙◌, List, ap, sym, option_map}
-use Rattle.dom_model.proofs.Model.{NodeName, parent_of}
-use Rattle.dom_tree.specs.Definitions.{name_at}
-use Rattle.dom_admission.proofs.Finding.{read_of}
+use Rattle.dom_query_commands.proofs.Cited.{◌∙◌, List, ap, sym, option_map, NodeName, parent_of, name_at, read_of}
 use Rattle.dom_query_commands.proofs.reads.parent_of.Goals as goal
 
 pub parent-requires : goal.parent-requires

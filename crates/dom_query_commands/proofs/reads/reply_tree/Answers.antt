@@ -1,7 +1,4 @@
-use Rattle.dom_base.proofs.Std.{◌∙◌, ap}
-use Rattle.dom_model.proofs.Model.{subtree}
-use Rattle.dom_printer.specs.Steps.{shown_steps, steps_view}
-use Rattle.dom_admission.proofs.Finding.{read_of}
+use Rattle.dom_query_commands.proofs.Cited.{◌∙◌, ap, subtree, shown_steps, steps_view, read_of}
 use Rattle.dom_query_commands.proofs.reads.reply_tree.Goals as goal
 
 pub tree_steps-requires : goal.tree_steps-requires

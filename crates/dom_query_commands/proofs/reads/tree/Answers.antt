@@ -1,10 +1,5 @@
-use Rattle.dom_base.proofs.Std.{◌∷◌, [], Ok, ap, refl}
-use Rattle.dom_model.proofs.Model.{Command, a_tree, answers, subtree}
-use Rattle.dom_reader.specs.Views.{word_view}
-use Rattle.dom_admission.specs.declared.admission.Operand.TheVariants.{Any}
-use Rattle.dom_admission.proofs.Finding.{told_here}
-use Rattle.dom_admission.proofs.Handling.{may_act, reads, refused}
-use Rattle.dom_admission.proofs.Refusing.{namings}
+use Rattle.dom_query_commands.proofs.Cited.{◌∷◌, [], Ok, ap, refl, Command, a_tree, answers, subtree, word_view, Any, told_here, may_act, reads, refused}
+use Rattle.dom_query_commands.proofs.Cited.{namings}
 use Rattle.dom_query_commands.proofs.reads.tree.Goals as goal
 
 pub returns-in_err-node-clause-handled : goal.returns-in_err-node-clause-handled

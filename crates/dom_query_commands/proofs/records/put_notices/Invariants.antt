@@ -1,6 +1,4 @@
-use Rattle.dom_base.proofs.Std.{◌≡◌, ◌++◌, take}
-use Rattle.dom_text.specs.Definitions.{output_text}
-use Rattle.dom_query_commands.specs.Recorded.{notice_lines}
+use Rattle.dom_query_commands.proofs.Cited.{◌≡◌, ◌++◌, take, output_text, notice_lines}
 use Rattle.dom_query_commands.proofs.records.put_notices.Given as goal
 
 abbrev pub invariant-loop-notice : goal.invariant-loop-notice

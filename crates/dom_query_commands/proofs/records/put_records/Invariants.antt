@@ -1,6 +1,4 @@
-use Rattle.dom_base.proofs.Std.{◌≡◌, ◌++◌, take}
-use Rattle.dom_text.specs.Definitions.{output_text}
-use Rattle.dom_query_commands.specs.Recorded.{record_lines}
+use Rattle.dom_query_commands.proofs.Cited.{◌≡◌, ◌++◌, take, output_text, record_lines}
 use Rattle.dom_query_commands.proofs.records.put_records.Given as goal
 
 abbrev pub invariant-loop-told : goal.invariant-loop-told

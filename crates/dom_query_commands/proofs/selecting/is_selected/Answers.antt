@@ -1,8 +1,4 @@
-use Rattle.dom_base.proofs.Std.{◌∙◌}
-use Rattle.dom_model.proofs.Model.{named, selector_matches, part_of}
-use Rattle.dom_reader.specs.Views.{word_view}
-use Rattle.dom_selectors.specs.Definitions.{selector_view}
-use Rattle.dom_admission.proofs.Finding.{read_at, read_by_key}
+use Rattle.dom_query_commands.proofs.Cited.{◌∙◌, named, selector_matches, part_of, word_view, selector_view, read_at, read_by_key}
 use Rattle.dom_query_commands.proofs.SelectorLaws.{selector_own}
 use Rattle.dom_query_commands.proofs.selecting.is_selected.Goals as goal
 

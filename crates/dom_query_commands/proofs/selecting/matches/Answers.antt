@@ -1,9 +1,5 @@
-use Rattle.dom_base.proofs.Std.{◌∷◌, [], ap, refl}
-use Rattle.dom_model.proofs.Model.{answers, a_truth}
-use Rattle.dom_admission.specs.declared.admission.Operand.TheVariants.{Element}
-use Rattle.dom_selectors.specs.Definitions.{selector_view}
-use Rattle.dom_admission.proofs.Handling.{may_act, one_there, passes, reads, refused, unanswered}
-use Rattle.dom_admission.proofs.Refusing.{namings}
+use Rattle.dom_query_commands.proofs.Cited.{◌∷◌, [], ap, refl, answers, a_truth, Element, selector_view, may_act, one_there, passes, reads, refused, unanswered}
+use Rattle.dom_query_commands.proofs.Cited.{namings}
 use Rattle.dom_query_commands.proofs.SelectorLaws.{read_as, read_none, unread}
 use Rattle.dom_query_commands.proofs.selecting.matches.Goals as goal
 

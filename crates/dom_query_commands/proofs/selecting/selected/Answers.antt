@@ -1,9 +1,4 @@
-use Rattle.dom_base.proofs.Std.{◌∙◌, ◌≡◌, ap, map, IfOk-weaker}
-use Rattle.dom_model.proofs.Model.{named, query_all, part_of}
-use Rattle.dom_reader.specs.Views.{word_view}
-use Rattle.dom_selectors.specs.Definitions.{selector_view}
-use Rattle.dom_tree.specs.Definitions.{name_at}
-use Rattle.dom_admission.proofs.Finding.{read_at, read_by_key}
+use Rattle.dom_query_commands.proofs.Cited.{◌∙◌, ◌≡◌, ap, map, IfOk-weaker, named, query_all, part_of, word_view, selector_view, name_at, read_at, read_by_key}
 use Rattle.dom_query_commands.proofs.SelectorLaws.{query_own}
 use Rattle.dom_query_commands.proofs.selecting.selected.Goals as goal
 

@@ -1,7 +1,4 @@
-use Rattle.dom_base.proofs.Std.{◌∷◌, [], refl}
-use Rattle.dom_admission.specs.Turned.{with_turn}
-use Rattle.dom_admission.proofs.Handling.{keeps, may_act, refused, thing_there}
-use Rattle.dom_query_commands.specs.Requests.{command_of, thing_of}
+use Rattle.dom_query_commands.proofs.Cited.{◌∷◌, [], refl, with_turn, keeps, may_act, refused, thing_there, command_of, thing_of}
 use Rattle.dom_query_commands.proofs.Requesting.{asked}
 use Rattle.dom_query_commands.proofs.things.perform.Goals as goal
 

@@ -1,11 +1,8 @@
 -- Each turn takes the next attribute, until there is none.
-use Rattle.dom_base.proofs.Std.{◌≡◌, ℕ, ◌+◌, List, [], ◌∷◌, ◌++◌, inl, inr, length, take, Some, None, sym, ap, ◌∙◌, arith, add-one, length-append, slice_get}
-use Rattle.dom_base.proofs.Std.{take-suc, map-append, take_all, slice_get_within, slice_get_cases, get_or_from_slice_get, none-some}
+use Rattle.dom_query_commands.proofs.Cited.{◌≡◌, ℕ, ◌+◌, List, [], ◌∷◌, ◌++◌, inl, inr, length, take, Some, None, sym, ap, ◌∙◌, arith, add-one, length-append}
+use Rattle.dom_query_commands.proofs.Cited.{slice_get, take-suc, map-append, take_all, slice_get_within, slice_get_cases, get_or_from_slice_get, none-some}
+use Rattle.dom_query_commands.proofs.Cited.{node_in, name_at, Attribute, attribute_view, attributes_view}
 use Rattle.dom_model.specs.Tree as model
-use Rattle.dom_model.proofs.Model.{node_in}
-use Rattle.dom_tree.specs.Definitions.{name_at}
-use Rattle.dom_printer.specs.declared.trees.Attribute.{Attribute}
-use Rattle.dom_printer.specs.Steps.{attribute_view, attributes_view}
 use Rattle.dom_query_commands.proofs.tree_text.attributes.Goals as goal
 
 -- one item more

@@ -1,8 +1,5 @@
 -- The attributes so far are the first ones of the node.
-use Rattle.dom_base.proofs.Std.{◌≡◌, ◌-◌, length, take}
-use Rattle.dom_model.proofs.Model.{node_in}
-use Rattle.dom_tree.specs.Definitions.{name_at}
-use Rattle.dom_printer.specs.Steps.{attributes_view}
+use Rattle.dom_query_commands.proofs.Cited.{◌≡◌, ◌-◌, length, take, node_in, name_at, attributes_view}
 use Rattle.dom_query_commands.proofs.tree_text.attributes.Given as goal
 
 abbrev pub invariant-loop-name : goal.invariant-loop-name

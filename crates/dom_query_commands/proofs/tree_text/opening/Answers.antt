@@ -1,13 +1,12 @@
 -- What is told of a node is what is shown of it, for each kind.
-use Rattle.dom_base.proofs.Std.{◌≡◌, ◌⊎◌, inl, inr, List, [], sym, ap, ◌∙◌, None, get_or_from_slice_get}
-use Rattle.dom_model.proofs.Model.{Page, NodeName, Kind, Word, DomString, node_of, Attribute, Node, node_in}
-use Rattle.dom_base.specs.declared.Kind.TheVariants as kinds
-use Rattle.dom_tree.specs.Definitions.{name_at}
-use Rattle.dom_printer.specs.declared.trees.NodeContent.{NodeContent}
-use Rattle.dom_printer.specs.Steps.{name_in, attributes_in, data_in, shown, shown_as}
+use Rattle.dom_query_commands.proofs.Cited.{◌≡◌, ◌⊎◌, inl, inr, List, [], sym, ap, ◌∙◌, None, get_or_from_slice_get, Page, NodeName, Kind, Word, DomString}
+use Rattle.dom_query_commands.proofs.Cited.{node_of, Node, node_in, name_at, NodeContent, attributes_in, data_in, shown, shown_as}
+use Rattle.dom_model.proofs.Model.{Attribute}
+use Rattle.dom_printer.specs.Steps.{name_in}
 use Rattle.dom_query_commands.proofs.SpotReads.{node_in-name}
-use Rattle.dom_query_commands.proofs.tree_text.opening.Goals as goal
 use Rattle.dom_query_commands.proofs.tree_text.opening.Goals.{in-Element+in_ok-attributes-in-Element, in-Text, in-Document}
+use Rattle.dom_base.specs.declared.Kind.TheVariants as kinds
+use Rattle.dom_query_commands.proofs.tree_text.opening.Goals as goal
 
 -- an opening as a node
 abbrev told : NodeName → Kind → Word → List Attribute → DomString → Node

@@ -1,9 +1,6 @@
 -- Each turn puts the step at the place, and goes to the next one, until the tree closes.
-use Rattle.dom_base.proofs.Std.{◌<◌, ◌++◌, ◌∷◌, [], length, sym, ap, subst, ◌∙◌, arith, append_assoc, option_map, map-append, append_cancel_right, same_Some}
-use Rattle.dom_model.proofs.Model.{subtree}
-use Rattle.dom_text.specs.Definitions.{TreeStep}
-use Rattle.dom_tree.specs.Definitions.{name_at}
-use Rattle.dom_printer.specs.Steps.{step_view, steps_view, shown_steps}
+use Rattle.dom_query_commands.proofs.Cited.{◌<◌, ◌++◌, ◌∷◌, [], length, sym, ap, subst, ◌∙◌, arith, append_assoc, option_map, map-append, append_cancel_right}
+use Rattle.dom_query_commands.proofs.Cited.{same_Some, subtree, TreeStep, name_at, step_view, steps_view, shown_steps}
 use Rattle.dom_query_commands.specs.TreeText.{key_of, place_view}
 use Rattle.dom_query_commands.proofs.Places.{rest_behind, rest_or, within_self, turn}
 use Rattle.dom_query_commands.proofs.tree_text.tree_steps.Goals as goal

@@ -1,8 +1,5 @@
 -- The steps so far, and the rest at the place, are the steps of the tree and those behind it.
-use Rattle.dom_base.proofs.Std.{◌≡◌, ◌<◌, ◌++◌, length, true, option_map, ForSome}
-use Rattle.dom_model.proofs.Model.{subtree}
-use Rattle.dom_tree.specs.Definitions.{name_at}
-use Rattle.dom_printer.specs.Steps.{steps_view, shown_steps}
+use Rattle.dom_query_commands.proofs.Cited.{◌≡◌, ◌<◌, ◌++◌, length, true, option_map, ForSome, subtree, name_at, steps_view, shown_steps}
 use Rattle.dom_query_commands.specs.TreeText.{place_view, key_of}
 use Rattle.dom_query_commands.proofs.Places.{rest_behind, rest_or, is_within_if}
 use Rattle.dom_query_commands.proofs.tree_text.tree_steps.Given as goal
