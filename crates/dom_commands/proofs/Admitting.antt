@@ -1,16 +1,10 @@
 -- How the line of a dispatch is let pass.
-use Rattle.dom_base.proofs.Std.{◌≡◌, ℕ, Bool, true, false, not, List, [], ◌∷◌, Option, Some, None, Result, Ok, Err, refl, sym, ap, ◌∙◌, IsErrAnd, option_or}
+use Rattle.dom_commands.proofs.Cited.{◌≡◌, ℕ, Bool, true, false, not, List, [], ◌∷◌, Option, Some, None, Result, Ok, Err, refl, sym, ap, ◌∙◌, IsErrAnd}
+use Rattle.dom_commands.proofs.Cited.{option_or, NodeWord, word_view, Operand, Any, IsHandled, let_pass, may_act, IsNaming, refusal-naming, namings}
 use Rattle.dom_model.proofs.Model.{Fault, Refused, Memory, NodeName, Owner, Page, Component, Refusal, Syntax, Busy, Foreign, Unknown, Command, EventWords}
 use Rattle.dom_model.proofs.Model.{names_foreign, is_command_of, own_refusal, part_refusal, named, related_refusal, is_busy, refusal, Part, first_refusal}
 use Rattle.dom_model.proofs.Model.{World, part_of, is_there, owner-part_of}
-use Rattle.dom_reader.specs.declared.line.NodeWord.{NodeWord}
-use Rattle.dom_reader.specs.Views.{word_view}
-use Rattle.dom_admission.specs.declared.admission.Operand.{Operand}
-use Rattle.dom_admission.specs.declared.admission.Operand.TheVariants.{Any}
-use Rattle.dom_admission.specs.Handled.{IsHandled, let_pass}
 use Rattle.dom_admission.specs.Refusals.{early_refusal}
-use Rattle.dom_admission.proofs.Handling.{may_act}
-use Rattle.dom_admission.proofs.Refusing.{IsNaming, refusal-naming, namings}
 
 -- An owner's command, by what it names.
 module _ (w : World) (o : Owner) (c : Command) (names : List Operand) (is : IsNaming o c names) where

@@ -1,14 +1,9 @@
 -- The ends of ranges are within their nodes also in the worlds on the way through a line, and in a world without its listeners;
 -- there too each owner has its first node.
-use Rattle.dom_base.proofs.Std.{◌≡◌, List, [], Option, Some, sym, ◌∙◌, subst, is_some}
+use Rattle.dom_commands.proofs.Cited.{◌≡◌, List, [], Option, Some, sym, ◌∙◌, subst, is_some, HasBounds, IsBounded, IsNodeIn, part_of-visits, each-part}
+use Rattle.dom_commands.proofs.Cited.{either_way, heard, HasFirstNodes}
 use Rattle.dom_model.proofs.Model.{NodeName, Owner, EventWords, dispatch_in, visits_of, Listener, begun, name_eq, Part, first_node, views, opening_turn}
 use Rattle.dom_model.proofs.Model.{notified, without_signals, World, part_of, with_part, owner-part_of}
-use Rattle.dom_worlds.specs.Definitions.{HasBounds, IsBounded, IsNodeIn}
-use Rattle.dom_worlds.proofs.TurnLemmas.{part_of-visits}
-use Rattle.dom_worlds.proofs.WorldLemmas.{each-part}
-use Rattle.dom_worlds.proofs.ListLemmas.{either_way}
-use Rattle.dom_commands.specs.WithListeners.{heard}
-use Rattle.dom_commands.specs.RangeWorlds.{HasFirstNodes}
 use Rattle.dom_commands.proofs.ListenerWorlds.{FitsIn, there-heard, part-heard}
 
 -- a part is written

@@ -1,23 +1,15 @@
 -- The end of a turn: the tasks run, one after another, and their lines are put.
-use Rattle.dom_base.proofs.Std.{OnOk, AllByRecursion, true, false, ◌≡◌, ℕ, ◌<◌, length, arith, List, [], ◌∷◌, ◌++◌, drop, map, filter, Some, None, Result, Ok}
-use Rattle.dom_base.proofs.Std.{Err, append_assoc, append-nil, sym, ap, ◌∙◌, refl, subst, none-some, same_Some}
+use Rattle.dom_commands.proofs.Cited.{OnOk, AllByRecursion, true, false, ◌≡◌, ℕ, ◌<◌, length, arith, List, [], ◌∷◌, ◌++◌, drop, map, filter, Some, None, Result}
+use Rattle.dom_commands.proofs.Cited.{Ok, Err, append_assoc, append-nil, sym, ap, ◌∙◌, refl, subst, none-some, same_Some, IsBounded, IsThere, task_owner}
+use Rattle.dom_commands.proofs.Cited.{all-then, stays-running, Stands, at_end-stands, told-stands, dispatch-stands, output_text, name_at, DocState}
+use Rattle.dom_commands.proofs.Cited.{IsListenerAt, heard, own_listeners, MachineNow, machine_now, IsAtRest, AreAtNodes, AreThere, output_text-append}
 use Rattle.dom_model.proofs.Model.{Owner, NodeName, Listener, Word, first_of, EventWords, Part, Run, run_each, ending_turn, running_task, notifying, notified}
 use Rattle.dom_model.proofs.Model.{notified_lines, is_owned_by, without_signals, slotchange, firing_slotchange, World, Task, part_of, with_part, is_there}
 use Rattle.dom_model.proofs.Model.{dispatch_in}
-use Rattle.dom_worlds.specs.Definitions.{IsBounded, IsThere, task_owner}
-use Rattle.dom_worlds.proofs.ListLemmas.{all-then}
-use Rattle.dom_worlds.proofs.TurnLemmas.{stays-running, Stands, at_end-stands, told-stands, dispatch-stands}
-use Rattle.dom_text.specs.Definitions.{output_text}
-use Rattle.dom_tree.specs.Definitions.{name_at}
-use Rattle.dom_mutation.specs.Definitions.{DocState}
-use Rattle.dom_dispatch.specs.Definitions.{IsListenerAt}
-use Rattle.dom_commands.specs.WithListeners.{heard, own_listeners}
-use Rattle.dom_commands.specs.Machine.{MachineNow, machine_now, IsAtRest, AreAtNodes, AreThere}
 use Rattle.dom_commands.proofs.Bounded.{bounded-dispatch, bounded-told}
 use Rattle.dom_commands.proofs.ListenerWorlds.{FitsIn, part-heard, with_part-heard, there-heard}
 use Rattle.dom_commands.proofs.Listening.{OwnersAreThere, fits-own}
 use Rattle.dom_commands.proofs.Machines.{seen_at}
-use Rattle.dom_text.proofs.OutputLaws.{output_text-append}
 
 -- ---- runs, one after another
 

@@ -1,6 +1,6 @@
 -- Plans don't ask for listeners: they are the same in a part with other ones.
-use Rattle.dom_base.proofs.Std.{◌≡◌, ℕ, ◌+◌, ◌-◌, Bool, true, false, not, ◌&&◌, List, [], ◌∷◌, ◌++◌, drop, filter, flat_map, length, map, Option, Some, None}
-use Rattle.dom_base.proofs.Std.{refl, ap, ◌∙◌, ◌==◌, if◌then◌else◌, option_map_or}
+use Rattle.dom_commands.proofs.Cited.{◌≡◌, ℕ, ◌+◌, ◌-◌, Bool, true, false, not, ◌&&◌, List, [], ◌∷◌, ◌++◌, drop, filter, flat_map, length, map, Option, Some}
+use Rattle.dom_commands.proofs.Cited.{None, refl, ap, ◌∙◌, ◌==◌, if◌then◌else◌, option_map_or, hearing}
 use Rattle.dom_model.proofs.Model.{Owner, NodeName, Plan, Observing, observed, suppressed, ◌and_then◌, in_turn, doing, steps_of, only_if, telling, remove_plan}
 use Rattle.dom_model.proofs.Model.{document_below, changing_document, adopt_plan, placed_nodes, emptying, making_room, placing, sibling_before, inserting_nodes}
 use Rattle.dom_model.proofs.Model.{insert_plan, reference_child, pre_insert_plan, replace_plan, Pieces, whole, cut, clone, clone_part, making_below, taking}
@@ -12,7 +12,6 @@ use Rattle.dom_model.proofs.Model.{placing_tail, splitting, contiguous_texts_aft
 use Rattle.dom_model.proofs.Model.{setting_text, Trees, node_in, kind_of, is_fragment, is_text, is_document, has_data, children_of, parent_of, next_sibling}
 use Rattle.dom_model.proofs.Model.{previous_sibling, index_of, length_of, descendants, with_name}
 use Rattle.dom_model.specs.Extract.{nothing}
-use Rattle.dom_commands.specs.WithListeners.{hearing}
 use Rattle.dom_commands.proofs.ListenerWorlds.{step-hearing}
 
 module _ (of : Owner → List (Listener NodeName)) where

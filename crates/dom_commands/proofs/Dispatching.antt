@@ -1,12 +1,8 @@
 -- What a change of listeners, and a dispatch, leave of a world with listeners.
-use Rattle.dom_base.proofs.Std.{◌≡◌, ◌≢◌, true, false, List, [], Option, refl, sym, ap, subst, ◌∙◌, is_some}
+use Rattle.dom_commands.proofs.Cited.{◌≡◌, ◌≢◌, true, false, List, [], Option, refl, sym, ap, subst, ◌∙◌, is_some, IsReached, owners_in, people-dispatch}
+use Rattle.dom_commands.proofs.Cited.{AreOnce, owners-put, once-in, by_cases, rest-visits, heard}
 use Rattle.dom_model.proofs.Model.{NodeName, Owner, EventWords, dispatch_in, visits_of, Listener, begun, owner_eq, name_eq, Part, views, World, find_part}
 use Rattle.dom_model.proofs.Model.{part_of, with_part, is_there, owner_eq-true, owner_eq-false, owner-part_of, part_of-with_part, part_of-with_part-other}
-use Rattle.dom_worlds.specs.Definitions.{IsReached, owners_in}
-use Rattle.dom_worlds.proofs.OwnerLemmas.{people-dispatch, AreOnce, owners-put, once-in}
-use Rattle.dom_worlds.proofs.ListLemmas.{by_cases}
-use Rattle.dom_worlds.proofs.TurnLemmas.{rest-visits}
-use Rattle.dom_commands.specs.WithListeners.{heard}
 use Rattle.dom_commands.proofs.ListenerWorlds.{FitsIn, part-heard, there-heard, owners-heard}
 use Rattle.dom_commands.proofs.SameWorlds.{worlds-same}
 

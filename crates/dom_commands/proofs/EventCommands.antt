@@ -1,21 +1,12 @@
 -- The commands on listeners, in a world with listeners.
-use Rattle.dom_base.proofs.Std.{◌≡◌, ◌≢◌, ℕ, ◌<◌, Bool, true, false, List, [], ◌∷◌, ◌++◌, length, Option, Some, None, Result, Ok, Err, refl, sym, ap, subst}
-use Rattle.dom_base.proofs.Std.{◌∙◌, true≢false, nat_eq, is_some, IsErrAnd, AllByRecursion}
+use Rattle.dom_commands.proofs.Cited.{◌≡◌, ◌≢◌, ℕ, ◌<◌, Bool, true, false, List, [], ◌∷◌, ◌++◌, length, Option, Some, None, Result, Ok, Err, refl, sym, ap}
+use Rattle.dom_commands.proofs.Cited.{subst, ◌∙◌, true≢false, nat_eq, is_some, IsErrAnd, AllByRecursion, IsReached, IsWhole, which_way, either_way, output_text}
+use Rattle.dom_commands.proofs.Cited.{name_at, TellApart, IsListenerAt, IsDone, IsHandled, heard, own_listeners, MachineNow, machine_now, IsAtRest}
+use Rattle.dom_commands.proofs.Cited.{KeepsListeners, DocState, owner-named, MayAct, opened-there}
 use Rattle.dom_model.proofs.Model.{Fault, Refused, Memory, NodeName, Owner, Command, NodeWord, own, foreign, ListenerWords, own_refusal, effect, named, refusal}
 use Rattle.dom_model.proofs.Model.{accepted, effect_in, keeps, Listener, with_listener_added, with_listener_removed, Word, name_eq, node_of, says, replied}
 use Rattle.dom_model.proofs.Model.{nothing, Part, Run, opening_turn, is_page_turn, World, part_of, is_there, owner-part_of}
-use Rattle.dom_worlds.specs.Definitions.{IsReached, IsWhole}
-use Rattle.dom_worlds.proofs.ListLemmas.{which_way, either_way}
-use Rattle.dom_text.specs.Definitions.{output_text}
-use Rattle.dom_tree.specs.Definitions.{name_at, TellApart}
-use Rattle.dom_dispatch.specs.Definitions.{IsListenerAt}
-use Rattle.dom_admission.specs.Handled.{IsDone, IsHandled}
-use Rattle.dom_commands.specs.WithListeners.{heard, own_listeners}
-use Rattle.dom_commands.specs.Machine.{MachineNow, machine_now, IsAtRest, KeepsListeners}
-use Rattle.dom_mutation.specs.Definitions.{DocState}
 use Rattle.dom_commands.proofs.Dispatching.{written-heard}
-use Rattle.dom_admission.proofs.Finding.{owner-named}
-use Rattle.dom_admission.proofs.Handling.{MayAct, opened-there}
 use Rattle.dom_commands.proofs.ListenerWorlds.{FitsIn, part-heard, there-heard}
 use Rattle.dom_commands.proofs.HeardCommands.{refusal-heard, opening-heard, fits-opening}
 use Rattle.dom_commands.proofs.Listening.{OwnersAreThere, fits-own, own-listened, others-listened, own-unlistened, others-unlistened, at-listened}

@@ -1,13 +1,9 @@
 -- The lines of a dispatch name nodes, and are printed by names.
-use Rattle.dom_base.proofs.Std.{◌≡◌, ℕ, ◌<◌, Bool, true, false, List, [], ◌∷◌, ◌++◌, filter, fold, length, map, reverse, arith, refl, ap, nat_eq, ◌||◌, All}
-use Rattle.dom_base.proofs.Std.{AllByRecursion, All-cons, ForSome}
+use Rattle.dom_commands.proofs.Cited.{◌≡◌, ℕ, ◌<◌, Bool, true, false, List, [], ◌∷◌, ◌++◌, filter, fold, length, map, reverse, arith, refl, ap, nat_eq, ◌||◌}
+use Rattle.dom_commands.proofs.Cited.{All, AllByRecursion, All-cons, ForSome, all-append, all-filter, all-map, all-reverse, all-then, either_way, ShowsNodes}
+use Rattle.dom_commands.proofs.Cited.{LogLine, line_in, line_named, NamesNodes, line_shown}
 use Rattle.dom_model.proofs.Model.{Action, Log, Stop, StopNow, Cancel, NodeName, EventWords, visit_of, visits_of, is_at_target, event_output, Listener, Visit}
 use Rattle.dom_model.proofs.Model.{Dispatching, after_action, may_cancel, line_of, kept_after, after_inner_invoke, hears, after_invoke, begun, Output, View}
-use Rattle.dom_worlds.proofs.ListLemmas.{all-append, all-filter, all-map, all-reverse, all-then, either_way}
-use Rattle.dom_path.specs.Definitions.{ShowsNodes}
-use Rattle.dom_dispatch.specs.declared.event.LogLine.{LogLine}
-use Rattle.dom_dispatch.specs.Definitions.{line_in, line_named}
-use Rattle.dom_commands.specs.Machine.{NamesNodes, line_shown}
 
 -- what holds of each item
 pub every : {X : Type 0} (P : X → Type 0) (xs : List X) → AllByRecursion P xs → All P xs

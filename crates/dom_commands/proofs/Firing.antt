@@ -1,16 +1,8 @@
 -- A dispatch by keys, in a state with listeners, is the dispatch in its world.
-use Rattle.dom_base.proofs.Std.{◌≡◌, ℕ, false, List, map, Option, option_map, sym, ap, subst, ◌∙◌, AllByRecursion, nat_eq}
+use Rattle.dom_commands.proofs.Cited.{◌≡◌, ℕ, false, List, map, Option, option_map, sym, ap, subst, ◌∙◌, AllByRecursion, nat_eq, IsReached, IsWhole}
+use Rattle.dom_commands.proofs.Cited.{host_of-same, NamedTrees, name_at, ShadowHost, ShadowTrees, shadows, IsShownBy, DocState, IsWorldOf, Outcome}
+use Rattle.dom_commands.proofs.Cited.{IsDispatchedAlong, IsDispatchedIn, IsListenerAt, heard, own_listeners, MachineNow, machine_now, IsAtRest, line_shown}
 use Rattle.dom_model.proofs.Model.{NodeName, Owner, EventWords, dispatch_in, visits_of, Listener, begun, World, shadow_root_of}
-use Rattle.dom_worlds.specs.Definitions.{IsReached, IsWhole}
-use Rattle.dom_worlds.proofs.OwnerLemmas.{host_of-same}
-use Rattle.dom_tree.specs.Definitions.{NamedTrees, name_at}
-use Rattle.dom_slots.specs.Definitions.{ShadowHost, ShadowTrees, shadows, IsShownBy}
-use Rattle.dom_mutation.specs.Definitions.{DocState}
-use Rattle.dom_path.specs.Definitions.{IsWorldOf}
-use Rattle.dom_dispatch.specs.declared.event.Outcome.{Outcome}
-use Rattle.dom_dispatch.specs.Definitions.{IsDispatchedAlong, IsDispatchedIn, IsListenerAt}
-use Rattle.dom_commands.specs.WithListeners.{heard, own_listeners}
-use Rattle.dom_commands.specs.Machine.{MachineNow, machine_now, IsAtRest, line_shown}
 use Rattle.dom_commands.proofs.Dispatching.{dispatched-heard}
 use Rattle.dom_commands.proofs.EventLines.{lines_shown}
 use Rattle.dom_commands.proofs.ListenerWorlds.{FitsIn, part-heard, component-heard}

@@ -1,6 +1,6 @@
 -- Commands do in a world with listeners what they do in the world, but for those that ask for listeners.
-use Rattle.dom_base.proofs.Std.{◌≡◌, ℕ, Bool, true, false, not, ◌&&◌, List, [], ◌∷◌, ◌++◌, length, map, Option, Some, None, Result, Ok, Err, refl, sym, ap, ◌∙◌}
-use Rattle.dom_base.proofs.Std.{slice_get, is_some, if◌then◌else◌, option_or, option_map_or}
+use Rattle.dom_commands.proofs.Cited.{◌≡◌, ℕ, Bool, true, false, not, ◌&&◌, List, [], ◌∷◌, ◌++◌, length, map, Option, Some, None, Result, Ok, Err, refl, sym}
+use Rattle.dom_commands.proofs.Cited.{ap, ◌∙◌, slice_get, is_some, if◌then◌else◌, option_or, option_map_or, output_text, IsHandled, hearing, heard, is_plain}
 use Rattle.dom_model.proofs.Model.{Fault, Refused, Memory, Shadow, NodeName, Owner, Page, Component, Refusal, Syntax, Busy, Foreign, Unknown, WrongKind}
 use Rattle.dom_model.proofs.Model.{Command, NodeWord, names_foreign, nodes_exist, thing_exists, nodes_fit, is_command_of, part_refusal, effect, named, of_range}
 use Rattle.dom_model.proofs.Model.{related_refusal, is_busy, refusal, effect_in, perform, accepted, part_with_root, Effect, tables, changes, answers}
@@ -9,10 +9,6 @@ use Rattle.dom_model.proofs.Model.{replied, nothing, a_node, a_string, boundarie
 use Rattle.dom_model.proofs.Model.{inserting_into_range, range_text_of, Range, Run, answering, Step, Iterator, Walker, iterator_next_node}
 use Rattle.dom_model.proofs.Model.{iterator_previous_node, walker_move, node_in, opening_turn, first_refusal, World, part_of, with_part, is_there}
 use Rattle.dom_model.proofs.Model.{component_made, is_connected, assigned_nodes}
-use Rattle.dom_text.specs.Definitions.{output_text}
-use Rattle.dom_admission.specs.Handled.{IsHandled}
-use Rattle.dom_commands.specs.WithListeners.{hearing, heard}
-use Rattle.dom_commands.specs.CommandGroups.{is_plain}
 use Rattle.dom_commands.proofs.DeafPlans.{deaf-pre_inserting, deaf-replacing, deaf-adopting, deaf-splitting, deaf-normalizing, deaf-setting_text, deaf-deleting}
 use Rattle.dom_commands.proofs.DeafPlans.{deaf-into_range, deaf-extracting}
 use Rattle.dom_commands.proofs.ListenerWorlds.{FitsIn, there-heard, part-heard, with_part-heard, assigned-heard, connected-heard, after-heard}

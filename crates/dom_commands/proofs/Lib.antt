@@ -1,3 +1,4 @@
+mod Cited
 mod Admitting
 mod Bounded
 mod Closing

@@ -1,7 +1,7 @@
 -- What is read and what is done in a world is read and done in it with listeners, but by what goes to them.
-use Rattle.dom_base.proofs.Std.{◌≡◌, ℕ, zero, suc, Bool, true, false, not, ◌&&◌, List, [], ◌∷◌, ◌++◌, filter, filter_map, flat_map, fold, map, position, Option}
-use Rattle.dom_base.proofs.Std.{Some, None, refl, sym, ap, ◌∙◌, true≢false, is_some, option_map, option_to_list, unwrap_or, slice_get, if◌then◌else◌}
-use Rattle.dom_base.proofs.Std.{option_and_then, option_map_or}
+use Rattle.dom_commands.proofs.Cited.{◌≡◌, ℕ, zero, suc, Bool, true, false, not, ◌&&◌, List, [], ◌∷◌, ◌++◌, filter, filter_map, flat_map, fold, map, position}
+use Rattle.dom_commands.proofs.Cited.{Option, Some, None, refl, sym, ap, ◌∙◌, true≢false, is_some, option_map, option_to_list, unwrap_or, slice_get}
+use Rattle.dom_commands.proofs.Cited.{if◌then◌else◌, option_and_then, option_map_or, owners_in, there-with_part, by_cases, hearing, heard}
 use Rattle.dom_model.proofs.Model.{Owner, NodeName, Listener, owner_eq, name_eq, max_depth, owner_depth, is_in, is_empty, distinct, list_eq, last_of, Part}
 use Rattle.dom_model.proofs.Model.{empty_part, is_slot_element, slot_in, slots_among, slot_of, assigned_nodes, signals, with_signal, Step, make, make_room}
 use Rattle.dom_model.proofs.Model.{place, take_out, set_document, set_attribute, replace_data, split_at, join_at, set_range, queue_record, part_step, leave}
@@ -9,10 +9,6 @@ use Rattle.dom_model.proofs.Model.{is_taken, Trees, node_in, parent_of, root_of,
 use Rattle.dom_model.proofs.Model.{World, find_part, put_part, part_of, with_part, is_there, component_at, component_made, made_by, shadow_root_of, some_if}
 use Rattle.dom_model.proofs.Model.{host_above, hosts_from, ancestors_at, kind_at, is_connected, components_below, world_step, world_after, stepped}
 use Rattle.dom_model.proofs.Model.{with_signals, with_removal_signals, with_notify_if, with_shadow_document}
-use Rattle.dom_worlds.specs.Definitions.{owners_in}
-use Rattle.dom_worlds.proofs.OwnerLemmas.{there-with_part}
-use Rattle.dom_worlds.proofs.ListLemmas.{by_cases}
-use Rattle.dom_commands.specs.WithListeners.{hearing, heard}
 
 -- ---- readings, by the trees and the hosts of all owners
 

@@ -1,18 +1,13 @@
 -- Each owner's listeners in one list of all: what is done to the list, by keys, is done to its owner's.
-use Rattle.dom_base.proofs.Std.{◌≡◌, ◌≢◌, ℕ, ◌<◌, ◌≤◌, Bool, true, false, not, ◌&&◌, List, [], ◌∷◌, ◌++◌, filter, fold, length, map, append-nil, arith, refl}
-use Rattle.dom_base.proofs.Std.{sym, ap, ◌∙◌, true≢false, nat_eq, if◌then◌else◌, beq, AllByRecursion, list_any, cond-true, cond-false, and_parts, get_or-take}
-use Rattle.dom_base.proofs.Std.{length-take, filter-append, min, any-filter_same}
+use Rattle.dom_commands.proofs.Cited.{◌≡◌, ◌≢◌, ℕ, ◌<◌, ◌≤◌, Bool, true, false, not, ◌&&◌, List, [], ◌∷◌, ◌++◌, filter, fold, length, map, append-nil, arith}
+use Rattle.dom_commands.proofs.Cited.{refl, sym, ap, ◌∙◌, true≢false, nat_eq, if◌then◌else◌, beq, AllByRecursion, list_any, cond-true, cond-false, and_parts}
+use Rattle.dom_commands.proofs.Cited.{get_or-take, length-take, filter-append, min, any-filter_same, all-filter, all-append, filter-filter, by_cases}
+use Rattle.dom_commands.proofs.Cited.{either_way, name_at, TellApart, is_of_owner, HasListeners, listener_named, IsListenerAt, listened-named, unlistened-named}
+use Rattle.dom_commands.proofs.Cited.{filter-wider, BeginsWith, heard, own_listeners}
 use Rattle.dom_model.proofs.Model.{Action, Log, Stop, StopNow, Cancel, NodeName, Owner, Page, EventWords, ListenerWords, Listener, Visit, Dispatching}
 use Rattle.dom_model.proofs.Model.{after_action, may_cancel, line_of, is_listener, with_listener_removed, with_listener_added, kept_after, after_inner_invoke}
 use Rattle.dom_model.proofs.Model.{hears, after_invoke, Word, owner_eq, name_eq, text_eq, node_of, World, is_there, owner_eq-true, owner_eq-same, ne-owner_eq}
 use Rattle.dom_model.proofs.Model.{name_eq-true, owner-part_of}
-use Rattle.dom_worlds.proofs.ListLemmas.{all-filter, all-append, filter-filter, by_cases, either_way}
-use Rattle.dom_tree.specs.Definitions.{name_at, TellApart}
-use Rattle.dom_dispatch.specs.Definitions.{is_of_owner, HasListeners, listener_named, IsListenerAt}
-use Rattle.dom_dispatch.proofs.Naming.{listened-named, unlistened-named}
-use Rattle.dom_dispatch.proofs.Narrowing.{filter-wider}
-use Rattle.dom_admission.specs.Handled.{BeginsWith}
-use Rattle.dom_commands.specs.WithListeners.{heard, own_listeners}
 use Rattle.dom_commands.proofs.ListenerWorlds.{FitsIn, part-heard}
 
 -- the owners of nodes are there

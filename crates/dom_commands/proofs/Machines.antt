@@ -1,22 +1,12 @@
 -- What is done in a state is done in the machine around it.
-use Rattle.dom_base.proofs.Std.{◌≡◌, ℕ, true, false, List, [], ◌∷◌, None, Result, Ok, Err, length, arith, sym, ap, subst, ◌∙◌, true≢false, take-length}
-use Rattle.dom_base.proofs.Std.{AllByRecursion, is_some, slice_get, slice_get_past}
+use Rattle.dom_commands.proofs.Cited.{◌≡◌, ℕ, true, false, List, [], ◌∷◌, None, Result, Ok, Err, length, arith, sym, ap, subst, ◌∙◌, true≢false, take-length}
+use Rattle.dom_commands.proofs.Cited.{AllByRecursion, is_some, slice_get, slice_get_past, IsBounded, IsReached, IsWhole, accepted-facts, attach-may}
+use Rattle.dom_commands.proofs.Cited.{first-is_bounded, step-keeps_bounds, first-is_reached, step-keeps_reached, attached-are_there, first-is_whole}
+use Rattle.dom_commands.proofs.Cited.{step-keeps_whole, host_of-made, DocState, IsListenerAt, IsHandled, BeginsWith, KeepsNames, heard, own_listeners}
+use Rattle.dom_commands.proofs.Cited.{MachineNow, machine_now, IsAtRest, AreAtNodes, KeepsListeners, HasFirstNodes, is_plain, opened-part}
 use Rattle.dom_model.proofs.Model.{Fault, Refused, Memory, NodeName, Owner, Page, Command, Line, Listener, first_world, refusal, step, node_of, opening_turn}
 use Rattle.dom_model.proofs.Model.{Part, World, part_of, is_there, component_made, MayAttach, component_made-no_page}
-use Rattle.dom_worlds.specs.Definitions.{IsBounded, IsReached, IsWhole}
-use Rattle.dom_worlds.proofs.CommandLemmas.{accepted-facts, attach-may}
-use Rattle.dom_worlds.proofs.WorldLemmas.{first-is_bounded, step-keeps_bounds, first-is_reached, step-keeps_reached, attached-are_there, first-is_whole}
-use Rattle.dom_worlds.proofs.WorldLemmas.{step-keeps_whole}
-use Rattle.dom_worlds.proofs.OwnerLemmas.{host_of-made}
-use Rattle.dom_mutation.specs.Definitions.{DocState}
-use Rattle.dom_dispatch.specs.Definitions.{IsListenerAt}
-use Rattle.dom_admission.specs.Handled.{IsHandled, BeginsWith, KeepsNames}
-use Rattle.dom_commands.specs.WithListeners.{heard, own_listeners}
-use Rattle.dom_commands.specs.Machine.{MachineNow, machine_now, IsAtRest, AreAtNodes, KeepsListeners}
-use Rattle.dom_commands.specs.RangeWorlds.{HasFirstNodes}
-use Rattle.dom_commands.specs.CommandGroups.{is_plain}
 use Rattle.dom_commands.proofs.Bounded.{first_nodes-unheard}
-use Rattle.dom_admission.proofs.Handling.{opened-part}
 use Rattle.dom_commands.proofs.ListenerWorlds.{FitsIn, there-heard, part-heard}
 use Rattle.dom_commands.proofs.HeardCommands.{IsNew, IsHeardPlain, handled-heard}
 use Rattle.dom_commands.proofs.Listening.{OwnersAreThere, fits-own, at-kept, own-kept}

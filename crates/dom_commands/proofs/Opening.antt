@@ -1,21 +1,13 @@
 -- The turn that a dispatch opens, and what the dispatch is to the document machine.
-use Rattle.dom_base.proofs.Std.{◌≡◌, ℕ, Bool, true, false, List, [], ◌∷◌, ◌++◌, Option, Some, None, Ok, refl, sym, ap, subst, ◌∙◌, append_assoc, option_map}
-use Rattle.dom_base.proofs.Std.{AllByRecursion}
+use Rattle.dom_commands.proofs.Cited.{◌≡◌, ℕ, Bool, true, false, List, [], ◌∷◌, ◌++◌, Option, Some, None, Ok, refl, sym, ap, subst, ◌∙◌, append_assoc}
+use Rattle.dom_commands.proofs.Cited.{option_map, AllByRecursion, IsBounded, IsReached, IsWhole, output_text, DocState, word_view, IsListenerAt, IsHandled}
+use Rattle.dom_commands.proofs.Cited.{heard, own_listeners, machine_now, IsAtRest, output_text-append}
 use Rattle.dom_model.proofs.Model.{NodeName, Owner, Command, NodeWord, EventWords, named, Dispatched, dispatch_in, refusal, Listener, says, replied, a_truth}
 use Rattle.dom_model.proofs.Model.{opening_turn, World, part_of, is_there, owner-part_of}
-use Rattle.dom_worlds.specs.Definitions.{IsBounded, IsReached, IsWhole}
-use Rattle.dom_text.specs.Definitions.{output_text}
-use Rattle.dom_mutation.specs.Definitions.{DocState}
-use Rattle.dom_reader.specs.declared.line.NodeWord as line
-use Rattle.dom_reader.specs.Views.{word_view}
-use Rattle.dom_dispatch.specs.Definitions.{IsListenerAt}
-use Rattle.dom_admission.specs.Handled.{IsHandled}
-use Rattle.dom_commands.specs.WithListeners.{heard, own_listeners}
-use Rattle.dom_commands.specs.Machine.{machine_now, IsAtRest}
 use Rattle.dom_commands.proofs.Bounded.{bounded-opening}
 use Rattle.dom_commands.proofs.EventCommands.{named_alike, reached-opening, whole-opening}
 use Rattle.dom_commands.proofs.HeardCommands.{opening-heard}
-use Rattle.dom_text.proofs.OutputLaws.{output_text-append}
+use Rattle.dom_reader.specs.declared.line.NodeWord as line
 
 -- An owner's turn is opened in a state.
 pub record IsOpened (s t : DocState) (o : Owner) : Type 0 where

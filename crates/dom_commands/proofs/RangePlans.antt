@@ -1,16 +1,11 @@
 -- What the operations on live ranges do, from the keys of the nodes that they name.
-use Rattle.dom_base.proofs.Std.{◌≡◌, ℕ, suc, true, List, [], ◌∷◌, ◌++◌, length, Option, Some, None, Result, Ok, Err, is_some, refl, sym, ap, ◌∙◌, take}
-use Rattle.dom_base.proofs.Std.{unwrap_or, get_or-append_seam, ForSome, option_map_or}
+use Rattle.dom_commands.proofs.Cited.{◌≡◌, ℕ, suc, true, List, [], ◌∷◌, ◌++◌, length, Option, Some, None, Result, Ok, Err, is_some, refl, sym, ap, ◌∙◌, take}
+use Rattle.dom_commands.proofs.Cited.{unwrap_or, get_or-append_seam, ForSome, option_map_or, Makes, new_names, name_at, BeginsWith, KeepsNames, with_part-same}
+use Rattle.dom_commands.proofs.Cited.{IsNaming, namings}
 use Rattle.dom_model.proofs.Model.{Fault, Refused, Memory, NodeName, Owner, Page, Command, answers, clone_count, made_by_extracting, pieces_of, DomString}
 use Rattle.dom_model.proofs.Model.{node_of, nothing, a_string, Part, range_at, next_name, empty_part, range_text_of, Range, World, part_of, find_part, is_there}
 use Rattle.dom_model.proofs.Model.{owner-part_of}
-use Rattle.dom_mutation.specs.Definitions.{Makes}
-use Rattle.dom_range_ops.specs.Definitions.{new_names}
-use Rattle.dom_tree.specs.Definitions.{name_at}
 use Rattle.dom_admission.specs.declared.admission.Operand.TheVariants as operands
-use Rattle.dom_admission.specs.Handled.{BeginsWith, KeepsNames}
-use Rattle.dom_admission.proofs.Handling.{with_part-same}
-use Rattle.dom_admission.proofs.Refusing.{IsNaming, namings}
 
 -- these commands name their range alone
 pub naming-text : (o : Owner) (k : ℕ) → IsNaming o (Command.range_text k) (operands.Range k ∷ [])

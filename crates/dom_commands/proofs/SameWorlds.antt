@@ -1,10 +1,7 @@
 -- Worlds in which the same owners have the same parts are the same.
-use Rattle.dom_base.proofs.Std.{◌≡◌, false, List, [], ◌∷◌, map, Option, Some, None, unwrap_or, refl, sym, ap, subst, ◌∙◌, true≢false, is_some, cond-true}
-use Rattle.dom_base.proofs.Std.{cond-false}
+use Rattle.dom_commands.proofs.Cited.{◌≡◌, false, List, [], ◌∷◌, map, Option, Some, None, unwrap_or, refl, sym, ap, subst, ◌∙◌, true≢false, is_some, cond-true}
+use Rattle.dom_commands.proofs.Cited.{cond-false, owners_in, has_owner, there-listed, AreOnce, by_cases}
 use Rattle.dom_model.proofs.Model.{Owner, owner_eq, Part, empty_part, World, find_part, part_of, owner_eq-same, owner_eq-true}
-use Rattle.dom_worlds.specs.Definitions.{owners_in}
-use Rattle.dom_worlds.proofs.OwnerLemmas.{has_owner, there-listed, AreOnce}
-use Rattle.dom_worlds.proofs.ListLemmas.{by_cases}
 
 -- ---- parts
 

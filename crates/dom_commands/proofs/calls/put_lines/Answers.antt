@@ -1,10 +1,8 @@
 -- Each line has the path of its number, and so has the one that the text was made for.
-use Rattle.dom_base.proofs.Std.{arith, sym, ap, subst, ◌∙◌, common_steps}
-use Rattle.dom_dispatch.specs.Definitions.{HasPathOf}
-use Rattle.dom_commands.specs.Machine.{path_shown}
+use Rattle.dom_commands.proofs.Cited.{arith, sym, ap, subst, ◌∙◌, common_steps, HasPathOf, path_shown}
 use Rattle.dom_commands.proofs.EventLines.{every}
-use Rattle.dom_commands.proofs.calls.put_lines.Goals as goal
 use Rattle.dom_commands.proofs.calls.put_lines.Goals.{then-not-has_path_of+in_ok-path-2, else-not-has_path_of}
+use Rattle.dom_commands.proofs.calls.put_lines.Goals as goal
 
 pub put_line-requires-clause-path : goal.put_line-requires-clause-path
 put_line-requires-clause-path c =

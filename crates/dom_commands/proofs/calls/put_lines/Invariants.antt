@@ -1,8 +1,5 @@
 -- The buffer has the lines so far, and the text is that of the path of the line that it was made for, which is one of the lines.
-use Rattle.dom_base.proofs.Std.{◌≡◌, ℕ, List, map, take, ◌++◌, AllByRecursion}
-use Rattle.dom_text.specs.Definitions.{output_text}
-use Rattle.dom_dispatch.specs.Definitions.{HasPathOf}
-use Rattle.dom_commands.specs.Machine.{line_shown, path_shown}
+use Rattle.dom_commands.proofs.Cited.{◌≡◌, ℕ, List, map, take, ◌++◌, AllByRecursion, output_text, HasPathOf, line_shown, path_shown}
 use Rattle.dom_commands.proofs.calls.put_lines.Given as goal
 
 abbrev pub invariant-loop-line : goal.invariant-loop-line

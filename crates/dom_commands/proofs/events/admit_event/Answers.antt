@@ -1,5 +1,4 @@
-use Rattle.dom_base.proofs.Std.{ap, ◌∙◌}
-use Rattle.dom_admission.specs.Handled.{let_pass}
+use Rattle.dom_commands.proofs.Cited.{ap, ◌∙◌, let_pass}
 use Rattle.dom_commands.proofs.Admitting.{target_passes}
 use Rattle.dom_commands.proofs.events.admit_event.Goals as goal
 

@@ -1,4 +1,4 @@
-use Rattle.dom_base.proofs.Std.{None, Some, sym, ◌∙◌, err_from_is_err_and}
+use Rattle.dom_commands.proofs.Cited.{None, Some, sym, ◌∙◌, err_from_is_err_and}
 use Rattle.dom_commands.proofs.Admitting.{related_passes, related_stops}
 use Rattle.dom_commands.proofs.events.admit_related.Goals as goal
 

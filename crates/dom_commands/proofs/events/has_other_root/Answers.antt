@@ -1,11 +1,5 @@
-use Rattle.dom_base.proofs.Std.{◌≡◌, List, not, ap, ◌∙◌}
+use Rattle.dom_commands.proofs.Cited.{◌≡◌, List, not, ap, ◌∙◌, NodeWord, word_view, name_at, read_own, key-test, owner-named, read_at}
 use Rattle.dom_model.proofs.Model.{NodeName, name_eq, root_of, named, part_of}
-use Rattle.dom_reader.specs.declared.line.NodeWord.{NodeWord}
-use Rattle.dom_reader.specs.Views.{word_view}
-use Rattle.dom_tree.specs.Definitions.{name_at}
-use Rattle.dom_tree.proofs.Owned.{read_own}
-use Rattle.dom_slots.proofs.Hosted.{key-test}
-use Rattle.dom_admission.proofs.Finding.{owner-named, read_at}
 use Rattle.dom_commands.proofs.events.has_other_root.Goals as goal
 
 pub returns : goal.returns

@@ -1,5 +1,4 @@
-use Rattle.dom_base.proofs.Std.{refl}
-use Rattle.dom_admission.proofs.Handling.{may_act, plans, refused}
+use Rattle.dom_commands.proofs.Cited.{refl, may_act, plans, refused}
 use Rattle.dom_commands.proofs.RangePlans.{naming-delete}
 use Rattle.dom_commands.proofs.ranging.delete.Goals as goal
 

@@ -1,8 +1,5 @@
-use Rattle.dom_base.proofs.Std.{◌∙◌, ap, refl, sym}
+use Rattle.dom_commands.proofs.Cited.{◌∙◌, ap, refl, sym, Range, may_act, plans, refused, thing_there, none_stopped}
 use Rattle.dom_model.proofs.Model.{changes, plan_of_range, extracting, a_node, part_of}
-use Rattle.dom_admission.specs.declared.admission.Operand.TheVariants.{Range}
-use Rattle.dom_admission.proofs.Handling.{may_act, plans, refused, thing_there}
-use Rattle.dom_admission.proofs.OwnRefusals.{none_stopped}
 use Rattle.dom_commands.proofs.RangePlans.{extracted-kept, extracted-name, keeps_names, naming-extract}
 use Rattle.dom_commands.proofs.ranging.extract.Goals as goal
 

@@ -1,12 +1,6 @@
-use Rattle.dom_base.proofs.Std.{◌∷◌, ◌∙◌, [], Err, ap, refl}
+use Rattle.dom_commands.proofs.Cited.{◌∷◌, ◌∙◌, [], Err, ap, refl, Any, Range, made, inserting_node, inserting_refusal, key_of, faults, may_act, plans, refused}
+use Rattle.dom_commands.proofs.Cited.{none_stopped, refuses, namings}
 use Rattle.dom_model.proofs.Model.{part_of}
-use Rattle.dom_admission.specs.declared.admission.Operand.TheVariants.{Any, Range}
-use Rattle.dom_mutation.specs.Definitions.{made}
-use Rattle.dom_range_ops.specs.Definitions.{inserting_node, inserting_refusal}
-use Rattle.dom_admission.proofs.Finding.{key_of}
-use Rattle.dom_admission.proofs.Handling.{faults, may_act, plans, refused}
-use Rattle.dom_admission.proofs.OwnRefusals.{none_stopped, refuses}
-use Rattle.dom_admission.proofs.Refusing.{namings}
 use Rattle.dom_commands.proofs.ranging.insert_node.Goals as goal
 
 pub returns-in_err-admit-clause-handled : goal.returns-in_err-admit-clause-handled

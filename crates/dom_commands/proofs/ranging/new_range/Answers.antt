@@ -1,9 +1,6 @@
-use Rattle.dom_base.proofs.Std.{◌∙◌, [], ap, refl}
+use Rattle.dom_commands.proofs.Cited.{◌∙◌, [], ap, refl, key_of, faults, may_act, refused, lone_passes, lone_refuses, namings}
 use Rattle.dom_model.proofs.Model.{Owner, owner-part_of, Command, own, node_of}
-use Rattle.dom_admission.proofs.Finding.{key_of}
-use Rattle.dom_admission.proofs.Handling.{faults, keeps, may_act, refused}
-use Rattle.dom_admission.proofs.OwnRefusals.{lone_passes, lone_refuses}
-use Rattle.dom_admission.proofs.Refusing.{namings}
+use Rattle.dom_admission.proofs.Handling.{keeps}
 use Rattle.dom_commands.proofs.ranging.new_range.Goals as goal
 
 pub returns-in_err-admit-clause-handled : goal.returns-in_err-admit-clause-handled

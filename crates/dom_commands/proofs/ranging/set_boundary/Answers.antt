@@ -1,11 +1,5 @@
-use Rattle.dom_base.proofs.Std.{◌∷◌, [], ℕ, Bool, true, false, if◌then◌else◌}
+use Rattle.dom_commands.proofs.Cited.{◌∷◌, [], ℕ, Bool, true, false, if◌then◌else◌, Any, Range, word_view, NodeWord, key_of, refused, IsNaming, namings}
 use Rattle.dom_model.proofs.Model.{Owner, Command}
-use Rattle.dom_admission.specs.declared.admission.Operand.TheVariants.{Any, Range}
-use Rattle.dom_reader.specs.Views.{word_view}
-use Rattle.dom_reader.specs.declared.line.NodeWord.{NodeWord}
-use Rattle.dom_admission.proofs.Finding.{key_of}
-use Rattle.dom_admission.proofs.Handling.{refused}
-use Rattle.dom_admission.proofs.Refusing.{IsNaming, namings}
 use Rattle.dom_commands.proofs.ranging.set_boundary.Goals as goal
 
 -- it names the node and the range, whichever end is set

@@ -1,7 +1,5 @@
-use Rattle.dom_base.proofs.Std.{ap, refl}
+use Rattle.dom_commands.proofs.Cited.{ap, refl, Range, may_act, refused, tells, thing_there}
 use Rattle.dom_model.proofs.Model.{a_string}
-use Rattle.dom_admission.specs.declared.admission.Operand.TheVariants.{Range}
-use Rattle.dom_admission.proofs.Handling.{may_act, refused, tells, thing_there}
 use Rattle.dom_commands.proofs.RangePlans.{naming-text, text_told}
 use Rattle.dom_commands.proofs.ranging.text_of_range.Goals as goal
 

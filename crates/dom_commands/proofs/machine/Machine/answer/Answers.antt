@@ -1,7 +1,5 @@
-use Rattle.dom_base.proofs.Std.{Result, Ok, Err, ◌≡◌, OnOk}
+use Rattle.dom_commands.proofs.Cited.{Result, Ok, Err, ◌≡◌, OnOk, command_view, refused_view, AreAtNodes, IsAtRest, MachineNow}
 use Rattle.dom_model.proofs.Model.{Line, command as model_command, step}
-use Rattle.dom_reader.specs.Views.{command_view, refused_view}
-use Rattle.dom_commands.specs.Machine.{AreAtNodes, IsAtRest, MachineNow}
 use Rattle.dom_commands.proofs.Machines.{line_sound}
 use Rattle.dom_commands.proofs.machine.Machine.answer.Goals as goal
 

@@ -1,9 +1,5 @@
-use Rattle.dom_base.proofs.Std.{◌≡◌, List, None, sym, ap, ◌∙◌, option_map}
+use Rattle.dom_commands.proofs.Cited.{◌≡◌, List, None, sym, ap, ◌∙◌, option_map, event_view, word_view, name_at, event_words, MachineNow}
 use Rattle.dom_model.proofs.Model.{NodeName, Command, named, dispatch_in, refusal, opening_turn, part_of}
-use Rattle.dom_reader.specs.Views.{event_view, word_view}
-use Rattle.dom_tree.specs.Definitions.{name_at}
-use Rattle.dom_dispatch.specs.Definitions.{event_words}
-use Rattle.dom_commands.specs.Machine.{MachineNow}
 use Rattle.dom_commands.proofs.Admitting.{refused_line, unrefused_line, unrefused_there}
 use Rattle.dom_commands.proofs.EventCommands.{stopped, refusal-seen}
 use Rattle.dom_commands.proofs.Opening.{HasDispatched, opened_name, opened_names, dispatch_handled}

@@ -1,10 +1,6 @@
-use Rattle.dom_base.proofs.Std.{◌∷◌, ◌∙◌, ◌++◌, [], ℕ, List, ap, append_assoc, refl, sym}
+use Rattle.dom_commands.proofs.Cited.{◌∷◌, ◌∙◌, ◌++◌, [], ℕ, List, ap, append_assoc, refl, sym, output_text, may_act, refused, namings, output_text-append}
 use Rattle.dom_model.proofs.Model.{Command, nothing, replied, says, ending_turn}
-use Rattle.dom_text.specs.Definitions.{output_text}
-use Rattle.dom_admission.proofs.Handling.{may_act, refused}
-use Rattle.dom_admission.proofs.Refusing.{namings}
 use Rattle.dom_commands.proofs.EventCommands.{stopped, unrefused}
-use Rattle.dom_text.proofs.OutputLaws.{output_text-append}
 use Rattle.dom_commands.proofs.machine.Machine.end_turn.Goals as goal
 
 pub returns-in_err-admit-clause-handled : goal.returns-in_err-admit-clause-handled

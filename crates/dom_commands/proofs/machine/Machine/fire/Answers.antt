@@ -1,8 +1,5 @@
-use Rattle.dom_base.proofs.Std.{List, ◌++◌, All, map, rules, sym, ap, subst, ◌∙◌, AllByRecursion}
-use Rattle.dom_text.specs.Definitions.{output_text}
-use Rattle.dom_dispatch.specs.declared.event.LogLine.{LogLine}
-use Rattle.dom_dispatch.specs.Definitions.{event_words, line_in, AreNumbered}
-use Rattle.dom_commands.specs.Machine.{NamesNodes, line_shown}
+use Rattle.dom_commands.proofs.Cited.{List, ◌++◌, All, map, rules, sym, ap, subst, ◌∙◌, AllByRecursion, output_text, LogLine, event_words, line_in, AreNumbered}
+use Rattle.dom_commands.proofs.Cited.{NamesNodes, line_shown}
 use Rattle.dom_commands.proofs.EventLines.{dispatch-lines, line_nodes, every}
 use Rattle.dom_commands.proofs.Firing.{fired}
 use Rattle.dom_commands.proofs.machine.Machine.fire.Goals as goal

@@ -1,9 +1,5 @@
-use Rattle.dom_base.proofs.Std.{◌∷◌, ◌∙◌, [], ap, nat_eq}
+use Rattle.dom_commands.proofs.Cited.{◌∷◌, ◌∙◌, [], ap, nat_eq, Any, listener_view, word_view, may_act, refused, namings}
 use Rattle.dom_model.proofs.Model.{Command, with_listener_added}
-use Rattle.dom_admission.specs.declared.admission.Operand.TheVariants.{Any}
-use Rattle.dom_reader.specs.Views.{listener_view, word_view}
-use Rattle.dom_admission.proofs.Handling.{may_act, refused}
-use Rattle.dom_admission.proofs.Refusing.{namings}
 use Rattle.dom_commands.proofs.EventCommands.{listening, listens_at, listens_in, stopped}
 use Rattle.dom_commands.proofs.machine.Machine.listen.Goals as goal
 

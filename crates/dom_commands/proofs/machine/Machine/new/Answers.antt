@@ -1,5 +1,4 @@
-use Rattle.dom_base.proofs.Std.{sym, subst}
-use Rattle.dom_commands.specs.Machine.{machine_now, IsAtRest}
+use Rattle.dom_commands.proofs.Cited.{sym, subst, machine_now, IsAtRest}
 use Rattle.dom_commands.proofs.Machines.{first_sound}
 use Rattle.dom_commands.proofs.machine.Machine.new.Goals as goal
 

@@ -1,8 +1,5 @@
-use Rattle.dom_base.proofs.Std.{List, ◌++◌, map, ap, ◌∙◌}
+use Rattle.dom_commands.proofs.Cited.{List, ◌++◌, map, ap, ◌∙◌, output_text, name_at, machine_now}
 use Rattle.dom_model.proofs.Model.{Output}
-use Rattle.dom_text.specs.Definitions.{output_text}
-use Rattle.dom_tree.specs.Definitions.{name_at}
-use Rattle.dom_commands.specs.Machine.{machine_now}
 use Rattle.dom_commands.proofs.Closing.{told_there, told_lines, told_world, told_is_sound, told_slots, notify_world, notify_text}
 use Rattle.dom_commands.proofs.machine.Machine.notify.Goals as goal
 

@@ -1,6 +1,5 @@
-use Rattle.dom_base.proofs.Std.{◌≡◌, true, subst}
+use Rattle.dom_commands.proofs.Cited.{◌≡◌, true, subst, MachineNow, machine_now, IsAtRest}
 use Rattle.dom_model.proofs.Model.{is_there}
-use Rattle.dom_commands.specs.Machine.{MachineNow, machine_now, IsAtRest}
 use Rattle.dom_commands.proofs.Opening.{IsOpened, opened_sound}
 use Rattle.dom_commands.proofs.machine.Machine.open_turn.Goals as goal
 

@@ -1,7 +1,4 @@
-use Rattle.dom_base.proofs.Std.{subst}
-use Rattle.dom_reader.specs.Views.{command_view}
-use Rattle.dom_admission.specs.Handled.{IsHandled}
-use Rattle.dom_commands.specs.Machine.{MachineNow, machine_now}
+use Rattle.dom_commands.proofs.Cited.{subst, command_view, IsHandled, MachineNow, machine_now}
 use Rattle.dom_commands.proofs.Machines.{IsCarriedOut, plain_handled, kept_at, seen_at, seen_reached, seen_first_nodes}
 use Rattle.dom_commands.proofs.machine.Machine.perform_plain.Goals as goal
 

@@ -1,7 +1,5 @@
-use Rattle.dom_base.proofs.Std.{◌≡◌, List, ◌∷◌, subst}
+use Rattle.dom_commands.proofs.Cited.{◌≡◌, List, ◌∷◌, subst, task_of, AreThere}
 use Rattle.dom_model.proofs.Model.{running_task, Task}
-use Rattle.dom_microtasks.specs.Tasks.{task_of}
-use Rattle.dom_commands.specs.Machine.{AreThere}
 use Rattle.dom_commands.proofs.Closing.{Ran, ran_more, first_rest, there_after}
 use Rattle.dom_commands.proofs.machine.Machine.run_tasks.Goals as goal
 

@@ -1,6 +1,5 @@
-use Rattle.dom_base.proofs.Std.{length}
+use Rattle.dom_commands.proofs.Cited.{length, IsAtRest, AreThere}
 use Rattle.dom_model.proofs.Model.{running_task}
-use Rattle.dom_commands.specs.Machine.{IsAtRest, AreThere}
 use Rattle.dom_commands.proofs.Closing.{Ran}
 use Rattle.dom_commands.proofs.machine.Machine.run_tasks.Given as goal
 

@@ -1,7 +1,5 @@
-use Rattle.dom_base.proofs.Std.{ℕ, List, ◌++◌, None, ap, ◌∙◌}
+use Rattle.dom_commands.proofs.Cited.{ℕ, List, ◌++◌, None, ap, ◌∙◌, output_text, name_at}
 use Rattle.dom_model.proofs.Model.{dispatch_in}
-use Rattle.dom_text.specs.Definitions.{output_text}
-use Rattle.dom_tree.specs.Definitions.{name_at}
 use Rattle.dom_commands.proofs.Closing.{named_event, fired_sound}
 use Rattle.dom_commands.proofs.machine.Machine.signal_slot.Goals as goal
 

@@ -1,7 +1,5 @@
-use Rattle.dom_base.proofs.Std.{◌≡◌, drop, map}
+use Rattle.dom_commands.proofs.Cited.{◌≡◌, drop, map, name_at, IsAtRest}
 use Rattle.dom_model.proofs.Model.{firing_slotchange}
-use Rattle.dom_tree.specs.Definitions.{name_at}
-use Rattle.dom_commands.specs.Machine.{IsAtRest}
 use Rattle.dom_commands.proofs.Closing.{Ran}
 use Rattle.dom_commands.proofs.machine.Machine.signal_slots.Given as goal
 

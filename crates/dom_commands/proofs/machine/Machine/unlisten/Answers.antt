@@ -1,9 +1,5 @@
-use Rattle.dom_base.proofs.Std.{◌∷◌, []}
+use Rattle.dom_commands.proofs.Cited.{◌∷◌, [], Any, word_view, may_act, refused, namings}
 use Rattle.dom_model.proofs.Model.{Command}
-use Rattle.dom_admission.specs.declared.admission.Operand.TheVariants.{Any}
-use Rattle.dom_reader.specs.Views.{word_view}
-use Rattle.dom_admission.proofs.Handling.{may_act, refused}
-use Rattle.dom_admission.proofs.Refusing.{namings}
 use Rattle.dom_commands.proofs.EventCommands.{listens_at, listens_in, stopped, unlistening}
 use Rattle.dom_commands.proofs.machine.Machine.unlisten.Goals as goal
 
