@@ -1,15 +1,10 @@
 -- Nodes that a line names are looked up once, and the line passes or is refused by what was found.
-use Rattle.dom_base.proofs.Std.{◌≡◌, ℕ, Bool, true, false, not, ◌&&◌, List, [], ◌∷◌, Option, Some, None, Result, Ok, Err, refl, sym, ap, ◌∙◌, IsErrAnd, map}
-use Rattle.dom_base.proofs.Std.{is_some, option_map_or, list_all}
-use Rattle.dom_model.proofs.Model.{Owner, node_of, node_in, has_node, named, Fault, Refusal, Busy, Foreign, Unknown, WrongKind, first_refusal}
-use Rattle.dom_model.proofs.Model.{Part, part_of, is_there, is_busy}
-use Rattle.dom_mutation.specs.Definitions.{DocState, name_in}
-use Rattle.dom_reader.specs.declared.line.NodeWord.{NodeWord}
-use Rattle.dom_reader.specs.Views.{word_view}
-use Rattle.dom_admission.specs.declared.admission.Operand.{Operand}
-use Rattle.dom_admission.specs.Handled.{passing}
-use Rattle.dom_admission.specs.Refusals.{accepts_node, four_tests, node_named, name_named, is_counted, is_there_as, is_fit, is_kind_at, has_foreign, are_there}
-use Rattle.dom_admission.specs.Refusals.{are_fitting, early_refusal, IsLookedUp}
+use Rattle.dom_admission.proofs.Cited.{◌≡◌, ℕ, Bool, true, false, not, ◌&&◌, List, [], ◌∷◌, Option, Some, None, Result, Ok, Err, refl, sym, ap, ◌∙◌, IsErrAnd}
+use Rattle.dom_admission.proofs.Cited.{map, is_some, option_map_or, list_all, DocState, name_in, NodeWord, word_view, Operand, passing, accepts_node}
+use Rattle.dom_admission.proofs.Cited.{four_tests, node_named, name_named, is_counted, is_there_as, is_fit, is_kind_at, has_foreign, are_there, are_fitting}
+use Rattle.dom_admission.proofs.Cited.{early_refusal, IsLookedUp}
+use Rattle.dom_model.proofs.Model.{Owner, node_of, node_in, has_node, named, Fault, Refusal, Busy, Foreign, Unknown, WrongKind, first_refusal, Part, part_of}
+use Rattle.dom_model.proofs.Model.{is_there, is_busy}
 use Rattle.dom_admission.proofs.Finding.{told_here}
 
 -- a refusal that is handed on

@@ -1,13 +1,9 @@
 -- What a look-up of a name in a forest says of an owner's own trees.
-use Rattle.dom_base.proofs.Std.{◌≡◌, ℕ, ◌<◌, Bool, true, false, ◌||◌, List, [], ◌∷◌, length, Option, Some, None, refl, sym, ap, ◌∙◌}
-use Rattle.dom_base.proofs.Std.{is_some, slice_get, find, ForSome, slice_get_within, get_or_from_slice_get}
+use Rattle.dom_admission.proofs.Cited.{◌≡◌, ℕ, ◌<◌, Bool, true, false, ◌||◌, List, [], ◌∷◌, length, Option, Some, None, refl, sym, ap, ◌∙◌, is_some, slice_get}
+use Rattle.dom_admission.proofs.Cited.{find, ForSome, slice_get_within, get_or_from_slice_get, number_in, name_at, trees_of_owner, AreOwned, IsReadOwn}
+use Rattle.dom_admission.proofs.Cited.{read_own, DocState, name_in, owner_in, trees_in, turned}
 use Rattle.dom_model.proofs.Model.{Owner, Page, NodeName, name_eq, is_in, node_of, NodeWord, own, foreign, named, Part, World, part_of, owner-part_of, Trees}
 use Rattle.dom_model.proofs.Model.{Node, nodes, names_of, has_node, node_in, no_node, name_eq-turned}
-use Rattle.dom_admission.specs.Refusals.{number_in}
-use Rattle.dom_tree.specs.Definitions.{name_at, trees_of_owner, AreOwned, IsReadOwn}
-use Rattle.dom_tree.proofs.Owned.{read_own}
-use Rattle.dom_mutation.specs.Definitions.{DocState, name_in, owner_in, trees_in}
-use Rattle.dom_admission.specs.Turned.{turned}
 
 pub named-number_in : (p : Part) (s : NodeWord) → named p s ≡ node_of p.owner (number_in s)
 named-number_in p (own k) = refl

@@ -1,18 +1,12 @@
 -- How a command is handled: it passes the tests that all commands share, then it changes its owner's part and answers, or only answers.
-use Rattle.dom_base.proofs.Std.{◌≡◌, ℕ, Bool, true, false, not, unwrap_or, List, [], ◌∷◌, ◌++◌, map, Option, Some, None, Result, Ok, Err, refl, sym, ap}
-use Rattle.dom_base.proofs.Std.{subst, ◌∙◌, append_assoc, is_some, if◌then◌else◌, IsErrAnd, append-nil, option_or}
+use Rattle.dom_admission.proofs.Cited.{◌≡◌, ℕ, Bool, true, false, not, unwrap_or, List, [], ◌∷◌, ◌++◌, map, Option, Some, None, Result, Ok, Err, refl, sym, ap}
+use Rattle.dom_admission.proofs.Cited.{subst, ◌∙◌, append_assoc, is_some, if◌then◌else◌, IsErrAnd, append-nil, option_or, output_text, output_text-append}
+use Rattle.dom_admission.proofs.Cited.{DocState, MakesSaying, made, name_in, owner_in, Operand, IsDone, IsHandled, let_pass, is_there_as, has_foreign}
+use Rattle.dom_admission.proofs.Cited.{are_there, are_fitting, early_refusal, with_turn, turned, opened_turn, name_at}
 use Rattle.dom_model.proofs.Model.{Fault, Refused, Memory, Refusal, Busy, Foreign, Unknown, WrongKind, NodeName, Owner, Plan, named, owner_eq, Effect, answers}
 use Rattle.dom_model.proofs.Model.{changes, Output, says, replied, Said, Value, Part, empty_part, first_refusal, Run, Step, opening_turn, World, part_of}
 use Rattle.dom_model.proofs.Model.{find_part, put_part, with_part, is_there, world_after, Command, NodeWord, effect, own_refusal, effect_in, refusal, accepted}
 use Rattle.dom_model.proofs.Model.{is_busy, owner_eq-same, owner_eq-true}
-use Rattle.dom_text.specs.Definitions.{output_text}
-use Rattle.dom_text.proofs.OutputLaws.{output_text-append}
-use Rattle.dom_mutation.specs.Definitions.{DocState, MakesSaying, made, name_in, owner_in}
-use Rattle.dom_admission.specs.declared.admission.Operand.{Operand}
-use Rattle.dom_admission.specs.Handled.{IsDone, IsHandled, let_pass}
-use Rattle.dom_admission.specs.Refusals.{is_there_as, has_foreign, are_there, are_fitting, early_refusal}
-use Rattle.dom_admission.specs.Turned.{with_turn, turned, opened_turn}
-use Rattle.dom_tree.specs.Definitions.{name_at}
 use Rattle.dom_admission.proofs.Finding.{key_of}
 use Rattle.dom_admission.proofs.Refusing.{IsNaming, and_true, refusal-naming}
 use Rattle.dom_admission.proofs.Turned.{after_turned}

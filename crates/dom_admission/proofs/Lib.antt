@@ -1,3 +1,4 @@
+mod Cited
 mod Admitting
 pub mod Finding
 pub mod Handling

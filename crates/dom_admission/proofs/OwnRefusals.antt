@@ -1,5 +1,5 @@
 -- A command's own tests: what they refuse, and what was not refused.
-use Rattle.dom_base.proofs.Std.{◌≡◌, ◌⊎◌, ◌↔◌, inl, inr, Bool, true, false, not, [], ◌∷◌, Option, Some, None, Result, Ok, Err, refl, sym, ap, ◌∙◌}
+use Rattle.dom_admission.proofs.Cited.{◌≡◌, ◌⊎◌, ◌↔◌, inl, inr, Bool, true, false, not, [], ◌∷◌, Option, Some, None, Result, Ok, Err, refl, sym, ap, ◌∙◌}
 use Rattle.dom_model.proofs.Model.{Fault, Refused, Memory, Refusal, first_refusal}
 
 -- a call that was done, and one that was not

@@ -1,12 +1,8 @@
 -- The refusal of a command is that of its names, or else its own.
-use Rattle.dom_base.proofs.Std.{◌≡◌, Bool, true, false, ◌&&◌, List, [], ◌∷◌, Option, not, refl, sym, option_or}
+use Rattle.dom_admission.proofs.Cited.{◌≡◌, Bool, true, false, ◌&&◌, List, [], ◌∷◌, Option, not, refl, sym, option_or, Operand, has_foreign, are_there}
+use Rattle.dom_admission.proofs.Cited.{are_fitting, early_refusal, Slot, NodeWord, word_view}
 use Rattle.dom_model.proofs.Model.{Owner, Page, Component, Refusal, Syntax, Busy, Foreign, Unknown, WrongKind, Command, names_foreign, nodes_exist, nodes_fit}
 use Rattle.dom_model.proofs.Model.{thing_exists, is_command_of, own_refusal, Part, first_refusal, World, part_of, is_there, is_busy, refusal, is_page}
-use Rattle.dom_admission.specs.declared.admission.Operand.{Operand}
-use Rattle.dom_admission.specs.Refusals.{has_foreign, are_there, are_fitting, early_refusal}
-use Rattle.dom_admission.specs.declared.admission.Operand.TheVariants.{Slot}
-use Rattle.dom_reader.specs.declared.line.NodeWord.{NodeWord}
-use Rattle.dom_reader.specs.Views.{word_view}
 
 -- a command of this owner that names these nodes, ranges, iterators, walkers and observers, and nothing else
 pub record IsNaming (o : Owner) (c : Command) (names : List Operand) : Type 0 where

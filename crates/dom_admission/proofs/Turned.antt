@@ -1,10 +1,10 @@
 -- Steps do in a world with an open turn what they do in the world alone.
-use Rattle.dom_base.proofs.Std.{◌≡◌, ℕ, zero, suc, Bool, true, false, List, [], ◌∷◌, Option, Some, None, fold, flat_map, filter_map, refl, ap, ◌∙◌}
+use Rattle.dom_admission.proofs.Cited.{◌≡◌, ℕ, zero, suc, Bool, true, false, List, [], ◌∷◌, Option, Some, None, fold, flat_map, filter_map, refl, ap, ◌∙◌}
+use Rattle.dom_admission.proofs.Cited.{with_turn}
 use Rattle.dom_model.proofs.Model.{Owner, NodeName, max_depth, parent_of, inclusive_descendants, Step, make, make_room, place, take_out, set_document}
 use Rattle.dom_model.proofs.Model.{set_attribute, replace_data, split_at, join_at, set_range, queue_record, is_taken, signals, with_signal, World, part_of}
 use Rattle.dom_model.proofs.Model.{component_at, components_below, shadow_root_of, trees_with, world_step, world_after, stepped, with_removal_signals}
 use Rattle.dom_model.proofs.Model.{with_notify_if, with_shadow_document}
-use Rattle.dom_admission.specs.Turned.{with_turn}
 
 module _ (t : Option Owner) where
   signals_turned : (w : World) (ss : List NodeName) → fold with_signal (with_turn t w) ss ≡ with_turn t (fold with_signal w ss)

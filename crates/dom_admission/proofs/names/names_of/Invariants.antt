@@ -1,5 +1,4 @@
-use Rattle.dom_base.proofs.Std.{◌≡◌, map, take}
-use Rattle.dom_tree.specs.Definitions.{name_at}
+use Rattle.dom_admission.proofs.Cited.{◌≡◌, map, take, name_at}
 use Rattle.dom_admission.proofs.names.names_of.Given as goal
 
 abbrev pub invariant-loop-key : goal.invariant-loop-key

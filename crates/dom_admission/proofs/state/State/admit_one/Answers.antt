@@ -1,5 +1,4 @@
-use Rattle.dom_base.proofs.Std.{◌∙◌, [], ap, sym, or-false}
-use Rattle.dom_admission.specs.Handled.{let_pass}
+use Rattle.dom_admission.proofs.Cited.{◌∙◌, [], ap, sym, or-false, let_pass}
 use Rattle.dom_admission.proofs.Refusing.{and_true}
 use Rattle.dom_admission.proofs.Admitting.{admitted, passing_err}
 use Rattle.dom_admission.proofs.state.State.admit_one.Goals as goal

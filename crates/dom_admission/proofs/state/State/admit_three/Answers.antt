@@ -1,5 +1,4 @@
-use Rattle.dom_base.proofs.Std.{◌∷◌, ◌∙◌, ◌&&◌, ◌||◌, [], true, false, ap}
-use Rattle.dom_admission.specs.Handled.{let_pass}
+use Rattle.dom_admission.proofs.Cited.{◌∷◌, ◌∙◌, ◌&&◌, ◌||◌, [], true, false, ap, let_pass}
 use Rattle.dom_admission.proofs.Admitting.{admitted, passing_err}
 use Rattle.dom_admission.proofs.state.State.admit_three.Goals as goal
 

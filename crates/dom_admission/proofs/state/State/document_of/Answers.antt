@@ -1,6 +1,5 @@
-use Rattle.dom_base.proofs.Std.{◌∙◌, ap, sym, List, option_map}
+use Rattle.dom_admission.proofs.Cited.{◌∙◌, ap, sym, List, option_map, name_at}
 use Rattle.dom_model.proofs.Model.{NodeName, Node}
-use Rattle.dom_tree.specs.Definitions.{name_at}
 use Rattle.dom_admission.proofs.state.State.document_of.Goals as goal
 
 pub document-requires : goal.document-requires

@@ -1,4 +1,4 @@
-use Rattle.dom_base.proofs.Std.{◌∙◌, ap}
+use Rattle.dom_admission.proofs.Cited.{◌∙◌, ap}
 use Rattle.dom_model.proofs.Model.{Node}
 use Rattle.dom_admission.proofs.state.State.element.Goals as goal
 

@@ -1,7 +1,5 @@
-use Rattle.dom_base.proofs.Std.{◌≡◌, ℕ, subst}
+use Rattle.dom_admission.proofs.Cited.{◌≡◌, ℕ, subst, DocState, name_in, trees_in, name_at}
 use Rattle.dom_model.proofs.Model.{node_in}
-use Rattle.dom_mutation.specs.Definitions.{DocState, name_in, trees_in}
-use Rattle.dom_tree.specs.Definitions.{name_at}
 use Rattle.dom_admission.proofs.Finding.{read_of}
 use Rattle.dom_admission.proofs.state.State.forest.Goals as goal
 

@@ -1,7 +1,5 @@
-use Rattle.dom_base.proofs.Std.{◌∙◌, ap, sym, is_some}
+use Rattle.dom_admission.proofs.Cited.{◌∙◌, ap, sym, is_some, word_view, accepts_node}
 use Rattle.dom_model.proofs.Model.{named, part_of}
-use Rattle.dom_reader.specs.Views.{word_view}
-use Rattle.dom_admission.specs.Refusals.{accepts_node}
 use Rattle.dom_admission.proofs.Finding.{no_node-absent}
 use Rattle.dom_admission.proofs.Admitting.{kind_by_word, fit_by_word}
 use Rattle.dom_admission.proofs.state.State.is_fit.Goals as goal

@@ -1,6 +1,5 @@
-use Rattle.dom_base.proofs.Std.{◌≡◌, ◌∙◌, true, ap, subst, sym}
+use Rattle.dom_admission.proofs.Cited.{◌≡◌, ◌∙◌, true, ap, subst, sym, word_view}
 use Rattle.dom_model.proofs.Model.{Owner, NodeName, is_there, part_of}
-use Rattle.dom_reader.specs.Views.{word_view}
 use Rattle.dom_admission.proofs.Finding.{owner-named}
 use Rattle.dom_admission.proofs.Admitting.{name_of_word, there_by_word}
 use Rattle.dom_admission.proofs.state.State.key_named.Goals as goal
