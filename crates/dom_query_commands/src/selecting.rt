@@ -63,7 +63,7 @@ fn selected(
 {
     let key = state.key(owner, node);
     let forest = state.doc.forest();
-    let keys = selector.query_all(state.alloc, forest, key)?;
+    let keys = selector.query(state.alloc, forest, key)?;
     names_of(state.alloc, forest, &keys)
 }
 
