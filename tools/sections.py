@@ -162,6 +162,7 @@ SECTIONS = [
         "valid shadow host name": ("Doc::attach", "commands/components-an-element-is-a-host-once"),
         "attach a shadow root": ("Doc::attach", "commands/components-an-element-is-a-host-once"),
         "shadow root": ("Slots::root_of", "calls/slots-hosts-and-roots-find-each-other"),
+        "ID": None,
         "local name": None,
         "shadowRoot": None,
         "matches()": ("Selector::matches", "commands/selecting-selectors-are-matched"),
