@@ -119,12 +119,12 @@ OBSERVERS = {
         c1 .""")),
     "empty-name": Known(
         "fixed", "CF",
-        "the `name` of a slot is set to the empty string where there was none: the slot is signalled", TAKEN_SLOT + lines("""
+        "the `name` of a slot is set to the empty string where there was none, or an empty one goes: the slot is signalled", TAKEN_SLOT + lines("""
         c1 set m1 name ""
         c1 .""")),
     "empty-slot": Known(
         "fixed", "C",
-        "the `slot` of a host's child is set to the empty string where there was none: its slot is signalled", TAKEN_SLOT + lines("""
+        "the `slot` of a host's child is set to the empty string where there was none, or an empty one goes: its slot is signalled", TAKEN_SLOT + lines("""
         p set n2 slot ""
         p .""")),
     "slots-together": Known(

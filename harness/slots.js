@@ -228,7 +228,7 @@
 
   // The signals of a command that is not refused, by the Standard's text: `slots` are they, each with its reasons, in the order of the steps.
   // `late` is the same where a replaced child leaves last (null: no other), `crowds` are the names of slots that come or go together, and
-  // `unmoved` is the slot whose name, or the name of whose node, is set to the empty string where it had none.
+  // `unmoved` is the slot whose name, or the name of whose node, is set to the empty string where it had none, or is taken away where it is that.
   // `taken` are the nodes that leave their places, each with what was above it, and `stepOf` and
   // `isBefore` tell behind which step a record stands, and whether it comes before the signal of a slot.
   function signalsOf(run, name, values) {
@@ -238,7 +238,7 @@
     const stepOf = (record) => stepOfRecord(trees, record);
     const isBefore = (record, slot) => stepOf(record) < (trees.signalSteps.get(slot) ?? Infinity);
     const lateOnes = name === "replace" ? treesBehind(run, (late, words) => late.replaceLate(...words), values) : null;
-    const unmoved = name === "set" ? unmovedBy(run, values) : null;
+    const unmoved = name === "set" || name === "unset" ? unmovedBy(run, name, values) : null;
     if (unmoved && unmoved.name === "empty-name") crowds.add("");
     return { slots: reasons, late: lateOnes && lateOnes.reasons, crowds, taken, stepOf, isBefore, unmoved };
   }
@@ -250,8 +250,8 @@
     return (added ? placeSteps.get(added) : takeSteps.get(removed)) ?? Infinity;
   }
 
-  function unmovedBy(run, [element, name, value]) {
-    if (value !== "" || element.hasAttribute(name)) return null;
+  function unmovedBy(run, command, [element, name, value]) {
+    if (command === "set" ? value !== "" || element.hasAttribute(name) : element.getAttribute(name) !== "") return null;
     if (name === "name" && isSlot(element)) return { slot: element, name: "empty-name" };
     const lists = name === "slot" ? [...new Trees(run).assigned()] : [];
     const found = lists.find(([, nodes]) => nodes.includes(element));
