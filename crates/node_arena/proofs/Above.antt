@@ -1,15 +1,20 @@
 -- What stands above each node, and what a node added, put into a list or taken out of one leaves there.
-use Rattle.std.proofs.Common.{◌≡◌, ◌⊎◌, inl, inr, ℕ, ◌↔◌, true, false, cond, eqb, List, [], ◌∷◌, Option, Some, None, refl, sym, ap, ◌∙◌, true≢false}
+use Rattle.std.proofs.Common.{◌≡◌, ◌⊎◌, inl, inr, ℕ, ◌<◌, ◌↔◌, true, false, cond, eqb, List, [], ◌∷◌, length, Option, Some, None, refl, sym, ap, subst, ◌∙◌}
+use Rattle.std.proofs.Common.{true≢false}
 use Rattle.std.specs.Option.{is_some, option_map_or}
 use Rattle.std.proofs.lemmas.Bool.{eq-eqb, eqb-true, or_cases, or_right}
 use Rattle.std.proofs.lemmas.Bool.Decides.{eqb_tells}
 use Rattle.std.proofs.lemmas.Option.{none-some, same_Some}
 use Rattle.node_arena.specs.Nodes.{children_of, contains, parent_of, ancestors_of, head_of, IsForest, IsInclusiveAncestor}
 use Rattle.node_arena.proofs.Lists.{contains-head}
-use Rattle.node_arena.proofs.Forests.{cases_Option, contains-parent, ancestors_of-child, ancestors_of-root}
+use Rattle.node_arena.proofs.Forests.{cases_Option, contains-parent, parent_within, ancestors_of-child, ancestors_of-root}
 use Rattle.node_arena.proofs.Recursion.{from_parent}
 
 -- ---- the way up from a node
+
+-- a node alone is a line
+pub above-alone : (lists : List (List ℕ)) (a : ℕ) {k : ℕ} → k ≡ a → IsInclusiveAncestor lists a k
+above-alone lists a here = ap (λ x. contains (x ∷ ancestors_of lists x) a) here ∙ contains-head a (ancestors_of lists a)
 
 -- a node and those above it, or none
 abbrev pub line_from : List (List ℕ) → Option ℕ → List ℕ
@@ -22,7 +27,7 @@ no_first (x ∷ xs) read none = absurd (true≢false (ap is_some (sym read) ∙ 
 
 module _ {lists : List (List ℕ)} (forest : IsForest lists) where
   -- what stands above a parent stands above the child
-  above_up : (a k : ℕ) {p : ℕ} → parent_of lists k ≡ Some p → IsInclusiveAncestor lists a p → IsInclusiveAncestor lists a k
+  pub above_up : (a k : ℕ) {p : ℕ} → parent_of lists k ≡ Some p → IsInclusiveAncestor lists a p → IsInclusiveAncestor lists a k
   above_up a k {p} up found =
       or_right (eqb k a) (contains (ancestors_of lists k) a) (ap (λ xs. contains xs a) (ancestors_of-child lists forest k p up) ∙ found)
 
@@ -35,6 +40,19 @@ module _ {lists : List (List ℕ)} (forest : IsForest lists) where
       | inr up ↦ inr (up.0, up.1, ap (λ xs. contains xs a) (sym (ancestors_of-child lists forest k up.0 up.1)) ∙ above)
     ]
   ]
+
+  -- what stands above a node and is another one stands above the parent, which there is
+  pub above_next : (a k : ℕ) → (k ≡ a → ⊥) → IsInclusiveAncestor lists a k → (p : ℕ) × (parent_of lists k ≡ Some p) × IsInclusiveAncestor lists a p
+  above_next a k other found = elim (above_down a k found) [ inl here ↦ absurd (other here) | inr up ↦ up ]
+
+  -- and what stands above a node is a node
+  pub above-within : (a k : ℕ) → k < length lists → IsInclusiveAncestor lists a k → a < length lists
+  above-within a =
+      from_parent lists forest (λ n. n < length lists → IsInclusiveAncestor lists a n → a < length lists)
+      (λ n before node found. elim (above_down a n found) [
+        | inl here ↦ subst (λ (x : ℕ). x < length lists) here node
+        | inr up ↦ before up.0 up.1 (parent_within lists up.0 n (contains-parent lists n up.0 up.1)) up.2
+      ])
 
   -- what stands above what stands above a node stands above the node
   above_both : (a b k : ℕ) → IsInclusiveAncestor lists a b → IsInclusiveAncestor lists b k → IsInclusiveAncestor lists a k
@@ -92,11 +110,11 @@ module _ {apart joined : List (List ℕ)} {p c : ℕ} (both : Joined apart joine
     | inr other ↦ both.parents k ∙ (ap (λ b. cond b (Some p) (parent_of apart k)) other.0 ∙ up)
   ]
 
-  above_kept : (a k : ℕ) → IsInclusiveAncestor apart a k → IsInclusiveAncestor joined a k
+  pub above_kept : (a k : ℕ) → IsInclusiveAncestor apart a k → IsInclusiveAncestor joined a k
   above_kept a k =
       from_parent apart both.forest_apart (λ n. IsInclusiveAncestor apart a n → IsInclusiveAncestor joined a n) (λ n before found.
       elim (above_down both.forest_apart a n found) [
-        | inl here ↦ ap (λ x. contains (x ∷ ancestors_of joined x) a) here ∙ contains-head a (ancestors_of joined a)
+        | inl here ↦ above-alone joined a here
         | inr up ↦ above_up both.forest_joined a n (kept_parent n up.0 up.1) (before up.0 up.1 up.2)
       ]) k
 
@@ -106,7 +124,7 @@ module _ {apart joined : List (List ℕ)} {p c : ℕ} (both : Joined apart joine
       from_parent joined both.forest_joined
       (λ n. IsInclusiveAncestor joined a n → IsInclusiveAncestor apart a n ⊎ (IsInclusiveAncestor apart c n × IsInclusiveAncestor apart a p))
       (λ n before found. elim (above_down both.forest_joined a n found) [
-        | inl here ↦ inl (ap (λ x. contains (x ∷ ancestors_of apart x) a) here ∙ contains-head a (ancestors_of apart a))
+        | inl here ↦ inl (above-alone apart a here)
         | inr up ↦ at n up.0 up.1 (before up.0 up.1 up.2)
       ]) k
     where
@@ -163,7 +181,7 @@ pub above-same : {lists others : List (List ℕ)} → IsForest lists → IsFores
 above-same {lists} {others} forest after same a k =
     from_parent lists forest (λ n. IsInclusiveAncestor lists a n → IsInclusiveAncestor others a n) (λ n before found.
     elim (above_down forest a n found) [
-      | inl here ↦ ap (λ x. contains (x ∷ ancestors_of others x) a) here ∙ contains-head a (ancestors_of others a)
+      | inl here ↦ above-alone others a here
       | inr up ↦ above_up after a n (sym (same n) ∙ up.1) (before up.0 up.1 up.2)
     ]) k
 

@@ -1,8 +1,9 @@
--- The first children of two nodes, which an arena keeps in order beside the links.
+-- The first children of two nodes, and a node with one above it, which an arena keeps beside the links.
 use Rattle.std.specs.Prelude.{◌≡◌, ℕ, List, ◌++◌, Option, false, length}
-use Rattle.node_arena.specs.Nodes.{children_of, contains, last_of, parent_of, siblings_in}
+use Rattle.node_arena.specs.Nodes.{children_of, contains, last_of, parent_of, siblings_in, IsInclusiveAncestor}
 use Rattle.node_arena.specs.Links.{Cells}
 use Rattle.node_arena.specs.Cells.{lists_of, IsLinked}
+use Rattle.node_arena.specs.declared.ancestors.Line.{Line}
 use Rattle.node_arena.specs.declared.first_children.FirstChildren.{FirstChildren}
 
 -- xs are the first of a list
@@ -25,8 +26,9 @@ pub record IsBehindFirst (lists : List (List ℕ)) (count : ℕ) (last : Option 
 abbrev pub AreKept : List (List ℕ) → FirstChildren → Type 0
 AreKept lists kept = AreFirst kept.keys (children_of lists kept.parent)
 
--- the links are those of a forest, and what is kept of two nodes are first children of each
-pub record IsIndexed {T : Type 0} (cells : Cells T) (asked before : FirstChildren) : Type 0 where
+-- the links are those of a forest, what is kept of two nodes are first children of each, and of a line the one node stands above the other
+pub record IsIndexed {T : Type 0} (cells : Cells T) (asked before : FirstChildren) (line : Line) : Type 0 where
   pub linked : IsLinked cells
   pub recent : AreKept (lists_of cells.links) asked
   pub other : AreKept (lists_of cells.links) before
+  pub above : IsInclusiveAncestor (lists_of cells.links) line.above line.below

@@ -1,7 +1,6 @@
-use Rattle.std.proofs.Common.{sym, ◌∙◌, arith, true≢false, eqb}
+use Rattle.std.proofs.Common.{sym, true≢false, eqb}
 use Rattle.std.proofs.lemmas.Bool.{eqb-false, not-true}
 use Rattle.node_arena.specs.Nodes.{children_of}
-use Rattle.node_arena.proofs.Forests.{ancestors_of_is}
 use Rattle.node_arena.proofs.Above.{above-childless, no_first}
 use Rattle.node_arena.proofs.Arena.is_inclusive_ancestor.Goals as goal
 
@@ -12,15 +11,3 @@ returns-then-is_none g c =
       λ claim. absurd (true≢false (sym claim)),
       λ found. absurd (other (sym (above-childless c.first.ensures.sound.forest c.args.above c.args.key leaf found))),
     )
-
-pub loop-at-smaller : goal.loop-at-smaller
-loop-at-smaller g c =
-    rw (c.in-Some.is, c.parent-at.ensures.value, ← ancestors_of_is c.args.self.now.children c.parent-at.ensures.sound.forest c.in-Some.node) (omega arith)
-
-pub loop-at-preserved : goal.loop-at-preserved
-loop-at-preserved g c =
-    let above = ancestors_of_is c.args.self.now.children c.parent-at.ensures.sound.forest c.in-Some.node in
-    record {
-      nodes = c.parent-at.ensures.node;
-      same = c.loop-at.invariant.same ∙ rw (c.in-Some.is, c.parent-at.ensures.value, ← above, sym c.eq.ensures ∙ c.if-eq.false);
-    }

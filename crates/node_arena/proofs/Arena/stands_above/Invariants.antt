@@ -2,7 +2,7 @@ use Rattle.std.proofs.Common.{◌≡◌, ◌<◌, ◌∷◌, length}
 use Rattle.std.specs.Option.{ForSome}
 use Rattle.node_arena.specs.Nodes.{contains, ancestors_of}
 use Rattle.node_arena.proofs.Above.{line_from}
-use Rattle.node_arena.proofs.Arena.is_inclusive_ancestor.Given as goal
+use Rattle.node_arena.proofs.Arena.stands_above.Given as goal
 
 abbrev pub invariant-loop-at : goal.invariant-loop-at
 invariant-loop-at g l =

@@ -1,0 +1,65 @@
+//! A cell of a store, where it lies.
+ghost use Rattle.std.specs.Prelude.{◌≡◌, Some, slice_get};
+ghost use Rattle.std.specs.Option.{ForSome};
+ghost use Rattle.node_arena.specs.Links.{link_at};
+ghost use Rattle.node_arena.specs.Spots.{key_in};
+
+use crate::Key;
+use crate::pool::Pool;
+use crate::store::{Cell, Link};
+use std::marker::Model;
+
+/// A cell, and the pool of those to which its links lead. It is seen as the cells of the store, and the key of this one.
+#[derive(Drop)]
+pub(crate) struct CellAt<'a, T> {
+    pub(crate) pool: &'a Pool<Cell<T>>,
+    pub(crate) cell: &'a Cell<T>,
+}
+
+impl<'a, T> Model for CellAt<'a, T> {
+    ghost use Rattle.node_arena.specs.Links.{Cells, cells_code};
+    ghost use Rattle.node_arena.specs.Spots.{Spot, spot_code};
+    ghost use Rattle.node_arena.specs.Store.{seen, IsCellOf};
+
+    ghost Value = { Spot (Cells T) };
+
+    ghost coded = { spot_code (cells_code T.code) };
+
+    ghost view = { λ c. record { whole = seen c.pool.now.cells; key = c.cell.now.key } };
+
+    ghost invariant = { λ c. IsCellOf c.pool.now.cells c.cell.now };
+}
+
+impl<'a, T> CellAt<'a, T> {
+    /// The cell that a link leads to, if there is one.
+    #[inline(always)]
+    pub(crate) fn to(&self, link: Link) -> Option<CellAt<'a, T>>
+        ensures value { key_in result ≡ link_at self.now.whole.links self.now.key link }
+        ensures same { ForSome result (λ c. c.whole ≡ self.now.whole) }
+    {
+        let to = self.cell.pointer(link);
+        if to.is_nowhere() {
+            return None;
+        }
+        let pool = self.pool;
+        let cell = pool.get(to);
+        Some(CellAt { pool, cell })
+    }
+
+    /// Its key.
+    #[inline(always)]
+    pub(crate) fn key(&self) -> Key
+        ensures { result ≡ self.now.key }
+    {
+        self.cell.key
+    }
+
+    /// What it holds.
+    #[inline(always)]
+    pub(crate) fn payload(&self) -> &'a T
+        ensures { slice_get self.now.whole.payloads self.now.key ≡ Some result.now }
+    {
+        let cell = self.cell;
+        &cell.payload
+    }
+}
