@@ -1,6 +1,6 @@
 -- Attributes in the code's map, and the code's test of their names.
 use Rattle.dom_base.proofs.Std.{◌≡◌, inl, inr, ℕ, Bool, ◌&&◌, List, [], ◌∷◌, map, refl, ap, ◌∙◌, find, nat_eq, option_map, bytes_eq, lookup, remove_entry}
-use Rattle.dom_base.proofs.Std.{cases_Bool}
+use Rattle.dom_base.proofs.Std.{cases_Bool, false, sym, false_from_ne_true, bytes_eq-Decides}
 use Rattle.indexmap.specs.IndexMap.{insert_entry}
 use Rattle.dom_model.proofs.Model.{text_eq, Attribute, attributes_with, attributes_without}
 
@@ -10,6 +10,10 @@ text_test [] [] = refl
 text_test [] (b ∷ y) = refl
 text_test (a ∷ x) [] = refl
 text_test (a ∷ x) (b ∷ y) = ap (λ t. nat_eq a b && t) (text_test x y)
+
+-- those that are not equal are not the same
+pub differ : (x y : List ℕ) → (x ≡ y → ⊥) → false ≡ text_eq x y
+differ x y apart = sym (false_from_ne_true (bytes_eq x y) (λ e. apart ((bytes_eq-Decides x y).0 e))) ∙ text_test x y
 
 module _ {K V : Type 0} (text_of : K → List ℕ) (items_of : V → List ℕ) where
   abbrev pub attributes_in : List (K × V) → List Attribute

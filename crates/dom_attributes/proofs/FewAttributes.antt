@@ -96,18 +96,6 @@ module _ {K V : Type 0} (text_of : K → List ℕ) (items_of : V → List ℕ) (
   off-without [] off = refl
   off-without (x ∷ es) off = rw (told x false off.0) (ap (λ bs. record { name = text_of x.0; value = items_of x.1 } ∷ bs) (off-without es off.1))
 
-  -- where there are none there are no few
-  pub none-few : (es : List (K × V)) → all_of es ≡ [] → length es ≡ 0
-  none-few [] none = refl
-  none-few (x ∷ es) none = absurd (nil_or_cons none)
-    where
-      nil_or_cons : {b : Attribute} {bs : List Attribute} → b ∷ bs ≡ [] → ⊥
-      nil_or_cons e = subst (λ (cs : List Attribute). by cs) e tt
-        where
-          by : List Attribute → Type 0
-          by [] = ⊥
-          by (c ∷ cs) = Unit {0}
-
   -- where there are no others one more goes last
   pub off-added : (es : List (K × V)) (k : K) (v : V) → text_of k ≡ a → ys ≡ [] → AllByRecursion (λ e. named e ≡ false) es →
       all_of (es ++ (k, v) ∷ []) ≡ attributes_with a (items_of v) (all_of es)

@@ -1,11 +1,6 @@
-use Rattle.dom_base.proofs.Std.{◌≡◌, ℕ, List, false, length, slice_index_or, ap, sym, ◌∙◌, arith, false_from_ne_true, ext_get_or, bytes_eq-Decides, bytes_eq}
-use Rattle.dom_model.proofs.Model.{text_eq}
-use Rattle.dom_attributes.proofs.Attributes.{text_test}
+use Rattle.dom_base.proofs.Std.{◌≡◌, length, slice_index_or, ap, sym, ◌∙◌, arith, ext_get_or, bytes_eq-Decides}
+use Rattle.dom_attributes.proofs.Attributes.{text_test, differ}
 use Rattle.dom_attributes.proofs.texts.is_same_text.Goals as goal
-
--- texts that are not equal are not the same
-differ : (xs ys : List ℕ) → (xs ≡ ys → ⊥) → false ≡ text_eq xs ys
-differ xs ys apart = sym (false_from_ne_true (bytes_eq xs ys) (λ e. apart ((bytes_eq-Decides xs ys).0 e))) ∙ text_test xs ys
 
 pub returns-then-bytes-others-clause-text : goal.returns-then-bytes-others-clause-text
 returns-then-bytes-others-clause-text c =
