@@ -1,6 +1,6 @@
 -- The value of an attribute, where it or another one is set or taken away.
-use Rattle.dom_base.proofs.Std.{◌≡◌, ◌≢◌, inl, inr, true, false, cond, List, [], ◌∷◌, Option, Some, None, refl, sym, ap, ◌∙◌, cases_Bool, AllByRecursion}
-use Rattle.dom_base.proofs.Std.{option_map, find, bytes_eq, bytes_eq-Decides, false_from_ne_true, true≢false, subst}
+use Rattle.dom_base.proofs.Std.{◌≡◌, ◌≢◌, inl, inr, true, false, cond, List, [], ◌∷◌, Some, None, refl, sym, ap, ◌∙◌, cases_Bool, AllByRecursion}
+use Rattle.dom_base.proofs.Std.{option_map, find, bytes_eq-Decides, false_from_ne_true, true≢false, subst}
 use Rattle.dom_model.specs.Names.{Word, DomString}
 use Rattle.dom_model.proofs.Model.{text_eq, Attribute, attributes_with, attributes_without}
 use Rattle.dom_attributes.specs.Attributes.{HaveOwnNames, value_among}

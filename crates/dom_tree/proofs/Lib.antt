@@ -30,3 +30,4 @@ mod ChildLists
 mod Holds
 pub mod Standing
 pub mod Searching
+mod Steps

@@ -9,4 +9,5 @@ pub mod Owners
 pub mod Apart
 pub mod EachNode
 pub mod Within
+pub mod Spots
 pub mod Definitions

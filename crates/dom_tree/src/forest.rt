@@ -13,6 +13,7 @@ ghost use Rattle.dom_tree.specs.Ids.{HasId, MayBear};
 
 mod contents;
 mod links;
+mod node_at;
 mod order;
 mod validity;
 
@@ -24,6 +25,7 @@ use crate::table::KeyTable;
 use dom_attributes::SharedNames;
 use dom_base::{Fault, MAX_NODES, NodeName, Owner, Refusal};
 use node_arena::{Arena, Key};
+pub use node_at::NodeAt;
 use std::alloc::Global;
 use std::marker::Model;
 

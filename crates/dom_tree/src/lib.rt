@@ -15,5 +15,5 @@ mod stored;
 mod table;
 
 pub use data::NodeData;
-pub use forest::Forest;
+pub use forest::{Forest, NodeAt};
 pub use owners::{law_changes_add_up, law_changes_are_own, law_reads_are_own};

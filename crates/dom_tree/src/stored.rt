@@ -59,6 +59,7 @@ impl Own {
     }
 
     /// The kind.
+    #[inline(always)]
     fn kind(&self) -> Kind
         ensures { result ≡ kind_in self.now }
     {
@@ -77,6 +78,7 @@ impl Own {
     }
 
     /// The attributes, if there ever were some.
+    #[inline(always)]
     fn attributes(&self) -> Option<&AttributeList>
         ensures { option_map_or (λ list. list.now) result [] ≡ attributes_in self.now }
     {
@@ -154,6 +156,7 @@ impl StoredNode {
     }
 
     /// Its kind.
+    #[inline(always)]
     pub(crate) fn kind(&self) -> Kind
         ensures { result ≡ self.now.node.kind }
     {
@@ -161,6 +164,7 @@ impl StoredNode {
     }
 
     /// Its local name, empty where it is no element.
+    #[inline(always)]
     pub(crate) fn element(&self) -> &str
         ensures { result.now ≡ self.now.node.element }
     {
@@ -182,6 +186,7 @@ impl StoredNode {
     }
 
     /// The value of its attribute of this name, if there is one.
+    #[inline(always)]
     pub(crate) fn attribute(&self, name: &str) -> Option<&[u16]>
         ensures { option_map (λ value. value.now) result ≡ value_among name.now self.now.node.attributes }
     {

@@ -1,5 +1,5 @@
 //! How nodes stand in their trees, and how a tree is put into another one or taken out.
-ghost use Rattle.std.specs.Prelude.{◌≡◌, ◌≢◌, ℕ, ◌++◌, ◌∷◌, [], false, Some, None};
+ghost use Rattle.std.specs.Prelude.{◌≡◌, ◌≢◌, ℕ, ◌++◌, ◌∷◌, [], true, false, Some, None};
 ghost use Rattle.std.specs.Option.{option_map, ForSome};
 ghost use Rattle.dom_model.specs.Names.{first_of, last_of};
 ghost use Rattle.dom_model.specs.Tree.{parent_of, children_of, next_sibling, previous_sibling, inclusive_ancestors, is_inclusive_ancestor, root_of};
@@ -133,12 +133,32 @@ impl Forest {
     }
 
     /// Whether a node is another one or stands above it (DOM Standard, concept: inclusive ancestor). Of a node
-    /// without children this takes no walk.
+    /// without children, and where it is remembered, this takes no walk.
     pub fn is_inclusive_ancestor(&self, above: Key, key: Key) -> bool
         requires above_is_node { IsNode self.now above }
         requires key_is_node { IsNode self.now key }
         ensures { result ≡ is_inclusive_ancestor self.now.trees (name_of self.now above) (name_of self.now key) }
     {
         self.arena.is_inclusive_ancestor(above, key)
+    }
+
+    /// Whether what is remembered tells that a node stands above another one (own rule). It takes a few looks, and where it is not
+    /// told, it may yet be so.
+    pub fn is_known_above(&self, above: Key, key: Key) -> bool
+        requires { IsNode self.now key }
+        ensures above { result ≡ true → is_inclusive_ancestor self.now.trees (name_of self.now above) (name_of self.now key) ≡ true }
+        ensures node { result ≡ true → IsNode self.now above }
+    {
+        self.arena.is_known_above(above, key)
+    }
+
+    /// Remembers that a node is another one or stands above it, where it is so (own rule). Then `is_inclusive_ancestor` takes no walk
+    /// for the two, nor for the upper one and a node near the lower one: a parent, a child, a sibling or a sibling of a parent. It is
+    /// forgotten where a node leaves its parent, and where something else is remembered.
+    pub fn remember_ancestor(&mut self, above: Key, key: Key)
+        requires { IsNode self.old key }
+        ensures { self.new ≡ self.old }
+    {
+        self.arena.remember_ancestor(above, key);
     }
 }

@@ -24,22 +24,10 @@ impl Forest {
         ensures node { ForSome result (IsNode self.now) }
         ensures within { ForSome result (λ k. is_inclusive_ancestor self.now.trees (name_of self.now top) (name_of self.now k) ≡ true) }
     {
-        let first = self.arena.first(key);
-        if first.is_some() {
-            return first;
+        match self.at(key).following(top) {
+            Some(node) => Some(node.key()),
+            None => None,
         }
-        let mut at = key;
-        while at != top {
-            let next = self.arena.next(at);
-            if next.is_some() {
-                return next;
-            }
-            let Some(parent) = self.arena.parent(at) else {
-                return None;
-            };
-            at = parent;
-        }
-        None
     }
 
     /// The node just before a node in tree order, within the tree of a node `top` in which it stands (DOM Standard,
