@@ -23,18 +23,18 @@ pub use Rattle.dom_laws.proofs.Laws.{above-along, above-below, above-beside, abo
 pub use Rattle.dom_laws.proofs.Laws.{before-split, behind_is, below, child-of_parent, children-single, Has, here, In, In-from, In-left, In-right, is_in-from}
 pub use Rattle.dom_laws.proofs.Laws.{last_of-end, last_split, name_eq-from, no_last, Once, once_apart, outside-test, parent-of_child, Single, Single-apart}
 pub use Rattle.dom_laws.proofs.Laws.{split_at, subtree-below, subtree-beside, subtree-here, two_or_more}
-pub use Rattle.dom_ranges.specs.Definitions.{after_closing, after_leaving, AreAllIn, AreAt, AreBeside, AreTested, AtMost, AtMostBut, BothEnds, Brings}
-pub use Rattle.dom_ranges.specs.Definitions.{collapsed_range, CollapsedNamed, CollapsedWithin, depth_at, EachRange, end_in, end_of, end_set, EndNamed, ends_by}
-pub use Rattle.dom_ranges.specs.Definitions.{EndWithin, Fits, GrownNamed, HasChanged, HasEndAt, HasRanges, HasRoom, have_one_root, HaveNumbers, InsertNamed}
-pub use Rattle.dom_ranges.specs.Definitions.{InsertWithin, is_chosen, is_end_of, is_in, is_inside, is_key_before, IsAtNode, IsFirm, IsListed, IsListedAt}
-pub use Rattle.dom_ranges.specs.Definitions.{IsListedOnce, IsMovedPart, IsNamedRule, IsNear, IsOrdered, IsSortedBeside, IsSortedBut, IsSortedByNode}
-pub use Rattle.dom_ranges.specs.Definitions.{IsSortedByPoint, IsTurned, IsUpTo, IsWithin, JoinNamed, JoinWithin, KeepsOrder, KeepsOrderBut, LessThan, list_of}
-pub use Rattle.dom_ranges.specs.Definitions.{lists_of, MadeNamed, MadeWithin, MoreWithin, named_boundary, named_ends_by, named_range, named_ranges, NoneWithin}
-pub use Rattle.dom_ranges.specs.Definitions.{Numbers, offset_of, path_at, point_at, point_of, Points, range_from, range_in, range_kept, RangeEnd, RangeList}
-pub use Rattle.dom_ranges.specs.Definitions.{RangeLists, ranges_of, Reaches, RemovalNamed, RemovalWithin, RemovedNamed, RemovedWithin, ReplaceDataNamed}
-pub use Rattle.dom_ranges.specs.Definitions.{ReplaceDataWithin, RewrittenNamed, SameWithin, shown, slots_of, SomeWithin, Span, SplitNamed, SplitWithin}
-pub use Rattle.dom_ranges.specs.Definitions.{StandAtNodes, Stands, StandsUnder, start_set, StartNamed, StartWithin, times, with_end_at, with_named, with_ranges}
-pub use Rattle.dom_ranges.specs.Definitions.{WithinAtNodes, WrittenWithin}
+pub use Rattle.dom_ranges.specs.Definitions.{after_closing, after_insertion, after_leaving, all_ends_by, AreAllIn, AreAt, AreBeside, AreTested, AtMost}
+pub use Rattle.dom_ranges.specs.Definitions.{AtMostBut, BothEnds, Brings, CanFollow, collapsed_range, CollapsedNamed, CollapsedWithin, depth_at, EachRange}
+pub use Rattle.dom_ranges.specs.Definitions.{end_in, end_of, end_set, EndNamed, ends_by, EndWithin, Fits, GrownNamed, HasChanged, HasEndAt, HasRanges, HasRoom}
+pub use Rattle.dom_ranges.specs.Definitions.{have_one_root, HaveNumbers, Insertion, InsertNamed, InsertWithin, is_chosen, is_end_of, is_in, is_inside}
+pub use Rattle.dom_ranges.specs.Definitions.{is_key_before, IsAtNode, IsFirm, IsListed, IsListedAt, IsListedOnce, IsMovedPart, IsNamedRule, IsNear, IsOrdered}
+pub use Rattle.dom_ranges.specs.Definitions.{IsSortedBeside, IsSortedBut, IsSortedByNode, IsSortedByPoint, IsTurned, IsUpTo, IsWithin, JoinNamed, JoinWithin}
+pub use Rattle.dom_ranges.specs.Definitions.{KeepsOrder, KeepsOrderBut, LessThan, list_of, lists_of, MadeNamed, MadeWithin, MoreWithin, named_boundary}
+pub use Rattle.dom_ranges.specs.Definitions.{named_ends_by, named_range, named_ranges, NoneWithin, Numbers, offset_of, path_at, point_at, point_of, Points}
+pub use Rattle.dom_ranges.specs.Definitions.{range_from, range_in, range_kept, RangeEnd, RangeList, RangeLists, ranges_of, Reaches, RemovalNamed, RemovalWithin}
+pub use Rattle.dom_ranges.specs.Definitions.{RemovedNamed, RemovedWithin, ReplaceDataNamed, ReplaceDataWithin, RewrittenNamed, SameWithin, shown, shown_after}
+pub use Rattle.dom_ranges.specs.Definitions.{slots_of, SomeWithin, Span, SplitNamed, SplitWithin, StandAtNodes, Stands, StandsUnder, start_set, StartNamed}
+pub use Rattle.dom_ranges.specs.Definitions.{StartWithin, times, with_end_at, with_named, with_ranges, WithinAtNodes, WrittenWithin}
 pub use Rattle.dom_tree.proofs.Changes.{slice_get-pushed}
 pub use Rattle.dom_tree.proofs.Owned.{name_apart, read_own}
 pub use Rattle.dom_tree.proofs.OwnerLists.{had, none_from, of_ok, written-by, written-same}

@@ -5,7 +5,7 @@ use Rattle.dom_ranges.proofs.Cited.{slots_of}
 use Rattle.dom_base.specs.contracts.OwnerPartialEq.TheImpl as OwnerImpl
 
 -- the list of an owner among lists that were rewritten
-list_of-map : {X Y : Type 0} (f : X → Y) (es : List (Owner × List X)) (o : Owner) → list_of (map (λ e. (e.0, map f e.1)) es) o ≡ map f (list_of es o)
+pub list_of-map : {X Y : Type 0} (f : X → Y) (es : List (Owner × List X)) (o : Owner) → list_of (map (λ e. (e.0, map f e.1)) es) o ≡ map f (list_of es o)
 list_of-map f [] o = refl
 list_of-map f (e ∷ es) o = by (owner_eq o e.0) (list_of-map f es o)
   where

@@ -20,3 +20,4 @@ mod Inside
 mod Siblings
 mod Leaving
 mod Staying
+mod Pending

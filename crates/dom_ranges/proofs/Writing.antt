@@ -3,7 +3,8 @@ use Rattle.dom_ranges.proofs.Cited.{◌≡◌, ◌≢◌, ℕ, Bool, true, false
 use Rattle.dom_ranges.proofs.Cited.{subst, ◌∙◌, ◌⊎◌, inl, inr, true≢false, slice_get, slice_set, if◌then◌else◌, option_map, option_flatten, cases_Bool}
 use Rattle.dom_ranges.proofs.Cited.{cases_eq, map-append, map-set, length-map, same_Some, none-some, slice_get-map, Slab, get, Updates, Owner, owner_eq}
 use Rattle.dom_ranges.proofs.Cited.{owner_eq-same, owner_eq-true, owner_eq-false, Range, HasRanges, HaveNumbers, Numbers, Points, range_from, range_in}
-use Rattle.dom_ranges.proofs.Cited.{slice_get-push, slice_get-pushed, range_kept, RangeLists, ranges_of, shown, slots_of, StandsUnder, with_ranges}
+use Rattle.dom_ranges.proofs.Cited.{slice_get-push, slice_get-pushed, range_kept, RangeList, RangeLists, lists_of, ranges_of, shown, slots_of, StandsUnder}
+use Rattle.dom_ranges.proofs.Cited.{with_ranges}
 use Rattle.dom_ranges.proofs.Holding.{ranges_of-shown}
 use Rattle.dom_tree.proofs.Changes.{slice_get-push as slice_get-kept}
 use Rattle.dom_ranges.proofs.Lists.{map_kept, map_twice, map_set, set_over, set-at, set-absent, set-other}
@@ -131,12 +132,16 @@ not_there v owner k e o = sym (ap (λ rs. with_ranges v owner rs o) (set-absent 
 
 -- slots after all ranges were rewritten
 module _ (f : Range ℕ → Range ℕ) (live after : Slab Points) where
-  -- the table then
-  pub ranges-moved : (n : Numbers) (v : RangeLists) → Shows live n v
-      → ((s : ℕ) → option_map range_from (get after s) ≡ option_map (λ p. f (range_from p)) (get live s)) → (o : Owner) →
-      ranges_of (shown after n) o ≡ map (option_map f) (ranges_of v o)
-  ranges-moved n v e moved o =
-      ranges_of-shown after n o ∙ (map_twice (range_kept live) (option_map f) (range_kept after) (slots_of n o) by ∙ ap (map (option_map f)) (sym (e o)))
+  -- the lists then
+  pub lists-moved : (n : Numbers) (v : RangeLists) → shown live n ≡ v
+      → ((s : ℕ) → option_map range_from (get after s) ≡ option_map (λ p. f (range_from p)) (get live s)) →
+      shown after n ≡ map (λ (e : Owner × RangeList). (e.0, map (option_map f) e.1)) v
+  lists-moved n v same moved =
+      let seen : Owner × List (Option ℕ) → Owner × RangeList = λ e. (e.0, map (range_kept live) e.1) in
+      let rewritten : Owner × RangeList → Owner × RangeList = λ e. (e.0, map (option_map f) e.1) in
+      map_twice seen rewritten (λ e. (e.0, map (range_kept after) e.1)) (lists_of n)
+      (λ e. ap {B = Owner × RangeList} (λ rs. (e.0, rs)) (map_twice (range_kept live) (option_map f) (range_kept after) e.1 by))
+      ∙ ap (map rewritten) same
     where
       through : (t : Option Points) → option_map (λ p. f (range_from p)) t ≡ option_map f (option_map range_from t)
       through None = refl

@@ -3,6 +3,7 @@ pub mod Tables
 pub mod RangeSlots
 pub mod Rules
 pub mod Climbs
+pub mod Pending
 pub mod Settings
 pub mod Naming
 pub mod Listed

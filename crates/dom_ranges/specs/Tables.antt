@@ -40,6 +40,10 @@ range_from p = from_to (at p.start.0 p.start.1) (at p.end.0 p.end.1)
 abbrev pub ends_by : (Boundary ℕ → Boundary ℕ) → RangeList → RangeList
 ends_by f rs = map (option_map (map_ends f)) rs
 
+-- so are those of all owners
+abbrev pub all_ends_by : (Boundary ℕ → Boundary ℕ) → RangeLists → RangeLists
+all_ends_by f t = map (λ e. (e.0, ends_by f e.1)) t
+
 -- what holds of each live range of a list
 abbrev pub EachRange : (Range ℕ → Type 0) → RangeList → Type 0
 EachRange P rs = (k : ℕ) (r : Range ℕ) → slice_get rs k ≡ Some (Some r) → P r

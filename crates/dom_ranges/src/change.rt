@@ -2,6 +2,8 @@
 ghost use Rattle.std.specs.Prelude.{◌≡◌, ◌⊎◌, ℕ, nat_eq, true};
 ghost use Rattle.dom_model.specs.Place.{Boundary};
 ghost use Rattle.dom_model.specs.Ranges.{at, after_insert, after_replace_data, after_split, after_join};
+ghost use Rattle.std.specs.Option.{ForSome};
+ghost use Rattle.dom_ranges.specs.Pending.{after_insertion};
 ghost use Rattle.dom_ranges.specs.Rules.{Fits, IsAtNode, KeepsOrder, KeepsOrderBut, is_inside, after_leaving, after_closing};
 ghost use Rattle.dom_tree.specs.Forest.{IsNode};
 
@@ -39,6 +41,26 @@ pub(crate) struct Insertion {
     pub(crate) parent: Key,
     pub(crate) index: usize,
     pub(crate) count: usize,
+}
+
+impl Insertion {
+    /// This insertion and the next one in one, where the next one's nodes come before, among or just behind this one's.
+    pub(crate) fn with_next(&self, next: &Insertion) -> Option<Insertion>
+        ensures { ForSome result (λ sum. (b : Boundary ℕ) → after_insertion sum b ≡ after_insertion next.now (after_insertion self.now b)) }
+    {
+        if next.parent != self.parent || next.index < self.index {
+            return None;
+        }
+        if next.index - self.index > self.count {
+            return None;
+        }
+        let count = self.count.checked_add(next.count)?;
+        Some(Insertion {
+            parent: self.parent,
+            index: self.index,
+            count,
+        })
+    }
 }
 
 impl Change for Insertion {

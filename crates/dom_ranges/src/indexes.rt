@@ -1,11 +1,11 @@
 //! The index of a child, which is looked for only as far as ends of live ranges stand behind the child in its parent.
-ghost use Rattle.std.specs.Prelude.{◌≡◌, ◌⊎◌, ℕ, ◌<◌, length, slice_index_or, None};
+ghost use Rattle.std.specs.Prelude.{◌≡◌, ◌⊎◌, ℕ, ◌<◌, ◌≤◌, length, slice_index_or, None};
 ghost use Rattle.std.specs.Option.{ForSome};
 ghost use Rattle.dom_model.specs.Ranges.{at};
 ghost use Rattle.dom_model.specs.Tree.{index_of};
 ghost use Rattle.dom_tree.specs.Forest.{IsNode, name_of};
 ghost use Rattle.dom_ranges.specs.Listed.{IsSortedByPoint, IsListedAt, point_of};
-ghost use Rattle.dom_ranges.specs.Rules.{IsUpTo, IsNear};
+ghost use Rattle.dom_ranges.specs.Rules.{IsUpTo};
 
 use crate::ends::RangeEnd;
 use crate::searching::behind_node;
@@ -42,15 +42,14 @@ pub(crate) fn index_before_ends(
     forest.index_below(child, reach(ends, parent))
 }
 
-/// The index of a child, or a lesser number that is greater than the offset of each end in its parent. As many siblings
-/// as the greatest offset of an end there are looked at, and one more.
-pub(crate) fn index_among_ends(ends: &[RangeEnd], forest: &Forest, parent: Key, child: Key) -> usize
-    requires child_is_node { IsNode forest.now child }
-    requires sorted { IsSortedByPoint ends.now }
-    ensures { (k : ℕ) (d : RangeEnd) → k < length ends.now →
-        IsNear parent (index_of forest.now.trees (name_of forest.now child)) result (point_of (slice_index_or ends.now k d)) }
+/// The index of a child, or a lesser number that is greater than an offset. As many siblings as the offset are looked at, and one
+/// more.
+pub(crate) fn index_past(forest: &Forest, child: Key, offset: usize) -> usize
+    requires { IsNode forest.now child }
+    ensures { (result ≡ index_of forest.now.trees (name_of forest.now child)) ⊎
+        ((result ≤ index_of forest.now.trees (name_of forest.now child)) × (offset < result)) }
 {
-    match reach(ends, parent).checked_add(1) {
+    match offset.checked_add(1) {
         Some(limit) => forest.index_below(child, limit).unwrap_or(limit),
         None => forest.index(child),
     }

@@ -13,6 +13,7 @@ mod order;
 mod removing;
 mod searching;
 mod setting;
+mod stored;
 mod table;
 
 pub use laws::{law_ends_stay, law_keys_stand_for_names};

@@ -5,27 +5,22 @@ ghost use Rattle.std.specs.Option.{option_map, ForSome};
 ghost use Rattle.dom_base.specs.declared.Owner.{Owner as Owners};
 ghost use Rattle.dom_model.specs.CommandRefusals.{past_limit};
 ghost use Rattle.dom_model.specs.Place.{Boundary};
-ghost use Rattle.dom_model.specs.Ranges.{at, from_to, map_ends, after_insert, after_removal, after_replace_data, after_split, after_join, with_start, with_end};
+ghost use Rattle.dom_model.specs.Ranges.{at, from_to, map_ends, after_insert, after_removal, after_replace_data, after_split, with_start, with_end};
 ghost use Rattle.dom_model.specs.Tree.{parent_of, index_of, length_of};
 ghost use Rattle.dom_tree.specs.Forest.{IsNode, name_of};
-ghost use Rattle.slab.specs.Slab.{get, Updates};
 ghost use Rattle.dom_ranges.specs.Rules.{Fits, IsAtNode, IsNear, IsUpTo, is_inside};
 ghost use Rattle.dom_ranges.specs.Settings.{start_set, end_set, named_ranges, with_named, without_named};
 ghost use Rattle.dom_ranges.specs.Tables.{ranges_of, range_in, with_ranges, range_from, ends_by, EachRange, BothEnds, HasEndAt, collapsed_range};
 
-use crate::change::{Join, Replacement, Split};
+use crate::change::{Change, Insertion, Replacement, Split};
 use crate::concerned::LocalChange;
-use crate::ends::{RangeEnd, list_range};
-use crate::indexes::{index_among_ends, index_before_ends, reach};
-use crate::moving::{drop_range, move_concerned, put_end};
-use crate::numbers::Numbers;
-use crate::removing::move_out;
+use crate::indexes::index_past;
 use crate::setting::{is_past_end, with_end, with_start};
+use crate::stored::StoredRanges;
 use dom_base::{Fault, MAX_NODES, Owner, Refusal};
 use dom_tree::Forest;
 use node_arena::Key;
-use slab::Slab;
-use std::alloc::{AllocError, Global};
+use std::alloc::Global;
 use std::marker::Model;
 
 /// The boundary points of a range, each a node and an offset (DOM Standard, 5.2 Boundary points).
@@ -37,20 +32,19 @@ pub struct Points {
 
 /// The live ranges of all owners (DOM Standard, interface Range). An owner's ranges are numbered in the order in which
 /// it made them. Changes of the trees are told to the table step by step.
+///
+/// An insertion is remembered, and the ends behind it are not moved yet. Further ones whose nodes come before, among or just behind
+/// the nodes of that one are added to it: so each of them costs the same, however many ends stand behind. What is asked of the table is
+/// answered as if they were carried out, and each other call that changes the table or moves ends carries them out first.
 pub struct RangeTable {
-    live: Slab<Points>,
-    ends: Vec<RangeEnd>,
-    numbers: Numbers,
+    stored: StoredRanges,
+    pending: Option<Insertion>,
 }
 
 impl Drop for RangeTable {
     // Written out, so that the crates above cite it, and do not prove again how each field is let go.
     fn drop(self) {
-        let Self {
-            live,
-            ends,
-            numbers,
-        } = self;
+        let Self { stored, pending } = self;
     }
 }
 
@@ -59,12 +53,11 @@ impl Model for RangeTable {
 
     ghost Value = { RangeLists };
 
-    ghost use Rattle.dom_ranges.specs.RangeSlots.{shown, HaveNumbers};
-    ghost use Rattle.dom_ranges.specs.Listed.{IsListed, IsSortedByPoint};
+    ghost use Rattle.dom_ranges.specs.Pending.{shown_after, CanFollow};
 
-    ghost view = { λ t. shown t.live t.numbers };
+    ghost view = { λ t. shown_after t.pending t.stored };
 
-    ghost invariant = { λ t. HaveNumbers t.live t.numbers × IsListed t.live t.ends.items × IsSortedByPoint t.ends.items };
+    ghost invariant = { λ t. CanFollow t.pending t.stored };
 }
 
 impl RangeTable {
@@ -73,9 +66,8 @@ impl RangeTable {
         ensures { (o : Owners) → ranges_of result o ≡ [] }
     {
         RangeTable {
-            live: Slab::new(alloc),
-            ends: Vec::new(alloc),
-            numbers: Numbers::new(alloc),
+            stored: StoredRanges::new(alloc),
+            pending: None,
         }
     }
 
@@ -90,37 +82,12 @@ impl RangeTable {
         ensures other { IfErr result (λ fault. (fault ≡ Fault.Refused Refusal.Limit) ⊎ (fault ≡ Fault.Memory)) }
         ensures err { OnErr result ((o : Owners) → ranges_of self.new o ≡ ranges_of self.old o) }
     {
-        if self.count(owner) >= MAX_NODES as usize {
+        self.stored.settle(&self.pending);
+        self.pending = None;
+        if self.stored.count(owner) >= MAX_NODES as usize {
             return Err(Fault::Refused(Refusal::Limit));
         }
-        Ok(self.add(owner, node)?)
-    }
-
-    /// How many ranges an owner has made, removed ones counted.
-    fn count(&self, owner: Owner) -> usize
-        ensures { result ≡ length (ranges_of self.now owner) }
-    {
-        self.numbers.of(owner).len()
-    }
-
-    /// Makes a range with both ends at offset 0 of a node.
-    fn add(&mut self, owner: Owner, node: Key) -> Result<u32, AllocError>
-        requires { length (ranges_of self.old owner) < MAX_NODES }
-        ensures number { IfOk result (λ number. number ≡ length (ranges_of self.old owner)) }
-        ensures made { OnOk result ((o : Owners) →
-            ranges_of self.new o ≡ with_ranges self.old owner (ranges_of self.old owner ++ Some (from_to (at node 0) (at node 0)) ∷ []) o) }
-        ensures err { OnErr result ((o : Owners) → ranges_of self.new o ≡ ranges_of self.old o) }
-    {
-        let number = self.numbers.of(owner).len();
-        self.numbers.reserve(owner)?;
-        self.ends.reserve(2)?;
-        let slot = self.live.insert(Points {
-            start: (node, 0),
-            end: (node, 0),
-        })?;
-        self.numbers.push(owner, slot);
-        list_range(&mut self.ends, slot, node);
-        Ok(number as u32)
+        Ok(self.stored.add(owner, node)?)
     }
 
     /// Drops a range, whose number is not given again (own rule). Answers whether it was there.
@@ -128,20 +95,25 @@ impl RangeTable {
         ensures there { result ≡ is_some (range_in (ranges_of self.old owner) number) }
         ensures table { (o : Owners) → ranges_of self.new o ≡ with_ranges self.old owner (slice_set (ranges_of self.old owner) number None) o }
     {
-        let Some(slot) = self.numbers.slot(owner, number) else {
-            return false;
-        };
-        self.numbers.clear(owner, number);
-        drop_range(&mut self.live, &mut self.ends, slot);
-        true
+        self.stored.settle(&self.pending);
+        self.pending = None;
+        self.stored.remove(owner, number)
     }
 
     /// The ends of a range that is there (DOM Standard, interface AbstractRange).
     pub fn points(&self, owner: Owner, number: u32) -> Option<Points>
         ensures { option_map range_from result ≡ range_in (ranges_of self.now owner) number }
     {
-        let slot = self.numbers.slot(owner, number)?;
-        self.live.get(slot).copied()
+        let points = self.stored.points(owner, number)?;
+        let Some(insertion) = &self.pending else {
+            return Some(points);
+        };
+        let (start, from) = points.start;
+        let (end, to) = points.end;
+        Some(Points {
+            start: insertion.moved(start, from),
+            end: insertion.moved(end, to),
+        })
     }
 
     /// Gives a range another start (DOM Standard, setStart()): the end goes there too where it stands in another tree or
@@ -255,18 +227,16 @@ impl RangeTable {
         requires { IsSome (range_in (ranges_of self.old owner) number) }
         ensures { (o : Owners) → ranges_of self.new o ≡ with_ranges self.old owner (slice_set (ranges_of self.old owner) number (Some (range_from points))) o }
     {
-        if let Some(slot) = self.numbers.slot(owner, number) {
-            let ends = self.ends.as_mut_slice();
-            put_end(&mut self.live, ends, slot, false, points.start);
-            put_end(&mut self.live, ends, slot, true, points.end);
-        }
+        self.stored.settle(&self.pending);
+        self.pending = None;
+        self.stored.write(owner, number, points);
     }
 
     /// Whether no owner has a live range. Where it is so, no step of a change has to be told to the table.
     pub fn is_empty(&self) -> bool
         ensures { (result ≡ true) ↔ ((o : Owners) (k : ℕ) → range_in (ranges_of self.now o) k ≡ None) }
     {
-        self.live.is_empty()
+        self.stored.is_empty()
     }
 
     /// A number that no offset of a boundary point in a node is greater than: the greatest of these offsets, or 0 where there
@@ -275,7 +245,12 @@ impl RangeTable {
         ensures up_to { (o : Owners) → EachRange (BothEnds (IsUpTo node result)) (ranges_of self.now o) }
         ensures reached { (result ≡ 0) ⊎ HasEndAt self.now (at node result) }
     {
-        reach(self.ends.as_slice(), node)
+        let offset = self.stored.reach(node);
+        let Some(insertion) = &self.pending else {
+            return offset;
+        };
+        let (_, moved) = insertion.moved(node, offset);
+        moved
     }
 
     /// The index of a child, where boundary points stand behind the child in its parent.
@@ -285,7 +260,29 @@ impl RangeTable {
         ensures none { result ≡ None → (o : Owners) →
             EachRange (BothEnds (IsUpTo parent (index_of forest.now.trees (name_of forest.now child)))) (ranges_of self.now o) }
     {
-        index_before_ends(self.ends.as_slice(), forest, parent, child)
+        forest.index_below(child, self.reach(parent))
+    }
+
+    /// Tells the table that `count` nodes are to come into `parent` before its child at `index` (DOM Standard, concept:
+    /// insert): offsets in the parent that are greater than the index grow by the count. That is remembered: no end is moved yet, but
+    /// for an insertion that was remembered before and cannot be added to.
+    pub fn on_insert(&mut self, parent: Key, index: usize, count: usize)
+        requires { (o : Owners) → EachRange (BothEnds (λ b. Fits (after_insert nat_eq parent index count b))) (ranges_of self.old o) }
+        ensures { (o : Owners) → ranges_of self.new o ≡ ends_by (after_insert nat_eq parent index count) (ranges_of self.old o) }
+    {
+        let next = Insertion {
+            parent,
+            index,
+            count,
+        };
+        if let Some(insertion) = &self.pending {
+            if let Some(sum) = insertion.with_next(&next) {
+                self.pending = Some(sum);
+                return;
+            }
+        }
+        self.stored.settle(&self.pending);
+        self.pending = Some(next);
     }
 
     /// Tells the table that a node is to leave its parent, in whose tree it is still linked (DOM Standard, concept:
@@ -317,8 +314,9 @@ impl RangeTable {
             (after_removal nat_eq (is_inside forest.now node) parent (index_of forest.now.trees (name_of forest.now node)))
             (ranges_of self.old o) }
     {
-        let ends = self.ends.as_mut_slice();
-        move_out(&mut self.live, ends, forest, node, parent);
+        self.stored.settle(&self.pending);
+        self.pending = None;
+        self.stored.remove_child(forest, node, parent);
     }
 
     /// Tells the table that from `offset` on, `count` code units of a node give way to `length` others (DOM Standard,
@@ -357,30 +355,13 @@ impl RangeTable {
         }
     }
 
-    /// Tells the table that the data of the Text `next`, the child of `parent` at `index`, were put behind those of the
-    /// Text `first`, which had `length` code units (DOM Standard, normalize()): the boundary points in `next`, and the
-    /// one just before it, go to `first`.
-    pub fn on_join(&mut self, first: Key, length: usize, next: Key, parent: Key, index: usize)
-        requires { (o : Owners) → EachRange (BothEnds (λ b. Fits (after_join nat_eq first length next parent index b))) (ranges_of self.old o) }
-        ensures { (o : Owners) → ranges_of self.new o ≡ ends_by (after_join nat_eq first length next parent index) (ranges_of self.old o) }
-    {
-        let change = Join {
-            first,
-            length,
-            next,
-            parent,
-            index,
-        };
-        self.apply(&change);
-    }
-
     /// The index of a child, as far as boundary points stand in its parent.
     pub(crate) fn index_among(&self, forest: &Forest, parent: Key, child: Key) -> usize
         requires { IsNode forest.now child }
         ensures { (o : Owners) → EachRange (BothEnds (IsNear parent (index_of forest.now.trees (name_of forest.now child)) result))
             (ranges_of self.now o) }
     {
-        index_among_ends(self.ends.as_slice(), forest, parent, child)
+        index_past(forest, child, self.reach(parent))
     }
 
     /// Rewrites the ends of all ranges for a step of a change that tells which of them it may move.
@@ -388,6 +369,8 @@ impl RangeTable {
         requires { (o : Owners) → EachRange (BothEnds (C.can_move change.now)) (ranges_of self.old o) }
         ensures { (o : Owners) → ranges_of self.new o ≡ ends_by (C.rule change.now) (ranges_of self.old o) }
     {
-        move_concerned(&mut self.live, self.ends.as_mut_slice(), change);
+        self.stored.settle(&self.pending);
+        self.pending = None;
+        self.stored.apply(change);
     }
 }

@@ -1,16 +1,11 @@
-use Rattle.dom_ranges.proofs.Cited.{sym, ◌∙◌, slice_get, option_flatten, eqb-true, eq-eqb, slab_len, slots_of}
-use Rattle.dom_ranges.proofs.Vacant.{none-kept, none-held}
-use Rattle.dom_ranges.proofs.Writing.{Shows-view, range_in-held}
+use Rattle.dom_ranges.proofs.Cited.{ℕ, ap, sym, ◌∙◌, Owner, range_in, RangeLists, ranges_of}
+use Rattle.dom_ranges.proofs.Pending.{none-alike}
 use Rattle.dom_ranges.proofs.table.RangeTable.is_empty.Goals as goal
 
 pub returns : goal.returns
 returns c =
-    let shows = Shows-view c.self.inside.live c.self.inside.numbers _ c.self.view_is in (
-      λ is o k.
-          range_in-held c.self.inside.live c.self.inside.numbers _ shows o k
-          ∙ none-kept c.self.inside.live (eqb-true (slab_len c.self.inside.live) 0 (sym c.is_empty.ensures ∙ is))
-          (option_flatten (slice_get (slots_of c.self.inside.numbers o) k)),
-      λ none.
-          c.is_empty.ensures ∙ eq-eqb (slab_len c.self.inside.live) 0
-          (none-held c.self.inside.live c.self.inside.numbers _ shows c.self.invariant.0 none),
+    let at = λ (o : Owner) (k : ℕ) (t : RangeLists). range_in (ranges_of t o) k in
+    let alike = none-alike c.self.inside.pending c.self.inside.stored in (
+      λ is o k. ap (at o k) (sym c.self.view_is) ∙ (alike o k).1 (c.is_empty.ensures.0 is o k),
+      λ none. c.is_empty.ensures.1 (λ o k. (alike o k).0 (ap (at o k) c.self.view_is ∙ none o k)),
     )

@@ -1,6 +1,6 @@
 use Rattle.dom_ranges.proofs.Cited.{ℕ, ap, ◌∙◌, length, Option}
 use Rattle.dom_ranges.proofs.Writing.{Shows-view, length-ranges}
-use Rattle.dom_ranges.proofs.table.RangeTable.count.Goals as goal
+use Rattle.dom_ranges.proofs.stored.StoredRanges.count.Goals as goal
 
 pub returns : goal.returns
 returns c =

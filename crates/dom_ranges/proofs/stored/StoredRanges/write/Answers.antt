@@ -3,8 +3,8 @@ use Rattle.dom_ranges.proofs.Cited.{range_kept, RangeEnd, with_end_at, Updates, 
 use Rattle.dom_ranges.proofs.Writing.{Shows-view, range_in-held, slot-under, ranges-written, HaveNumbers-same, HoldSame-written}
 use Rattle.dom_ranges.proofs.Listing.{both-put}
 use Rattle.dom_ranges.proofs.Gathering.{written-back}
-use Rattle.dom_ranges.proofs.table.RangeTable.write.Goals.{After-put_end-in-Some}
-use Rattle.dom_ranges.proofs.table.RangeTable.write.Goals as goal
+use Rattle.dom_ranges.proofs.stored.StoredRanges.write.Goals.{After-put_end-in-Some}
+use Rattle.dom_ranges.proofs.stored.StoredRanges.write.Goals as goal
 
 -- the slot of the range holds one
 held : (c : After-put_end-in-Some) → IsSome (get c.self.inside.live c.in-Some.slot)

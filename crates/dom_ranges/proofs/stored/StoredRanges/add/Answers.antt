@@ -2,7 +2,7 @@ use Rattle.dom_ranges.proofs.Cited.{◌≡◌, ℕ, List, [], ◌∷◌, ◌++�
 use Rattle.dom_ranges.proofs.Cited.{IsPermutation, get, Slab, at, end_in, HaveNumbers, IsListed, IsSortedByPoint, Points, RangeEnd, ranges_of}
 use Rattle.dom_ranges.proofs.Listing.{IsListed-added, IsListed-same}
 use Rattle.dom_ranges.proofs.Writing.{Shows, Shows-view, Shows-same, HaveNumbers-same, HaveNumbers-pushed, ranges-shown, ranges-pushed, length-ranges}
-use Rattle.dom_ranges.proofs.table.RangeTable.add.Goals as goal
+use Rattle.dom_ranges.proofs.stored.StoredRanges.add.Goals as goal
 
 -- a fact holds of a refused call too
 on_err : {T E : Type 0} (r : Result T E) (P : Type 0) → P → OnErr r P

@@ -1,6 +1,6 @@
 use Rattle.dom_ranges.proofs.Cited.{◌≡◌, None, is_some, ap, sym, ◌∙◌, slice_get_within, get, range_in, range_kept, ranges_of, slots_of, StandsUnder}
 use Rattle.dom_ranges.proofs.Writing.{Shows-view, range_in-held, slot-under, not_there, is_some-kept, HaveNumbers-cleared, ranges-cleared}
-use Rattle.dom_ranges.proofs.table.RangeTable.remove.Goals as goal
+use Rattle.dom_ranges.proofs.stored.StoredRanges.remove.Goals as goal
 
 -- no range has this number
 absent : (c : goal.In_default) → range_in (ranges_of c.args.self.now c.args.owner) c.args.number ≡ None
