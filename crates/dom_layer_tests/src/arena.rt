@@ -103,7 +103,13 @@ fn move_children(rt: &impl Abort, arena: &mut Arena<u32>, root: Key, one: Key, t
     assert!(rt; arena.is_inclusive_ancestor(root, three));
     assert!(rt; arena.is_inclusive_ancestor(root, root));
     assert!(rt; !arena.is_inclusive_ancestor(three, root));
+    assert!(rt; !arena.is_known_above(root, three));
+    arena.remember_ancestor(root, two);
+    assert!(rt; arena.is_known_above(root, one));
+    assert!(rt; arena.is_known_above(root, two));
+    assert!(rt; arena.is_known_above(root, three));
     arena.unlink(one);
+    assert!(rt; !arena.is_known_above(root, three));
     check_children(rt, arena, root, &[]);
     check_children(rt, arena, one, &[2]);
 }

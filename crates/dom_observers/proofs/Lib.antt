@@ -13,3 +13,4 @@ pub mod Speaking
 mod Staying
 mod There
 mod Watching
+mod Nearest

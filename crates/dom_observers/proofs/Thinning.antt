@@ -28,10 +28,6 @@ filter-weaker q p (k ∷ ks) weak =
 
 -- ---- places of which some were dropped
 
--- none was
-pub thinned-none : {rs : List Registered} {a : List ℕ} → AreThinned rs a a
-thinned-none = record { there = refl; fewer = λ i e. e }
-
 -- all of those that have gone were
 pub thinned-all : (rs : List Registered) (a : List ℕ) → AreThinned rs a (there_of rs a)
 thinned-all rs a =

@@ -1,5 +1,5 @@
 //! Which nodes are marked.
-ghost use Rattle.std.specs.Prelude.{◌≡◌, ℕ, ◌<◌, length, nat_eq, true, if◌then◌else◌, IfOk, OnOk, OnErr};
+ghost use Rattle.std.specs.Prelude.{◌≡◌, ℕ, ◌<◌, length, nat_eq, true, Some, if◌then◌else◌, IfOk, OnOk, OnErr};
 ghost use Rattle.std.specs.Option.{ForSome};
 ghost use Rattle.dom_tree.specs.Forest.{IsNode};
 ghost use Rattle.dom_observers.specs.Marks.{marked_in, is_marked, IsNearest};
@@ -58,9 +58,50 @@ impl Marks {
         }
     }
 
+    /// The node that is marked, where it is one alone.
+    pub(crate) fn only(&self) -> Option<Key>
+        ensures { ForSome result (λ k. (x : ℕ) → is_marked self.now x ≡ nat_eq k x) }
+    {
+        match self {
+            Marks::One(only) => Some(*only),
+            _ => None,
+        }
+    }
+
     /// The nearest node that is marked, of a node and its ancestors, where one is given (DOM Standard, concept: inclusive ancestor).
-    #[inline(never)]
+    /// Where one alone is marked, and is known to stand above, there is no walk.
     pub(crate) fn nearest(&self, forest: &Forest, from: Option<Key>) -> Option<Key>
+        requires { ForSome from (IsNode forest.now) }
+        ensures { IsNearest forest.now self.now from result }
+    {
+        let start = from;
+        match self.known_above(forest, start) {
+            Some(only) => Some(only),
+            None => self.nearest_by_walk(forest, from),
+        }
+    }
+
+    /// The node that is marked alone, where the forest knows that it stands above another one.
+    fn known_above(&self, forest: &Forest, from: Option<Key>) -> Option<Key>
+        requires { ForSome from (IsNode forest.now) }
+        ensures { ForSome result (λ k. IsNearest forest.now self.now from (Some k)) }
+    {
+        forest.law_nodes_stand_once();
+        let Some(node) = from else {
+            return None;
+        };
+        let Marks::One(only) = self else {
+            return None;
+        };
+        if !forest.is_known_above(*only, node) {
+            return None;
+        }
+        Some(*only)
+    }
+
+    /// The nearest node that is marked, as `nearest` says, by a walk upwards.
+    #[inline(never)]
+    fn nearest_by_walk(&self, forest: &Forest, from: Option<Key>) -> Option<Key>
         requires { ForSome from (IsNode forest.now) }
         ensures { IsNearest forest.now self.now from result }
     {

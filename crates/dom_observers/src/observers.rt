@@ -129,12 +129,21 @@ impl Observers {
     pub fn is_watched(&self, owner: Owner) -> bool
         ensures { result ≡ not (is_empty (tables_of self.now owner).registrations) }
     {
+        let (watched, _) = self.watch(owner);
+        watched
+    }
+
+    /// Whether an owner has registrations, as `is_watched` says, and the one node from which what is below it may be observed, where
+    /// no other is known (own rule): the forest is to remember of it that it stands above a node of which a record is queued.
+    pub fn watch(&self, owner: Owner) -> (bool, Option<Key>)
+        ensures { result.0 ≡ not (is_empty (tables_of self.now owner).registrations) }
+    {
         if self.tables.is_empty() {
-            return false;
+            return (false, None);
         }
         match self.tables.get(&owner) {
-            Some(table) => !table.has_no_registration(),
-            None => false,
+            Some(table) => (!table.has_no_registration(), table.only_above()),
+            None => (false, None),
         }
     }
 

@@ -71,6 +71,11 @@ impl Registrations {
         self.list.len() == self.gone
     }
 
+    /// The one node from which what is below it may be observed, where those that are noted tell of no other (own rule).
+    pub(crate) fn only_above(&self) -> Option<Key> {
+        self.watched.only_above()
+    }
+
     /// The observers that are interested in a change of a node, found by looks at the registrations on its inclusive ancestors alone
     /// (DOM Standard, queue a mutation record: interested observers). An ancestor without registrations that observe what is below it takes
     /// one look.

@@ -57,6 +57,11 @@ impl Table {
         self.registrations.is_empty()
     }
 
+    /// The one node from which what is below it may be observed, where no other is known (own rule).
+    pub(crate) fn only_above(&self) -> Option<Key> {
+        self.registrations.only_above()
+    }
+
     /// Whether there is an observer of a number.
     pub(crate) fn has(&self, observer: u32) -> bool
         ensures { result ≡ is_some (slice_get (table_of self.now).record_queues observer) }

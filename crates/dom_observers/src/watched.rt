@@ -121,6 +121,13 @@ impl Watched {
         }
     }
 
+    /// The one node from which what is below it may be observed, where there is no other among those that are noted.
+    pub(crate) fn only_above(&self) -> Option<Key>
+        ensures { ForSome result (λ k. (x : ℕ) → is_marked self.now.above x ≡ nat_eq k x) }
+    {
+        self.above.only()
+    }
+
     /// The nearest node from which what is below it may be observed, of a node and its ancestors, where one is given.
     pub(crate) fn nearest_above(&self, forest: &Forest, from: Option<Key>) -> Option<Key>
         requires { ForSome from (IsNode forest.now) }

@@ -235,6 +235,17 @@ impl Cursors {
         tables.walker_at(number)
     }
 
+    /// The root of an owner's walker and its current node, which may stand elsewhere (DOM Standard, root and currentNode).
+    pub fn walker_ends(&self, owner: Owner, number: u32) -> (Key, Key)
+        requires { is_some (slice_get (cursors_of self.now owner).walkers number) ≡ true }
+        ensures { ForSome (slice_get (cursors_of self.now owner).walkers number) (λ w. result ≡ (w.root, w.current)) }
+    {
+        let Some(tables) = self.tables.get(&owner) else {
+            unreachable!()
+        };
+        tables.walker_ends(number)
+    }
+
     /// Makes a node the current one of an owner's walker (DOM Standard, currentNode).
     pub fn set_walker(&mut self, owner: Owner, number: u32, current: Key)
         requires { is_some (slice_get (cursors_of self.old owner).walkers number) ≡ true }

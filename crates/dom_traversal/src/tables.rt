@@ -231,6 +231,15 @@ impl OwnTables {
         self.walkers[number as usize].at()
     }
 
+    /// The root and the current node of a walker.
+    pub(crate) fn walker_ends(&self, number: u32) -> (Key, Key)
+        requires { is_some (slice_get self.now.walkers number) ≡ true }
+        ensures { ForSome (slice_get self.now.walkers number) (λ w. result ≡ (w.root, w.current)) }
+    {
+        let walker = &self.walkers[number as usize];
+        (walker.root(), walker.at())
+    }
+
     /// Makes a node the current one of a walker.
     pub(crate) fn set_walker(&mut self, number: u32, current: Key)
         requires { is_some (slice_get self.old.walkers number) ≡ true }

@@ -52,6 +52,13 @@ impl Walker {
         }
     }
 
+    /// The root (DOM Standard, root).
+    pub(crate) fn root(&self) -> Key
+        ensures { result ≡ self.now.root }
+    {
+        self.root
+    }
+
     /// The current node (DOM Standard, currentNode).
     pub fn at(&self) -> Key
         ensures { result ≡ self.now.current }

@@ -95,6 +95,25 @@ impl Parts {
         requires { is_some (slice_get (part_of self.old.world owner).walkers number) ≡ true }
         ensures { MovesTo owner (Command.walk number step) result self.old self.new }
     {
+        self.remember_root(owner, number);
+        self.move_walker(owner, number, step)
+    }
+
+    /// Has the forest remember that a walker's current node stands in the tree of its root: the move asks for this, and most moves
+    /// go to a node near by, from which the next one asks again (own rule). Nothing is changed that can be seen.
+    fn remember_root(&mut self, owner: Owner, number: u32)
+        requires { is_some (slice_get (part_of self.old.world owner).walkers number) ≡ true }
+        ensures { self.new ≡ self.old }
+    {
+        let (root, current) = self.cursors.walker_ends(owner, number);
+        self.trees.forest.remember_ancestor(root, current);
+    }
+
+    /// Moves a walker, as `walk` says.
+    fn move_walker(&mut self, owner: Owner, number: u32, step: Move) -> Option<Key>
+        requires { is_some (slice_get (part_of self.old.world owner).walkers number) ≡ true }
+        ensures { MovesTo owner (Command.walk number step) result self.old self.new }
+    {
         self.cursors.walk(owner, &self.trees.forest, number, step)
     }
 

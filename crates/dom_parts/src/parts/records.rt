@@ -34,17 +34,19 @@ impl Parts {
             (queue_record (child_list (name_in self.old target) (map (name_in self.old) added.now) (map (name_in self.old) removed.now)
             (option_map (name_in self.old) prev) (option_map (name_in self.old) next))) self.old) }
     {
-        if !self.is_watched(target) {
+        let (watched, top) = self.watch(target);
+        if !watched {
             return Ok(());
         }
         let alloc = self.alloc;
-        self.record(Change::ChildList {
+        let change = Change::ChildList {
             target,
             added: Vec::from_slice(alloc, added)?,
             removed: Vec::from_slice(alloc, removed)?,
             previous: prev,
             next,
-        })
+        };
+        self.record(top, change)
     }
 
     /// Queues a mutation record of an attribute, before it changes (DOM Standard, queue a mutation record).
@@ -54,16 +56,18 @@ impl Parts {
             (queue_record (attributes (name_in self.old node) name.now
             (attribute_value (node_in (trees_in self.old node) (name_in self.old node)) name.now))) self.old) }
     {
-        if !self.is_watched(node) {
+        let (watched, top) = self.watch(node);
+        if !watched {
             return Ok(());
         }
         let alloc = self.alloc;
         let old = self.old_value(node, name)?;
-        self.record(Change::Attributes {
+        let change = Change::Attributes {
             target: node,
             name: String::from_str(alloc, name)?,
             old,
-        })
+        };
+        self.record(top, change)
     }
 
     /// Queues a mutation record of data, before they change (DOM Standard, queue a mutation record).
@@ -72,15 +76,17 @@ impl Parts {
         ensures { OnOk result (self.new ≡ stepped (owner_in self.old node)
             (queue_record (character_data (name_in self.old node) (Some (node_in (trees_in self.old node) (name_in self.old node)).text))) self.old) }
     {
-        if !self.is_watched(node) {
+        let (watched, top) = self.watch(node);
+        if !watched {
             return Ok(());
         }
         let alloc = self.alloc;
         let old = Vec::from_slice(alloc, self.text(node))?;
-        self.record(Change::CharacterData {
+        let change = Change::CharacterData {
             target: node,
             old: Some(old),
-        })
+        };
+        self.record(top, change)
     }
 
     /// A copy of the value of an attribute, where there is one.
@@ -94,19 +100,40 @@ impl Parts {
         }
     }
 
-    /// Whether a node's owner has registrations. Where it has none the record of a change of the node changes nothing.
-    fn is_watched(&self, node: Key) -> bool
+    /// Whether a node's owner has registrations, and the one node from which what is below it may be observed, where no other is
+    /// known. Where the owner has none the record of a change of the node changes nothing.
+    fn watch(&self, node: Key) -> (bool, Option<Key>)
         requires { HoldsNode self.now node }
-        ensures { result ≡ false → (c : ChangeOf NodeName) → self.now ≡ stepped (owner_in self.now node) (queue_record c) self.now }
+        ensures { result.0 ≡ false → (c : ChangeOf NodeName) → self.now ≡ stepped (owner_in self.now node) (queue_record c) self.now }
     {
-        self.observers
-            .is_watched(self.trees.forest.name(node).owner)
+        self.observers.watch(self.trees.forest.name(node).owner)
     }
 
     /// The record of a change goes to the observers that are interested in it, and where there are some their owner's
     /// notification is queued (DOM Standard, queue a mutation record). Where memory is refused no owner has an observer, or
-    /// the notification is not queued.
-    fn record(&mut self, change: Change) -> Result<(), AllocError>
+    /// the notification is not queued. A node from which what is below it is observed helps to find them sooner.
+    fn record(&mut self, top: Option<Key>, change: Change) -> Result<(), AllocError>
+        requires { NamesNodes self.old change }
+        ensures { OnOk result (self.new ≡ stepped (owner_in self.old (target_of (change_of change))) (queue_record (change_in self.old change)) self.old) }
+    {
+        self.remember_top(top, change.target());
+        self.tell(change)
+    }
+
+    /// Has the forest remember that a node stands above one that changes, where it does (own rule). Nothing is changed that can be
+    /// seen.
+    fn remember_top(&mut self, top: Option<Key>, node: Key)
+        requires { HoldsNode self.old node }
+        ensures { self.new ≡ self.old }
+    {
+        let Some(top) = top else {
+            return;
+        };
+        self.trees.forest.remember_ancestor(top, node);
+    }
+
+    /// The record of a change goes to the observers that are interested in it, as `record` says.
+    fn tell(&mut self, change: Change) -> Result<(), AllocError>
         requires { NamesNodes self.old change }
         ensures { OnOk result (self.new ≡ stepped (owner_in self.old (target_of (change_of change))) (queue_record (change_in self.old change)) self.old) }
     {

@@ -1,7 +1,7 @@
 use Rattle.dom_base.proofs.Std.{◌≡◌, length, filter, ForSome}
 use Rattle.dom_tree.specs.Definitions.{IsNode}
 use Rattle.dom_observers.specs.Definitions.{keys_from, is_marked}
-use Rattle.dom_observers.proofs.marks.Marks.nearest.Given as goal
+use Rattle.dom_observers.proofs.marks.Marks.nearest_by_walk.Given as goal
 
 abbrev pub invariant-loop-at : goal.invariant-loop-at
 invariant-loop-at l = record {

@@ -2,7 +2,7 @@ use Rattle.dom_base.proofs.Std.{◌∷◌, refl, sym, ap, ◌∙◌, subst, same
 use Rattle.dom_observers.specs.Definitions.{keys_from, is_marked}
 use Rattle.dom_observers.proofs.Ascending.{climbs, climbs-fewer}
 use Rattle.dom_observers.proofs.Watching.{none_near}
-use Rattle.dom_observers.proofs.marks.Marks.nearest.Goals as goal
+use Rattle.dom_observers.proofs.marks.Marks.nearest_by_walk.Goals as goal
 
 pub loop-at-init : goal.loop-at-init
 loop-at-init c = record { node = c.requires; others = refl }

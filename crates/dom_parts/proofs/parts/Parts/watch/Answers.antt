@@ -1,6 +1,6 @@
 use Rattle.dom_parts.proofs.Cited.{◌≡◌, false, not, List, [], ◌∷◌, refl, sym, ap, ◌∙◌, is_empty, name_at, tables_of}
 use Rattle.dom_parts.proofs.Shown.{untold}
-use Rattle.dom_parts.proofs.parts.Parts.is_watched.Goals as goal
+use Rattle.dom_parts.proofs.parts.Parts.watch.Goals as goal
 
 none_there : {X : Type 0} (xs : List X) → not (is_empty xs) ≡ false → xs ≡ []
 none_there [] e = refl
@@ -12,4 +12,4 @@ returns c off change =
     let owner = ap (λ n. n.owner) c.name.ensures.at in
     untold f c.self.invariant c.self.view_is c.args.node c.requires
     (none_there (tables_of c.self.inside.observers (name_at f.names c.args.node).owner).registrations
-    (ap (λ o. not (is_empty (tables_of c.self.inside.observers o).registrations)) owner ∙ sym c.is_watched.ensures ∙ off)) change
+    (ap (λ o. not (is_empty (tables_of c.self.inside.observers o).registrations)) owner ∙ sym c.watch.ensures ∙ off)) change

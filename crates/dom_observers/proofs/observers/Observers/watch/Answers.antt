@@ -2,7 +2,7 @@ use Rattle.dom_base.proofs.Std.{ℕ, not, sym, ap, ◌∙◌}
 use Rattle.dom_model.proofs.Model.{is_empty}
 use Rattle.dom_observers.specs.Definitions.{TablesOf}
 use Rattle.dom_observers.proofs.Lookups.{had, had-none}
-use Rattle.dom_observers.proofs.observers.Observers.is_watched.Goals as goal
+use Rattle.dom_observers.proofs.observers.Observers.watch.Goals as goal
 
 pub returns-in-Some : goal.returns-in-Some
 returns-in-Some c =
