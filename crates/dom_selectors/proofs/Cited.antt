@@ -3,10 +3,10 @@ pub use Rattle.dom_base.proofs.Std.{[], All, All-push, and_from, and_left, and_p
 pub use Rattle.dom_base.proofs.Std.{cond-false, cond-true, cond_both, drop, eq-eqb, eqb-true, false, false_from_ne_true, false≢true, filter, find, fold}
 pub use Rattle.dom_base.proofs.Std.{fold-append, ForSome, get_or, if◌then◌else◌, inl, inr, is_some, IsAscii, IsUtf8-from_ascii, length, length-append}
 pub use Rattle.dom_base.proofs.Std.{length-drop, List, list_all, list_all-append, list_any, list_any-append, lt-ltb, ltb-true, map, map-append, map-id}
-pub use Rattle.dom_base.proofs.Std.{MatchOption, nat_eq, nat_lt, nat_tests, ne_eqb, None, none-some, not, not-false, one-add, Option, option_and_then}
+pub use Rattle.dom_base.proofs.Std.{MatchOption, nat_eq, nat_lt, nat_tests, None, none-some, not, not-false, one-add, Option, option_and_then}
 pub use Rattle.dom_base.proofs.Std.{option_map, option_map_or, option_or, option_to_list, or_cases, or_left, or_parts, or_right, prefix_len, refl, same_Some}
 pub use Rattle.dom_base.proofs.Std.{slice_index_or, Some, starts_with, subst, suc, sym, take, take_all, take_while, take_while-cons, true, true≢false}
-pub use Rattle.dom_base.proofs.Std.{unwrap_or, zero, ℕ, ⊤, ◌&&◌, ◌++◌, ◌+◌, ◌<◌, ◌==◌, ◌||◌, ◌∙◌, ◌∷◌, ◌≡◌, ◌≤◌, ◌⊎◌}
+pub use Rattle.dom_base.proofs.Std.{unwrap_or, zero, ℕ, ⊤, ◌&&◌, ◌++◌, ◌+◌, ◌<◌, ◌==◌, ◌||◌, ◌∙◌, ◌∷◌, ◌≡◌, ◌≤◌}
 pub use Rattle.dom_model.proofs.Model.{alone, ancestors, attribute_value, AttributeTest, begins, begins_name, begins_with_dash, child, children_of, closed_by}
 pub use Rattle.dom_model.proofs.Model.{Combinator, combined_with, Complex, complex_matches, compound_matches, CompoundPart, continues_name, descendant}
 pub use Rattle.dom_model.proofs.Model.{descendants, DomString, drop_while, elements_before, ends, equals, expect, first_child, first_of, has_node, has_word}
@@ -21,7 +21,7 @@ pub use Rattle.dom_model.proofs.Model.{with_value, Word, words_from}
 pub use Rattle.dom_laws.proofs.Laws.{above-itself, above-proper, above-root, above-split, after-split, all_single, before-split, below, child-of_parent}
 pub use Rattle.dom_laws.proofs.Laws.{children-single, filter-no, filter-none, filter-yes, first-hit, first_split, Has, Has-above, Has-names, has_or_not, here}
 pub use Rattle.dom_laws.proofs.Laws.{In, In-from, In-left, In-names, In-parts, In-right, is_in-from, is_in-not, IsWithin, last-hit, last-miss, last_split}
-pub use Rattle.dom_laws.proofs.Laws.{name_eq-from, no_first, no_last, Once, ordered, parent-of_child, proper-parent, same_or_not, Single, Single-apart}
+pub use Rattle.dom_laws.proofs.Laws.{no_first, no_last, Once, ordered, parent-of_child, proper-parent, Single, Single-apart}
 pub use Rattle.dom_laws.proofs.Laws.{split_at, stands_in, top_places, within-member}
 pub use Rattle.dom_laws.specs.Within.{behind, from_node}
 pub use Rattle.dom_model.specs.SelectorText.{whole}
@@ -42,3 +42,4 @@ pub use Rattle.dom_tree.proofs.Standing.{Has-forest, name_found, Once-forest, ot
 pub use Rattle.dom_tree.specs.Definitions.{AreOwned, name_at, NamedTrees, StandsIn}
 pub use Rattle.dom_tree.specs.Ids.{HasId, MayBear}
 pub use Rattle.dom_tree.specs.Owners.{NearLaw}
+pub use Rattle.node_arena.specs.Spots.{key_in}

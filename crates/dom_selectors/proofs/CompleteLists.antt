@@ -96,11 +96,6 @@ part-none : (rest : DomString) → head_passes begins_part rest ≡ false → re
 part-none [] h = refl
 part-none (c ∷ cs) h = let d = no-sign c h in rw (d.0, d.1, d.2, d.3) refl
 
--- nor NAME or `*` where a part begins
-type-none : (text rest : DomString) → head_passes begins_part text ≡ true → read_type_name (text ++ rest) ≡ None
-type-none [] rest h = cc
-type-none (c ∷ text) rest h = rw (part_not_begin c h, part_not_star c h) refl
-
 -- a compound begins where a part does, or a name
 of_head : (t : DomString) → head_passes begins_part t ≡ true → Begins t
 of_head [] h = cc

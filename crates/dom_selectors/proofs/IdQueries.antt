@@ -1,11 +1,11 @@
 -- Queries that one node alone may answer.
-use Rattle.dom_selectors.proofs.Cited.{◌≡◌, ◌⊎◌, inl, inr, ℕ, zero, suc, ◌<◌, Bool, true, false, not, ◌&&◌, ◌||◌, true≢false, List, [], ◌∷◌, length, Option}
+use Rattle.dom_selectors.proofs.Cited.{◌≡◌, inl, inr, ℕ, zero, suc, ◌<◌, Bool, true, false, not, ◌&&◌, ◌||◌, true≢false, List, [], ◌∷◌, length, Option}
 use Rattle.dom_selectors.proofs.Cited.{Some, None, refl, sym, ap, subst, ◌∙◌, drop, map, filter, list_all, get_or, option_map_or, codes, arith, cases_Bool}
 use Rattle.dom_selectors.proofs.Cited.{and_parts, false_from_ne_true, Trees, NodeName, name_eq, is_in, inclusive_descendants, descendants, name_eq-other}
-use Rattle.dom_selectors.proofs.Cited.{compound_matches, complex_matches, selector_matches, DomString, kind_of, is_element, node_in, attribute_value}
+use Rattle.dom_selectors.proofs.Cited.{compound_matches, selector_matches, DomString, kind_of, is_element, node_in, attribute_value}
 use Rattle.dom_selectors.proofs.Cited.{value_passes, simple_matches, Owner, has_node, names_of, nodes, NamedTrees, name_at, AreOwned, HasId, NearLaw, StandOnce}
-use Rattle.dom_selectors.proofs.Cited.{StandAlone, name_found, IsWithin-itself, text_same, In, In-from, is_in-from, is_in-not, In-names, Single, name_eq-from}
-use Rattle.dom_selectors.proofs.Cited.{same_or_not, filter-yes, filter-no, filter-none, IsWithin, all_single, here, below, stands_in, within-member}
+use Rattle.dom_selectors.proofs.Cited.{StandAlone, name_found, IsWithin-itself, text_same, In, In-from, is_in-from, is_in-not, In-names, Single}
+use Rattle.dom_selectors.proofs.Cited.{filter-yes, filter-no, filter-none, IsWithin, all_single, here, below, stands_in, within-member}
 use Rattle.dom_model.specs.Selectors.{Complex, of_id, equals, part_matches}
 use Rattle.dom_selectors.specs.declared.selector.CompoundPart.{CompoundPart}
 use Rattle.dom_selectors.specs.Views.{part_view, compound_view}

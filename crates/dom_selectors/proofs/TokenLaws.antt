@@ -1,6 +1,6 @@
 -- What the readers of the definitions do at the first units.
 use Rattle.dom_selectors.proofs.Cited.{◌≡◌, ℕ, suc, ◌+◌, Bool, true, false, cond, List, [], ◌∷◌, length, take, drop, Some, None, one-add, refl, ap, sym, ◌∙◌}
-use Rattle.dom_selectors.proofs.Cited.{◌&&◌, ◌||◌, ◌==◌, nat_eq, slice_index_or, if◌then◌else◌, prefix_len, starts_with, or_left, cond-true, cond-false, ne_eqb}
+use Rattle.dom_selectors.proofs.Cited.{◌&&◌, ◌||◌, ◌==◌, nat_eq, slice_index_or, if◌then◌else◌, prefix_len, starts_with, or_left, cond-true}
 use Rattle.dom_selectors.proofs.Cited.{DomString, begins_name, continues_name, is_digit, drop_while, expect, read_name}
 
 -- the units behind those that pass are those behind their number
@@ -34,11 +34,3 @@ name_at (c ∷ cs) h = name_from c cs h
 pub expect_at : (t : ℕ) (ts : List ℕ) (c : ℕ) (cs : List ℕ) → expect (t ∷ ts) (c ∷ cs) ≡ (if t == c then expect ts cs else None)
 expect_at t ts c cs = elim (t == c) as (λ b.
     (if b && starts_with nat_eq cs ts then Some (drop (length ts) cs) else None) ≡ (if b then expect ts cs else None)) [ true ↦ refl | false ↦ refl ]
-
--- at another one it is not there
-expect_other : (t : ℕ) (ts : List ℕ) (c : ℕ) (cs : List ℕ) → (t ≡ c → ⊥) → expect (t ∷ ts) (c ∷ cs) ≡ None
-expect_other t ts c cs h = expect_at t ts c cs ∙ cond-false (t == c) (expect ts cs) None (ne_eqb t c h)
-
--- nor is it where no unit is left
-expect_none : (t : ℕ) (ts : List ℕ) → expect (t ∷ ts) [] ≡ None
-expect_none t ts = refl

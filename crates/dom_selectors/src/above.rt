@@ -5,6 +5,7 @@ ghost use Rattle.std.specs.Option.{ForSome};
 ghost use Rattle.dom_model.specs.Tree.{ancestors};
 ghost use Rattle.dom_model.specs.Selectors.{complex_matches as spec_complex_matches, descendant};
 ghost use Rattle.dom_tree.specs.Forest.{IsNode, name_of};
+ghost use Rattle.dom_tree.specs.Spots.{name_here};
 ghost use Rattle.dom_selectors.specs.Known.{IsKnown, left_part};
 ghost use Rattle.dom_selectors.specs.Search.{last_compound};
 ghost use Rattle.dom_selectors.specs.Views.{combinator_view, compound_view, complex_from, complex_view};
@@ -12,7 +13,7 @@ ghost use Rattle.dom_selectors.specs.Views.{combinator_view, compound_view, comp
 use crate::joined::{ancestors_match, segments_match};
 use crate::matching::compound_matches;
 use crate::selector::{Combinator, Complex, CompoundPart, Link};
-use dom_tree::Forest;
+use dom_tree::{Forest, NodeAt};
 use node_arena::Key;
 
 /// Whether a node, the parent of some, or one above it matches.
@@ -73,24 +74,24 @@ fn is_descendant(combinator: Combinator) -> bool
 /// Behind white space what is remembered is asked before the tree.
 #[inline(always)]
 pub(crate) fn matches_knowing(
-    forest: &Forest,
+    node: &NodeAt,
     complex: &Complex,
     last: &[CompoundPart],
-    key: Key,
     known: &mut Option<Above>,
 ) -> bool
-    requires node { IsNode forest.now key }
     requires last { compound_view last.now ≡ last_compound (complex_view complex.now) }
-    requires known { IsKnown forest.now (left_part (complex_view complex.now)) known.old }
-    ensures value { result ≡ spec_complex_matches forest.now.trees (complex_view complex.now) (name_of forest.now key) }
-    ensures known { IsKnown forest.now (left_part (complex_view complex.now)) known.new }
+    requires known { IsKnown node.now.whole (left_part (complex_view complex.now)) known.old }
+    ensures value { result ≡ spec_complex_matches node.now.whole.trees (complex_view complex.now) (name_here node.now) }
+    ensures known { IsKnown node.now.whole (left_part (complex_view complex.now)) known.new }
 {
-    if !compound_matches(forest, last, key) {
+    if !compound_matches(node, last) {
         return false;
     }
     let Some((link, left)) = complex.links.as_slice().split_last() else {
         return true;
     };
+    let forest = node.forest();
+    let key = node.key();
     if !is_descendant(link.combinator) {
         return segments_match(forest, complex, key);
     }

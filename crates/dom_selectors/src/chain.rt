@@ -68,7 +68,7 @@ pub(crate) fn last_matches(
     requires { IsNode forest.now key }
     ensures { result ≡ spec_compound_matches forest.now.trees (last_compound (complex_from first.now links.now)) (name_of forest.now key) }
 {
-    compound_matches(forest, last_of(first, links), key)
+    compound_matches(&forest.at(key), last_of(first, links))
 }
 
 /// Where the chain from a node that matches the compound on the right ends: before white space, before `~` or with the first

@@ -6,13 +6,14 @@ ghost use Rattle.std.specs.List.{list_any};
 ghost use Rattle.dom_model.specs.Tree.{ancestors};
 ghost use Rattle.dom_model.specs.Selectors.{compound_matches as spec_compound_matches, complex_matches as spec_complex_matches};
 ghost use Rattle.dom_tree.specs.Forest.{IsNode, name_of};
+ghost use Rattle.dom_tree.specs.Spots.{name_here};
 ghost use Rattle.dom_selectors.specs.Search.{SegmentEnds, SegmentIsAbove, StopsAt, IsDescendant, last_compound};
 ghost use Rattle.dom_selectors.specs.Views.{compound_view, complex_from, complex_view};
 
 use crate::chain::{Place, chain_before, chain_end, last_matches, last_of};
 use crate::matching::compound_matches;
 use crate::selector::{Combinator, Complex, CompoundPart, Link};
-use dom_tree::Forest;
+use dom_tree::{Forest, NodeAt};
 use node_arena::Key;
 
 /// Where the segment, chains joined by `~`, from a node that matches the compound on the right ends: before white space or with the
@@ -156,16 +157,10 @@ pub(crate) fn last_of_complex(complex: &Complex) -> &[CompoundPart]
 
 /// Whether a node matches a complex selector, whose compound on the right is given. That is tried first, since most nodes fail there.
 #[inline(always)]
-pub(crate) fn complex_matches(
-    forest: &Forest,
-    complex: &Complex,
-    last: &[CompoundPart],
-    key: Key,
-) -> bool
-    requires node { IsNode forest.now key }
-    requires last { compound_view last.now ≡ last_compound (complex_view complex.now) }
-    ensures { result ≡ spec_complex_matches forest.now.trees (complex_view complex.now) (name_of forest.now key) }
+pub(crate) fn complex_matches(node: &NodeAt, complex: &Complex, last: &[CompoundPart]) -> bool
+    requires { compound_view last.now ≡ last_compound (complex_view complex.now) }
+    ensures { result ≡ spec_complex_matches node.now.whole.trees (complex_view complex.now) (name_here node.now) }
 {
-    compound_matches(forest, last, key)
-        && (complex.links.is_empty() || segments_match(forest, complex, key))
+    compound_matches(node, last)
+        && (complex.links.is_empty() || segments_match(node.forest(), complex, node.key()))
 }

@@ -3,24 +3,24 @@ ghost use Rattle.std.specs.Prelude.{◌≡◌, map, IfOk, All};
 ghost use Rattle.std.specs.List.{list_any};
 ghost use Rattle.dom_model.specs.Selectors.{complex_matches as spec_complex_matches, selector_matches, query_all as spec_query_all};
 ghost use Rattle.dom_tree.specs.Forest.{IsNode, name_of};
+ghost use Rattle.dom_tree.specs.Spots.{name_here};
 ghost use Rattle.dom_selectors.specs.Known.{IsFirstLast, IsKnownOfFirst};
 ghost use Rattle.dom_selectors.specs.Views.{complex_view, selector_view};
 
 use crate::above::{Above, matches_knowing};
 use crate::joined::{complex_matches, last_of_complex};
 use crate::selector::{Complex, CompoundPart, Selector};
-use dom_tree::Forest;
+use dom_tree::{Forest, NodeAt};
 use node_arena::Key;
 use std::alloc::{AllocError, Global};
 
 /// Whether a node matches some of these complex selectors.
 #[inline(always)]
-fn some_complex_matches(forest: &Forest, complexes: &[Complex], key: Key) -> bool
-    requires { IsNode forest.now key }
-    ensures { result ≡ list_any (λ c. spec_complex_matches forest.now.trees (complex_view c) (name_of forest.now key)) complexes.now }
+fn some_complex_matches(node: &NodeAt, complexes: &[Complex]) -> bool
+    ensures { result ≡ list_any (λ c. spec_complex_matches node.now.whole.trees (complex_view c) (name_here node.now)) complexes.now }
 {
     for complex in complexes {
-        if complex_matches(forest, complex, last_of_complex(complex), key) {
+        if complex_matches(node, complex, last_of_complex(complex)) {
             return true;
         }
     }
@@ -41,22 +41,19 @@ fn first_last(complexes: &[Complex]) -> &[CompoundPart]
 /// may be remembered of what is left of that.
 #[inline(always)]
 fn some_matches(
-    forest: &Forest,
+    node: &NodeAt,
     complexes: &[Complex],
     last: &[CompoundPart],
-    key: Key,
     known: &mut Option<Above>,
 ) -> bool
-    requires node { IsNode forest.now key }
     requires last { IsFirstLast complexes.now last.now }
-    requires known { IsKnownOfFirst forest.now complexes.now known.old }
-    ensures value { result ≡ list_any (λ c. spec_complex_matches forest.now.trees (complex_view c) (name_of forest.now key)) complexes.now }
-    ensures known { IsKnownOfFirst forest.now complexes.now known.new }
+    requires known { IsKnownOfFirst node.now.whole complexes.now known.old }
+    ensures value { result ≡ list_any (λ c. spec_complex_matches node.now.whole.trees (complex_view c) (name_here node.now)) complexes.now }
+    ensures known { IsKnownOfFirst node.now.whole complexes.now known.new }
 {
     match complexes {
         [first, others @ ..] => {
-            matches_knowing(forest, first, last, key, known)
-                || some_complex_matches(forest, others, key)
+            matches_knowing(node, first, last, known) || some_complex_matches(node, others)
         }
         [] => false,
     }
@@ -66,20 +63,13 @@ impl Selector {
     /// Whether a node matches a selector, where the compound on the right of its first complex selector is given, and something may
     /// be remembered of what is left of that.
     #[inline(always)]
-    fn matches_with(
-        &self,
-        forest: &Forest,
-        last: &[CompoundPart],
-        key: Key,
-        known: &mut Option<Above>,
-    ) -> bool
-        requires node { IsNode forest.now key }
+    fn matches_with(&self, node: &NodeAt, last: &[CompoundPart], known: &mut Option<Above>) -> bool
         requires last { IsFirstLast self.now.complexes.items last.now }
-        requires known { IsKnownOfFirst forest.now self.now.complexes.items known.old }
-        ensures value { result ≡ selector_matches forest.now.trees (selector_view self.now) (name_of forest.now key) }
-        ensures known { IsKnownOfFirst forest.now self.now.complexes.items known.new }
+        requires known { IsKnownOfFirst node.now.whole self.now.complexes.items known.old }
+        ensures value { result ≡ selector_matches node.now.whole.trees (selector_view self.now) (name_here node.now) }
+        ensures known { IsKnownOfFirst node.now.whole self.now.complexes.items known.new }
     {
-        some_matches(forest, self.complexes.as_slice(), last, key, known)
+        some_matches(node, self.complexes.as_slice(), last, known)
     }
 
     /// Whether an element matches a selector, which a node of another kind never does (DOM Standard, matches()). It
@@ -88,7 +78,7 @@ impl Selector {
         requires { IsNode forest.now key }
         ensures { result ≡ selector_matches forest.now.trees (selector_view self.now) (name_of forest.now key) }
     {
-        some_complex_matches(forest, self.complexes.as_slice(), key)
+        some_complex_matches(&forest.at(key), self.complexes.as_slice())
     }
 
     /// The proper descendants of a node that match a selector, in tree order; nodes above it count for matching (DOM
@@ -109,12 +99,12 @@ impl Selector {
         let last = first_last(self.complexes.as_slice());
         let mut known = None;
         let mut found = Vec::new(alloc);
-        let mut at = forest.following(top, top);
-        while let Some(key) = at {
-            if self.matches_with(forest, last, key, &mut known) {
-                found.push(key)?;
+        let mut at = forest.at(top).following(top);
+        while let Some(node) = at {
+            if self.matches_with(&node, last, &mut known) {
+                found.push(node.key())?;
             }
-            at = forest.following(key, top);
+            at = node.following(top);
         }
         Ok(found)
     }

@@ -17,7 +17,7 @@ pub(crate) enum Side {
 }
 
 /// Whether a node is an element.
-pub(crate) fn is_element(forest: &Forest, key: Key) -> bool
+fn is_element(forest: &Forest, key: Key) -> bool
     requires { IsNode forest.now key }
     ensures { result ≡ spec_is_element (kind_of forest.now.trees (name_of forest.now key)) }
 {

@@ -1,6 +1,6 @@
 //! What selectors ask of attributes' values (CSS Selectors Level 4, 6 Attribute selectors).
-ghost use Rattle.std.specs.Prelude.{◌≡◌, []};
-ghost use Rattle.std.specs.List.{list_any};
+ghost use Rattle.std.specs.Prelude.{◌≡◌, [], nat_eq};
+ghost use Rattle.std.specs.List.{list_any, starts_with};
 ghost use Rattle.std.specs.Option.{option_map};
 ghost use Rattle.dom_model.specs.Names.{text_eq};
 ghost use Rattle.dom_model.specs.Selectors.{words_from, has_space as spec_has_space, holds_text as spec_holds_text};
@@ -69,6 +69,21 @@ fn has_word(text: &[u16], word: &[u16]) -> bool
     }
 }
 
+/// Whether a string begins with another one. Most are short, so they are compared in place.
+#[inline(always)]
+fn begins_with(text: &[u16], part: &[u16]) -> bool
+    ensures { result ≡ starts_with nat_eq text.now part.now }
+{
+    let mut rest = text;
+    for unit in part {
+        match rest {
+            [first, others @ ..] if *first == *unit => rest = others,
+            _ => return false,
+        }
+    }
+    true
+}
+
 /// Whether a string has another one in it.
 fn holds_text(text: &[u16], part: &[u16]) -> bool
     ensures { result ≡ spec_holds_text text.now part.now }
@@ -115,7 +130,7 @@ pub(crate) fn value_passes(test: AttributeTest, value: &[u16], text: &[u16]) -> 
         AttributeTest::Equals => is_same_string(text, value),
         AttributeTest::HasWord => is_among_words(value, text),
         AttributeTest::BeginsWithDash => begins_with_dash(text, value),
-        AttributeTest::Begins => !value.is_empty() && text.starts_with(value),
+        AttributeTest::Begins => !value.is_empty() && begins_with(text, value),
         AttributeTest::Ends => !value.is_empty() && text.ends_with(value),
         AttributeTest::Holds => !value.is_empty() && holds_text(text, value),
     }

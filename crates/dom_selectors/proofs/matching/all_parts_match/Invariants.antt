@@ -4,5 +4,5 @@ use Rattle.dom_selectors.proofs.matching.all_parts_match.Given as goal
 
 abbrev pub invariant-loop-part : goal.invariant-loop-part
 invariant-loop-part l =
-    list_all (λ p. part_matches l.forest.trees (name_at l.forest.names l.key) (part_view p)) (drop l.part-index l.parts) ≡ list_all
-    (λ p. part_matches l.forest.trees (name_at l.forest.names l.key) (part_view p)) l.parts
+    list_all (λ p. part_matches l.node.whole.trees (name_at l.node.whole.names l.node.key) (part_view p)) (drop l.part-index l.parts) ≡ list_all
+    (λ p. part_matches l.node.whole.trees (name_at l.node.whole.names l.node.key) (part_view p)) l.parts

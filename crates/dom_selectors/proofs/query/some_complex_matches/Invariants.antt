@@ -4,5 +4,5 @@ use Rattle.dom_selectors.proofs.query.some_complex_matches.Given as goal
 
 abbrev pub invariant-loop-complex : goal.invariant-loop-complex
 invariant-loop-complex l =
-    list_any (λ c. complex_matches l.forest.trees (complex_view c) (name_at l.forest.names l.key)) (drop l.complex-index l.complexes) ≡ list_any
-    (λ c. complex_matches l.forest.trees (complex_view c) (name_at l.forest.names l.key)) l.complexes
+    list_any (λ c. complex_matches l.node.whole.trees (complex_view c) (name_at l.node.whole.names l.node.key)) (drop l.complex-index l.complexes) ≡ list_any
+    (λ c. complex_matches l.node.whole.trees (complex_view c) (name_at l.node.whole.names l.node.key)) l.complexes
