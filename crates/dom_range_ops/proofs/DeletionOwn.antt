@@ -8,7 +8,7 @@ use Rattle.dom_range_ops.proofs.Cited.{trees_of_owner, Has-names, In, In-right, 
 use Rattle.dom_range_ops.proofs.Cited.{nodes_around}
 use Rattle.dom_range_ops.proofs.OneTree.{HasOneTree, contained-root, filter-tree, root-above, root-path, root-root}
 use Rattle.dom_range_ops.proofs.OwnTexts.{contained-own, around-own, around-owner, around-root, ends-own, among-filtered}
-use Rattle.dom_range_ops.proofs.DeletionOrder.{is_outermost}
+use Rattle.dom_range_ops.proofs.ContainedNodes.{is_outermost}
 
 -- the outermost contained nodes are in the range's tree
 pub outermost-tree : (ts : Trees) (r : Range NodeName) → HasOneTree ts r → outermost_contained ts r ≡ filter (is_outermost ts r) (nodes_around ts r)

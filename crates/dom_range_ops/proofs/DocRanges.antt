@@ -2,10 +2,10 @@
 use Rattle.dom_range_ops.proofs.Cited.{◌≡◌, ◌<◌, ◌≤◌, ℕ, zero, suc, List, [], ◌∷◌, length, map, Option, Some, None, Result, Ok, Err, sym, ap, subst, ◌∙◌, IfOk}
 use Rattle.dom_range_ops.proofs.Cited.{slice_get, AllByRecursion, option_flatten, option_map_or, NodeName, Owner, Command, effect, Effect, is_in_one_data}
 use Rattle.dom_range_ops.proofs.Cited.{new_place, pieces_of, boundaries, Part, range_at, Boundary, same_root, Range, from_to, cutting_data, outermost_contained}
-use Rattle.dom_range_ops.proofs.Cited.{range_text_of, Trees, Node, kind_of, has_data, children_of, root_of, length_of, part_of, EndsWithin, HasBounds}
-use Rattle.dom_range_ops.proofs.Cited.{text-data, DocState, name_in, owner_in, trees_in, same_root-own, Points, read_own, stays_own, StandOnce, StandAlone}
-use Rattle.dom_range_ops.proofs.Cited.{Once-forest, Has-forest, NamedTrees, name_at, AreOwned, trees_of_owner, In, AreLeaves, IsRangeIn, cutting, AreSpanned}
-use Rattle.dom_range_ops.proofs.Cited.{range_at_points, AreBounded, text_among, nodes_around}
+use Rattle.dom_range_ops.proofs.Cited.{range_text_of, Trees, Node, kind_of, has_data, children_of, root_of, length_of, part_of, EndsWithin, HasBounds, DocState}
+use Rattle.dom_range_ops.proofs.Cited.{name_in, owner_in, trees_in, same_root-own, Points, read_own, stays_own, StandOnce, StandAlone, Once-forest, Has-forest}
+use Rattle.dom_range_ops.proofs.Cited.{NamedTrees, name_at, AreOwned, trees_of_owner, In, AreLeaves, IsRangeIn, cutting, AreSpanned, range_at_points}
+use Rattle.dom_range_ops.proofs.Cited.{text_among, nodes_around}
 use Rattle.dom_model.proofs.Model.{nothing}
 use Rattle.dom_worlds.specs.Definitions.{IsWithin}
 use Rattle.dom_range_ops.proofs.OneTree.{HasOneTree}
@@ -115,24 +115,20 @@ module _ (m : RangeRead) where
       }
 
   -- no Text and no Comment of their tree has children
-  pub leaves-in : AreLeaves m.forest m.points
+  leaves-in : AreLeaves m.forest m.points
   leaves-in x i k =
       let mine = (stays_own f.trees m.owned o (root_of f.trees r.start.node) (stays_own f.trees m.owned o r.start.node start).root).inside x i in
       let read = read_own f.trees m.owned o x mine in
       let kind = ap (λ (n : Node). n.kind) read.node ∙ ap (λ us. kind_of us x) (m.trees o) in
       read.children ∙ (ap (λ us. children_of us x) (m.trees o) ∙ m.range.leaves x (ap has_data (sym kind) ∙ k))
 
-  -- both ends are bounded
-  pub bounded-in : AreBounded m.forest m.points
-  bounded-in =
-      record {
-        ends = record { start = node m.points.start.0 m.range.start; end = node m.points.end.0 m.range.end; one_root = one.one_root };
-        within = subst (λ n. m.points.end.1 ≤ n) (sym (same (λ us s. length_of us s.end.node) (read_own f.trees m.owned o r.end.node end).size)) m.range.within;
-        leaves = λ x i k. leaves-in x i (text-data (kind_of m.forest.trees x) k);
-      }
-
+  -- both ends are nodes of one tree, the second within its node
   pub spanned-in : AreSpanned m.forest m.points
-  spanned-in = record { ends = bounded-in.ends; within = bounded-in.within; leaves = leaves-in }
+  spanned-in = record {
+    ends = record { start = node m.points.start.0 m.range.start; end = node m.points.end.0 m.range.end; one_root = one.one_root };
+    within = subst (λ n. m.points.end.1 ≤ n) (sym (same (λ us s. length_of us s.end.node) (read_own f.trees m.owned o r.end.node end).size)) m.range.within;
+    leaves = leaves-in;
+  }
 
   -- ---- what the forest answers
 

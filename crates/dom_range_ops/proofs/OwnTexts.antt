@@ -6,11 +6,11 @@ use Rattle.dom_range_ops.proofs.Cited.{same_root-own, has_own, read_own, stays_o
 use Rattle.dom_range_ops.proofs.Cited.{name_eq-from, Has, Has-subtree, Has-above, above-from_below, text_among, contained_text, nodes_around}
 use Rattle.dom_range_ops.proofs.OneTree.{HasOneTree, text-tree, root-above, root-path, root-root}
 
--- parts that are the same, one by one
-parts-same : (f g : NodeName → List ℕ) (xs : List NodeName) → ((y : NodeName) → In y xs → f y ≡ g y) → flat_map f xs ≡ flat_map g xs
-parts-same f g [] h = refl
-parts-same f g (x ∷ xs) h = flat_map-cons f x xs ∙
-    (ap (λ ys. ys ++ flat_map f xs) (h x (inl refl)) ∙ (ap (λ ys. g x ++ ys) (parts-same f g xs (λ y i. h y (inr i))) ∙ sym (flat_map-cons g x xs)))
+-- functions that agree at each member
+pub flat-same : {B : Type 0} (f g : NodeName → List B) (xs : List NodeName) → ((y : NodeName) → In y xs → f y ≡ g y) → flat_map f xs ≡ flat_map g xs
+flat-same f g [] h = refl
+flat-same f g (x ∷ xs) h = flat_map-cons f x xs ∙
+    (ap (λ ys. ys ++ flat_map f xs) (h x (inl refl)) ∙ (ap (λ ys. g x ++ ys) (flat-same f g xs (λ y i. h y (inr i))) ∙ sym (flat_map-cons g x xs)))
 
 -- a filter leaves members
 pub among-filtered : (p : NodeName → Bool) (xs : List NodeName) (y : NodeName) → In y (filter p xs) → In y xs
@@ -83,7 +83,7 @@ module _ (ts : Trees) (owned : AreOwned ts) (o : Owner) (r : Range NodeName) (en
   text-own =
       let xs = nodes_around ts r in
       let middle : contained_text ts r xs ≡ contained_text own r (nodes_around own r) =
-      parts-same (text_part ts r) (text_part own r) (filter (is_contained ts r) xs)
+      flat-same (text_part ts r) (text_part own r) (filter (is_contained ts r) xs)
       (λ y i. part-own y (around-owner y (among-filtered (is_contained ts r) xs y i)))
       ∙ (ap (flat_map (text_part own r))
       (filter-same (is_contained ts r) (is_contained own r) xs

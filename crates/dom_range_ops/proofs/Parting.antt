@@ -56,17 +56,21 @@ joined-in ts (x ∷ xs) y i = elim (In-parts y (inclusive_descendants ts x) (joi
 ]
 
 module _ (ts : Trees) (once : Once ts) where
-  -- a child's place
-  pub kid-place : (p s : NodeName) → Has ts p → (front back : List NodeName) → children_of ts p ≡ front ++ s ∷ back →
-      place_of ts s ≡ place_of ts p ++ length front ∷ []
-  kid-place p s h front back e =
+  -- a child's number
+  pub index-kid : (p s : NodeName) → Has ts p → (front back : List NodeName) → children_of ts p ≡ front ++ s ∷ back → index_of ts s ≡ length front
+  index-kid p s h front back e =
       let i : In s (children_of ts p) = subst (In s) (sym e) (In-right s front (s ∷ back) (inl refl)) in
       let up = parent-of_child ts p s once h i in
       let apart : In s front → ⊥ = λ j. Single-apart s front (s ∷ back) (subst Single e (children-single ts p once h)) j (inl refl) in
-      let index : index_of ts s ≡ length front =
       ap (λ o. length (items_before name_eq s (option_map_or (children_of ts) o (s ∷ [])))) up.0 ∙
-      (ap (λ xs. length (items_before name_eq s xs)) e ∙ ap (length {A = NodeName}) (before-split s front back apart)) in
-      path-child ts once s p up.1 up.0 ∙ ap (λ k. place_of ts p ++ k ∷ []) index
+      (ap (λ xs. length (items_before name_eq s xs)) e ∙ ap (length {A = NodeName}) (before-split s front back apart))
+
+  -- and its place
+  pub kid-place : (p s : NodeName) → Has ts p → (front back : List NodeName) → children_of ts p ≡ front ++ s ∷ back →
+      place_of ts s ≡ place_of ts p ++ length front ∷ []
+  kid-place p s h front back e =
+      let up = parent-of_child ts p s once h (subst (In s) (sym e) (In-right s front (s ∷ back) (inl refl))) in
+      path-child ts once s p up.1 up.0 ∙ ap (λ k. place_of ts p ++ k ∷ []) (index-kid p s h front back e)
 
   -- where a node other than the top stands among its parent's children
   record HasPlace (top x : NodeName) : Type 0 where

@@ -4,6 +4,7 @@ use Rattle.dom_range_ops.proofs.Cited.{flat_map, append-nil, flat_map-cons, Node
 use Rattle.dom_range_ops.proofs.Cited.{none, tree, Node, nodes, names_of, roots, subtree, trees_below, children_of, is_inclusive_ancestor, kind_of, has_data}
 use Rattle.dom_range_ops.proofs.Cited.{nothing, In, once_apart, Has, subtree-here, subtree-below, subtree-beside, subtree-present, subtree-within, once_below}
 use Rattle.dom_range_ops.proofs.Cited.{Once, once_subtree, Has-root, Item, whole_item, cut_item, clone_item, end_item, items_of, wholes_if}
+use Rattle.dom_range_ops.proofs.OwnTexts.{flat-same}
 use Rattle.dom_slots.proofs.NamesOfNodes.{InNodes, node_in-self, in_left, in_right}
 
 -- the items of some pieces and then others
@@ -19,14 +20,6 @@ items-followed (clone x inside rest) b =
 pub items-whole : (xs : List NodeName) → items_of (all_whole xs) ≡ map whole_item xs
 items-whole [] = refl
 items-whole (x ∷ xs) = ap (λ ys. whole_item x ∷ ys) (items-whole xs)
-
--- functions that agree at each member
-flat-same : (f g : NodeName → List Item) (xs : List NodeName) → ((y : NodeName) → In y xs → f y ≡ g y) → flat_map f xs ≡ flat_map g xs
-flat-same f g [] h = refl
-flat-same f g (x ∷ xs) h =
-    flat_map-cons f x xs
-    ∙ (ap (λ ys. ys ++ flat_map f xs) (h x (inl refl))
-    ∙ (ap (λ ys. g x ++ ys) (flat-same f g xs (λ y i. h y (inr i))) ∙ sym (flat_map-cons g x xs)))
 
 -- the first node of a tree
 top-is : (n m : Node) (c d : Trees) → tree n c none ≡ tree m d none → n ≡ m

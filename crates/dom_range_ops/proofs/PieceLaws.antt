@@ -5,12 +5,16 @@ use Rattle.dom_range_ops.proofs.Cited.{pieces_in_front, pieces_apart, first_of, 
 use Rattle.dom_range_ops.proofs.Cited.{inclusive_ancestors, is_inclusive_ancestor, trees_below, subtree, Points, above-along, In, In-left, In-right, In-not}
 use Rattle.dom_range_ops.proofs.Cited.{Single, Single-right, is_in-from, is_in-not, Has, Has-above, above-parent, children-single, StandOnce, StandAlone}
 use Rattle.dom_range_ops.proofs.Cited.{Once-forest, Has-forest, NamedTrees, name_at, items_of, whole_item, AreSpanned, ArePaths, side_items, from_sibling}
-use Rattle.dom_range_ops.proofs.Cited.{up_to, first_behind, first_from, range_at_points, nodes_around}
+use Rattle.dom_range_ops.proofs.Cited.{up_to, first_behind, first_from, range_at_points, nodes_around, append-nil, cond-false, cond-true, false_from_ne_true}
+use Rattle.dom_range_ops.proofs.Cited.{filter-append, none-some, not, same_Some, behind_node, has_data, kind_of, new_place, parent_of, above-present}
+use Rattle.dom_range_ops.proofs.Cited.{filter-all, filter-none, parent-of_child, length, slice_get, ◌-◌}
 use Rattle.dom_range_ops.proofs.PieceItems.{items-followed, items-whole}
-use Rattle.dom_range_ops.proofs.PieceMiddle.{IsRange, PartAt, start_course, end_course, at_start, at_end, below-leaves, follows, between-contained}
+use Rattle.dom_range_ops.proofs.ContainedNodes.{IsRange, start-in, above-in}
+use Rattle.dom_range_ops.proofs.PieceMiddle.{PartAt, start_course, end_course, at_start, at_end, below-leaves, follows, between-contained}
 use Rattle.dom_range_ops.proofs.PieceParts.{Course, at_top, inside, kid-off, begins, stops, side-held}
 use Rattle.dom_range_ops.proofs.PieceRuns.{from-kids, up-to-first}
 use Rattle.dom_range_ops.proofs.PieceSides.{last-member, tail-same}
+use Rattle.dom_range_ops.proofs.PieceSteps.{last-named}
 
 -- the first that passes a test
 find-there : (p : NodeName → Bool) (xs : List NodeName) (x : NodeName) (rest : List NodeName) → ((y : NodeName) → In y xs → p y ≡ false) →
@@ -58,6 +62,53 @@ module _ (ts : Trees) (r : Range NodeName) (is : IsRange ts r) (c : NodeName) (r
       ∙ ap (λ o. unwrap_or o r.start.node)
       (find-there (λ a. is_inclusive_ancestor ts a r.end.node) start_path c rest (path-off (start_course ts r is c rest start_path end_path parts))
       (is_in-from c (inclusive_ancestors ts r.end.node) (subst (In c) (sym parts.end) (In-right c end_path (c ∷ rest) (inl refl)))))
+
+  -- ---- where the range stands when its contents are taken
+
+  -- of the nodes above the start those that are not above the end are its path
+  apart-path : filter (λ a. not (is_inclusive_ancestor ts a r.end.node)) (inclusive_ancestors ts r.start.node) ≡ start_path
+  apart-path =
+      let test = λ (a : NodeName). not (is_inclusive_ancestor ts a r.end.node) in
+      ap (filter test) parts.start
+      ∙ filter-append test start_path (c ∷ rest)
+      ∙ ap (λ xs. xs ++ filter test (c ∷ rest))
+      (filter-all test start_path (λ a i. ap not (path-off (start_course ts r is c rest start_path end_path parts) a i)))
+      ∙ ap (λ xs. start_path ++ xs) (filter-none test (c ∷ rest)
+      (λ a i. ap not (is_in-from a (inclusive_ancestors ts r.end.node) (subst (In a) (sym parts.end) (In-right a end_path (c ∷ rest) i)))))
+      ∙ append-nil start_path
+
+  -- at its start where that is empty
+  pub place-start : start_path ≡ [] → new_place ts r ≡ r.start
+  place-start none =
+      let x = r.start.node in
+      let own = subst (In x) (sym (above-present ts x is.start).1 ∙ parts.start ∙ ap (λ xs. xs ++ c ∷ rest) none) (inl refl) in
+      cond-true (is_inclusive_ancestor ts x r.end.node) r.start _
+      (is_in-from x (inclusive_ancestors ts r.end.node) (subst (In x) (sym parts.end) (In-right x end_path (c ∷ rest) own)))
+
+  module _ (low : NodeName) (last : last_of start_path ≡ Some low) where
+    -- else just behind the last node of it
+    pub place-behind : new_place ts r ≡ behind_node ts low
+    place-behind =
+        cond-false (is_inclusive_ancestor ts r.start.node r.end.node) r.start _ (off (start_course ts r is c rest start_path end_path parts)) ∙
+        ap (λ o. behind_node ts (unwrap_or o r.start.node)) (ap last_of apart-path ∙ last)
+      where
+        off : Course ts is.once c rest r.start start_path → is_inclusive_ancestor ts r.start.node r.end.node ≡ false
+        off (at_top empty same) = absurd (none-some low (ap last_of (sym empty) ∙ last))
+        off (inside y more whole end among below) =
+            path-off (inside y more whole end among below) r.start.node (subst (In r.start.node) (sym whole) (inl refl))
+
+    -- whose parent has children, and so no data
+    pub low-open : (p : NodeName) → parent_of ts low ≡ Some p → has_data (kind_of ts p) ≡ false
+    low-open p up = by (start_course ts r is c rest start_path end_path parts)
+      where
+        by : Course ts is.once c rest r.start start_path → has_data (kind_of ts p) ≡ false
+        by (at_top empty same) = absurd (none-some low (ap last_of (sym empty) ∙ last))
+        by (inside y more whole end among below) =
+            let above = subst (In c) (sym parts.start) (In-right c start_path (c ∷ rest) (inl refl)) in
+            let low_up = subst (λ z. parent_of ts z ≡ Some c) (same_Some y low (sym end ∙ last)) (parent-of_child ts c y is.once parts.there among).0 in
+            subst (λ z. has_data (kind_of ts z) ≡ false) (same_Some c p (sym low_up ∙ up))
+            (false_from_ne_true (has_data (kind_of ts c))
+            (λ e. subst (In y) (is.leaves c (above-in ts r is r.start.node c (start-in ts r is) above).0 e) among))
 
   -- ---- the run between
 
@@ -110,6 +161,7 @@ module _ (f : NamedTrees) (once : StandOnce f) (only : StandAlone f) (points : P
     once = Once-forest f once only;
     start = Has-forest f once points.start.0 spanned.ends.start;
     end = Has-forest f once points.end.0 spanned.ends.end;
+    one_root = spanned.ends.one_root;
     fits = spanned.within;
     leaves = λ x i e. spanned.leaves x (is_in-from x (nodes_around f.trees (range_at_points f.names points)) i) e;
   }
@@ -139,3 +191,14 @@ module _ (f : NamedTrees) (once : StandOnce f) (only : StandAlone f) (points : P
         (map whole_item (filter (is_contained f.trees r) (children_of f.trees (common_ancestor f.trees r))) ++
         side_items f.trees r.end false (map (name_at f.names) end_path))
     items-between = items-apart f.trees r is-range w.top w.above _ _ part-at
+
+    -- where the range stands when its contents are taken
+    pub place-at_start : start_path ≡ [] → new_place f.trees r ≡ r.start
+    place-at_start none = place-start f.trees r is-range w.top w.above _ _ part-at (ap (map (name_at f.names)) none)
+
+    module _ (low : ℕ) (last : slice_get start_path (length start_path - 1) ≡ Some low) where
+      pub place-at_low : new_place f.trees r ≡ behind_node f.trees (name_at f.names low)
+      place-at_low = place-behind f.trees r is-range w.top w.above _ _ part-at (name_at f.names low) (last-named f.names start_path low last)
+
+      pub open-at_low : (p : NodeName) → parent_of f.trees (name_at f.names low) ≡ Some p → has_data (kind_of f.trees p) ≡ false
+      open-at_low = low-open f.trees r is-range w.top w.above _ _ part-at (name_at f.names low) (last-named f.names start_path low last)

@@ -1,30 +1,27 @@
 -- What lies between the ends of a range among the children of their lowest common ancestor.
-use Rattle.dom_range_ops.proofs.Cited.{◌≡◌, ◌⊎◌, inl, inr, ◌≤◌, Bool, true, false, ◌&&◌, List, ◌∷◌, [], ◌++◌, Some, refl, sym, ap, subst, ◌∙◌, append_assoc}
-use Rattle.dom_range_ops.proofs.Cited.{arith, true≢false, filter, and_parts, false_from_ne_true, le-ltb, append-nil, filter-append, NodeName, last_of}
-use Rattle.dom_range_ops.proofs.Cited.{boundary_place, is_before, Range, at, is_contained, Trees, kind_of, has_data, children_of, inclusive_ancestors}
-use Rattle.dom_range_ops.proofs.Cited.{inclusive_descendants, length_of, root_of, subtree, before-less, before-turned, before-same, above-along, In-names}
-use Rattle.dom_range_ops.proofs.Cited.{Has-names, parent-of_child, In, In-left, In-right, In-parts, filter-none, filter-all, Has, Has-subtree, above-parent}
-use Rattle.dom_range_ops.proofs.Cited.{above-present, above-from_below, below-from_above, Once, nodes_around}
-use Rattle.dom_range_ops.proofs.OneTree.{root-above, root-path}
-use Rattle.dom_range_ops.proofs.Between.{Splits, two-splits}
+use Rattle.dom_range_ops.proofs.Cited.{◌≡◌, ◌⊎◌, inl, inr, Bool, true, false, ◌&&◌, List, ◌∷◌, [], ◌++◌, Some, refl, sym, ap, subst, ◌∙◌, append_assoc, arith}
+use Rattle.dom_range_ops.proofs.Cited.{true≢false, filter, and_parts, false_from_ne_true, le-ltb, append-nil, filter-append, NodeName, last_of, boundary_place}
+use Rattle.dom_range_ops.proofs.Cited.{is_before, Range, at, is_contained, Trees, kind_of, has_data, children_of, inclusive_ancestors, inclusive_descendants}
+use Rattle.dom_range_ops.proofs.Cited.{length_of, before-less, before-turned, before-same, In, In-left, In-right, In-parts, filter-none, filter-all, Has}
+use Rattle.dom_range_ops.proofs.ContainedNodes.{IsRange, not-start, not-end, start-in, above-in, below-in, kid-in}
 use Rattle.dom_range_ops.proofs.PieceLevels.{Level, above-start, above-end, in-front, in-back, self-in}
 use Rattle.dom_range_ops.proofs.PieceParts.{Course, course, level, middle-last, kid-stands, middle-kid, is-ahead, is-behind}
 
--- nothing is both, where the second is not
-and-no : (b : Bool) → b && false ≡ false
-and-no true = refl
-and-no false = refl
+-- two splits of one list: the first part of one begins that of the other
+abbrev Splits : (xs ys us vs : List NodeName) → Type 0
+Splits xs ys us vs = ((m : List NodeName) × (us ≡ xs ++ m) × (ys ≡ m ++ vs)) ⊎ ((z : NodeName) × In z xs × In z vs)
 
+two-splits : (xs ys us vs : List NodeName) → xs ++ ys ≡ us ++ vs → Splits xs ys us vs
+two-splits [] ys us vs e = inl (us, refl, e)
+two-splits (x ∷ xs) ys [] vs e = inr (x, inl refl, subst (In x) e (inl refl))
+two-splits (x ∷ xs) ys (u ∷ us) vs e = by (two-splits xs ys us vs cc) cc
+  where
+    by : Splits xs ys us vs → x ≡ u → Splits (x ∷ xs) ys (u ∷ us) vs
+    by (inl w) same = inl (w.0, ap (λ zs. u ∷ zs) w.1 ∙ ap (λ z. z ∷ (xs ++ w.0)) (sym same), w.2)
+    by (inr w) same = inr (w.0, inr w.1, w.2)
+
+-- where the end of a range comes before its start nothing is contained
 module _ (ts : Trees) (r : Range NodeName) where
-  -- what is not behind the start is not contained
-  not-start : (z : NodeName) → is_before ts r.start (at z 0) ≡ false → is_contained ts r z ≡ false
-  not-start z e = ap (λ b. b && is_before ts (at z (length_of ts z)) r.end) e
-
-  -- nor is what is not in front of the end
-  pub not-end : (z : NodeName) → is_before ts (at z (length_of ts z)) r.end ≡ false → is_contained ts r z ≡ false
-  not-end z e = ap (λ b. is_before ts r.start (at z 0) && b) e ∙ and-no (is_before ts r.start (at z 0))
-
-  -- where the end comes before the start nothing is
   pub none-contained : is_before ts r.end r.start ≡ true → (z : NodeName) → is_contained ts r z ≡ false
   none-contained reversed z = false_from_ne_true (is_contained ts r z)
       (λ t. by (and_parts (is_before ts r.start (at z 0)) (is_before ts (at z (length_of ts z)) r.end) t))
@@ -38,15 +35,6 @@ module _ (ts : Trees) (r : Range NodeName) where
           let ahead = before-less last end start both.1 (before-turned end start reversed) in
           true≢false (sym (before-less last start first ahead (before-turned start first both.0)) ∙
           (before-same ts z z (length_of ts z) 0 refl ∙ le-ltb (length_of ts z) 0 (omega arith)))
-
--- What is asked of a range: its ends are nodes of the trees, the second within its node, and no Text and no Comment of their
--- tree has children.
-pub record IsRange (ts : Trees) (r : Range NodeName) : Type 0 where
-  pub once : Once ts
-  pub start : Has ts r.start.node
-  pub end : Has ts r.end.node
-  pub fits : r.end.offset ≤ length_of ts r.end.node
-  pub leaves : (x : NodeName) → In x (nodes_around ts r) → has_data (kind_of ts x) ≡ true → children_of ts x ≡ []
 
 -- The inclusive ancestors of both ends part below c.
 pub record PartAt (ts : Trees) (r : Range NodeName) (c : NodeName) (rest start_path end_path : List NodeName) : Type 0 where
@@ -81,15 +69,9 @@ module _ (ts : Trees) (r : Range NodeName) (is : IsRange ts r) (c : NodeName) (r
   pub below-leaves : (y : NodeName) → In y (children_of ts c) → (x : NodeName) → In x (inclusive_descendants ts y) →
       has_data (kind_of ts x) ≡ true → children_of ts x ≡ []
   below-leaves y among x i =
-      let top = root_of ts r.start.node in
-      let up = parent-of_child ts c y is.once parts.there among in
-      let inside = Has-names (subtree ts y) x i in
-      let h = Has-subtree ts y x is.once inside in
-      let above_child = subst (In c) (sym (above-parent ts y c is.once up.1 up.0).0) (inr (subst (In c) (sym (above-present ts c parts.there).1) (inl refl))) in
-      let above_start = subst (In c) (sym parts.start) (In-right c start_path (c ∷ rest) (inl refl)) in
-      let above_top = subst (λ z. In z (inclusive_ancestors ts c)) (root-path ts c r.start.node is.once is.start above_start) (root-above ts c parts.there) in
-      let all = above-along ts top c x is.once h above_top (above-along ts c y x is.once h above_child (above-from_below ts y x is.once up.1 inside)) in
-      is.leaves x (In-names (subtree ts top) x (below-from_above ts top x is.once h all))
+      let above = subst (In c) (sym parts.start) (In-right c start_path (c ∷ rest) (inl refl)) in
+      let top = (above-in ts r is r.start.node c (start-in ts r is) above).0 in
+      is.leaves x (below-in ts r is y x (below-in ts r is c y top (kid-in ts r is c y parts.there among).0) i)
 
   -- ---- the children between
 

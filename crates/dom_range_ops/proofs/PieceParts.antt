@@ -121,7 +121,7 @@ module _ (ts : Trees) (once : Once ts) (c : NodeName) (rest : List NodeName) whe
       pub middle-kid : In z l.middle → In z kids
       middle-kid i = subst (In z) (sym l.kids) (In-right z l.front (l.middle ++ l.back) (In-left z l.middle l.back i))
 
-      back-kid : In z l.back → In z kids
+      pub back-kid : In z l.back → In z kids
       back-kid i = subst (In z) (sym l.kids) (In-right z l.front (l.middle ++ l.back) (In-right z l.middle l.back i))
 
       pub is-ahead : In z l.front → IsAhead ts once b z

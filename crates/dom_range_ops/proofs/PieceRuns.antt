@@ -1,18 +1,12 @@
 -- Pieces that are added one by one, and runs of siblings.
 use Rattle.dom_range_ops.proofs.Cited.{◌≡◌, inl, ℕ, ◌<◌, suc, List, [], ◌∷◌, ◌++◌, length, map, take, drop, Option, Some, None, refl, sym, ap, subst, ◌∙◌}
-use Rattle.dom_range_ops.proofs.Cited.{append_assoc, arith, AllByRecursion, option_map, option_map_or, ForSome, append-nil, map_push, take-append-drop}
-use Rattle.dom_range_ops.proofs.Cited.{NodeName, name_eq, first_of, items_after, Trees, parent_of, children_of, siblings, next_sibling, name_eq-other, Item}
-use Rattle.dom_range_ops.proofs.Cited.{whole_item, item_in, IsPieceIn, AreItems, Adds, from_sibling, up_to, Piece, Whole, from_item, from-next, parent-of_child}
-use Rattle.dom_range_ops.proofs.Cited.{child-of_parent, children-single, In, In-right, Single, Single-apart, first_split, after-in, after-split, before-split}
-use Rattle.dom_range_ops.proofs.Cited.{name_eq-from, Has, Once, StandOnce, StandAlone, Once-forest, Has-forest, NamedTrees, name_at, TellApart}
-use Rattle.dom_range_ops.proofs.KeyedWalks.{key-found}
+use Rattle.dom_range_ops.proofs.Cited.{append_assoc, arith, option_map, option_map_or, ForSome, append-nil, map_push, take-append-drop, NodeName, name_eq}
+use Rattle.dom_range_ops.proofs.Cited.{first_of, items_after, Trees, parent_of, children_of, siblings, next_sibling, name_eq-other, Item, whole_item, item_in}
+use Rattle.dom_range_ops.proofs.Cited.{IsPieceIn, AreItems, Adds, from_sibling, up_to, Piece, Whole, from_item, from-next, parent-of_child, child-of_parent}
+use Rattle.dom_range_ops.proofs.Cited.{children-single, In, In-right, Single, Single-apart, first_split, after-in, after-split, before-split, name_eq-from, Has}
+use Rattle.dom_range_ops.proofs.Cited.{Once, StandOnce, StandAlone, Once-forest, Has-forest, NamedTrees, name_at, TellApart, same_Some, all-append}
 
 -- ---- adding
-
--- one more that a property holds of
-all-push : {X : Type 0} (P : X → Type 0) (xs : List X) (x : X) → AllByRecursion P xs → P x → AllByRecursion P (xs ++ x ∷ [])
-all-push P [] x all one = (one, tt)
-all-push P (y ∷ ys) x all one = (all.0, all-push P ys x all.1 one)
 
 module _ (names : List NodeName) where
   -- nothing is added
@@ -27,7 +21,7 @@ module _ (names : List NodeName) where
   pub adds-one : (a b : List Piece) (p : Piece) → b ≡ a ++ p ∷ [] → IsPieceIn (length names) p → Adds names a b (item_in names p ∷ [])
   adds-one a b p e node xs w = subst (λ ps. AreItems names ps (xs ++ item_in names p ∷ [])) (sym e) record {
     value = map_push (item_in names) a p ∙ ap (λ ys. ys ++ item_in names p ∷ []) w.value;
-    nodes = all-push (IsPieceIn (length names)) a p w.nodes node;
+    nodes = all-append (IsPieceIn (length names)) a (p ∷ []) w.nodes (node, tt);
   }
 
   -- to the same pieces
@@ -86,6 +80,12 @@ up-to-more (Some y) x xs off = rw (name_eq-other y x (λ e. off y refl (sym e)))
 -- up to the first are none
 pub up-to-here : (x : NodeName) (xs : List NodeName) (o : Option NodeName) → o ≡ Some x → up_to o (x ∷ xs) ≡ []
 up-to-here x xs o e = ap (λ v. up_to v (x ∷ xs)) e ∙ (rw (name_eq-from x x refl) refl)
+
+-- a key is found by its name
+key-found : (f : NamedTrees) → TellApart f.names → (o : Option ℕ) {k : ℕ} → ForSome o (λ j. j < length f.names) → k < length f.names →
+    option_map (name_at f.names) o ≡ Some (name_at f.names k) → o ≡ Some k
+key-found f distinct None node at e = cc
+key-found f distinct (Some j) {k} node at e = ap Some (distinct j k (node j refl) at (same_Some (name_at f.names j) (name_at f.names k) e))
 
 -- in front of a node there is none among none
 pub up-to-none : (o : Option NodeName) → up_to o [] ≡ []

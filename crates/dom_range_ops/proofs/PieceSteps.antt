@@ -2,7 +2,7 @@
 use Rattle.dom_range_ops.proofs.Cited.{◌≡◌, ℕ, suc, ◌+◌, ◌-◌, ◌<◌, ◌≤◌, Bool, not, List, [], ◌∷◌, ◌++◌, length, map, drop, get_or, Some, refl, sym, ap, ◌∙◌}
 use Rattle.dom_range_ops.proofs.Cited.{append_assoc, arith, length-drop, slice_get, drop-cons, NodeName, Pieces, whole, cut, clone, clone_count, name_eq}
 use Rattle.dom_range_ops.proofs.Cited.{last_of, items_before, items_after, Boundary, Trees, children_of, siblings, nothing, name_at, Item, whole_item, cut_item}
-use Rattle.dom_range_ops.proofs.Cited.{clone_item, end_item, items_of, made_by, wholes_if, heads, tails, end_items, side_items}
+use Rattle.dom_range_ops.proofs.Cited.{clone_item, end_item, items_of, made_by, wholes_if, heads, tails, end_items, side_items, None}
 
 -- ---- along a path
 
@@ -85,6 +85,15 @@ last-named names [] k e = cc
 last-named names (j ∷ []) k e = let same : j ≡ k = cc in ap (λ i. Some (name_at names i)) same
 last-named names (j ∷ i ∷ ks) k e = last-named names (i ∷ ks) k
     (ap (slice_get (j ∷ i ∷ ks)) (let here : suc (length (i ∷ ks) - 1) ≡ length (j ∷ i ∷ ks) - 1 = omega arith in here) ∙ e)
+
+-- without a last key there is none
+pub none-named : (ks : List ℕ) → slice_get ks (length ks - 1) ≡ None → ks ≡ []
+none-named [] e = refl
+none-named (j ∷ []) e = cc
+none-named (j ∷ i ∷ ks) e =
+    let here : suc (length (i ∷ ks) - 1) ≡ length (j ∷ i ∷ ks) - 1 = omega arith in
+    let none = none-named (i ∷ ks) (ap (slice_get (j ∷ i ∷ ks)) here ∙ e) in
+    cc
 
 -- ---- counts
 

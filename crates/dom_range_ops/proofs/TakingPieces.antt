@@ -1,12 +1,44 @@
 -- A piece that may be taken, by its key.
-use Rattle.dom_range_ops.proofs.Cited.{zero, suc, ◌≡◌, ◌<◌, ℕ, ◌-◌, false, List, [], ◌∷◌, ◌++◌, length, map, reverse, None, refl, sym, ap, ◌∙◌, subst, arith}
-use Rattle.dom_range_ops.proofs.Cited.{slice_get, unwrap_or, AllByRecursion, NodeName, Owner, owner-part_of, node_of, Part, next_name, kind_of, has_data}
-use Rattle.dom_range_ops.proofs.Cited.{is_shadow, is_inclusive_ancestor, part_of, HasBounds, IsPart, has_node-times, all-append, all-then, DocState, made}
-use Rattle.dom_range_ops.proofs.Cited.{name_in, owner_in, trees_in, IsOwnNode, MayMove, Item, whole_item, item_in, made_by, top_of, taking_item, new_names}
-use Rattle.dom_range_ops.proofs.Cited.{names_in, IsTaker, IsTaken, MayBeTaken, MayTake, TakesNew, Piece}
+use Rattle.dom_range_ops.proofs.Cited.{◌≡◌, ℕ, ◌-◌, List, [], ◌∷◌, ◌++◌, length, map, reverse, refl, sym, ap, ◌∙◌, inl, inr, ◌⊎◌, arith, length-append}
+use Rattle.dom_range_ops.proofs.Cited.{slice_get, unwrap_or, reverse-append, map-append, NodeName, top_of, slice_get-pushed, zero, suc, ◌<◌, false, None, subst}
+use Rattle.dom_range_ops.proofs.Cited.{AllByRecursion, Owner, owner-part_of, node_of, Part, next_name, kind_of, has_data, is_shadow, is_inclusive_ancestor}
+use Rattle.dom_range_ops.proofs.Cited.{part_of, HasBounds, IsPart, has_node-times, all-append, all-then, DocState, made, name_in, owner_in, trees_in, IsOwnNode}
+use Rattle.dom_range_ops.proofs.Cited.{MayMove, Item, whole_item, item_in, made_by, taking_item, new_names, names_in, IsTaker, IsTaken, MayBeTaken, MayTake}
+use Rattle.dom_range_ops.proofs.Cited.{TakesNew, Piece}
 use Rattle.dom_range_ops.proofs.TakingDocs.{name-kept, node-kept, new-name, new-node}
 use Rattle.dom_range_ops.proofs.TakingParts.{top-takes}
-use Rattle.dom_range_ops.proofs.TakingStacks.{stack-push, stack-top}
+
+-- a list is empty or has a last item
+last-or : (ks : List ℕ) → (ks ≡ []) ⊎ ((front : List ℕ) × (k : ℕ) × (ks ≡ front ++ k ∷ []))
+last-or [] = inl refl
+last-or (k ∷ ks) = inr (from k (last-or ks))
+  where
+    from : (k : ℕ) → (ks ≡ []) ⊎ ((front : List ℕ) × (j : ℕ) × (ks ≡ front ++ j ∷ [])) → (front : List ℕ) × (j : ℕ) × (k ∷ ks ≡ front ++ j ∷ [])
+    from k (inl none) = ([], k, ap (λ js. k ∷ js) none)
+    from k (inr some) = (k ∷ some.0, some.1, ap (λ js. k ∷ js) some.2)
+
+module _ (f : ℕ → NodeName) where
+  -- one more
+  pub stack-push : (ks : List ℕ) (k : ℕ) → reverse (map f (ks ++ k ∷ [])) ≡ f k ∷ reverse (map f ks)
+  stack-push ks k = ap reverse (map-append f ks (k ∷ [])) ∙ reverse-append (map f ks) (f k ∷ [])
+
+  -- the last one
+  pub stack-top : (ks : List ℕ) (into : ℕ) → f (unwrap_or (slice_get ks (length ks - 1)) into) ≡ top_of (f into) (reverse (map f ks))
+  stack-top ks into = by (last-or ks)
+    where
+      by : (ks ≡ []) ⊎ ((front : List ℕ) × (k : ℕ) × (ks ≡ front ++ k ∷ [])) →
+          f (unwrap_or (slice_get ks (length ks - 1)) into) ≡ top_of (f into) (reverse (map f ks))
+      by (inl none) = ap (λ (js : List ℕ). f (unwrap_or (slice_get js (length js - 1)) into)) none ∙
+          ap (λ (js : List ℕ). top_of (f into) (reverse (map f js))) (sym none)
+      by (inr some) =
+          let front = some.0 in
+          let k = some.1 in
+          let size : length (front ++ k ∷ []) - 1 ≡ length front = let l = length-append front (k ∷ []) in omega arith in
+          ap (λ (js : List ℕ). f (unwrap_or (slice_get js (length js - 1)) into)) some.2
+          ∙ ap (λ i. f (unwrap_or (slice_get (front ++ k ∷ []) i) into)) size
+          ∙ ap (λ o. f (unwrap_or o into)) (slice_get-pushed front k)
+          ∙ ap (top_of (f into)) (sym (stack-push front k))
+          ∙ ap (λ (js : List ℕ). top_of (f into) (reverse (map f js))) (sym some.2)
 
 -- one of some, or another one
 or-one : (P : ℕ → Type 0) (ks : List ℕ) (i k : ℕ) → AllByRecursion P ks → P k → P (unwrap_or (slice_get ks i) k)

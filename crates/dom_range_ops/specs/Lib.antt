@@ -1,6 +1,5 @@
 -- Unmarked: own rules, about what the code holds and its contracts say.
 pub mod Texts
-pub mod Points
 pub mod Pieces
 pub mod Insertions
 pub mod Takings

@@ -1,8 +1,8 @@
 -- The text of a range by the nodes of its tree.
-use Rattle.std.specs.Prelude.{◌≡◌, ◌<◌, ◌≤◌, true, ◌&&◌, List, [], ◌++◌, length, filter, flat_map, if◌then◌else◌}
+use Rattle.std.specs.Prelude.{◌≡◌, ◌<◌, true, ◌&&◌, List, ◌++◌, length, filter, flat_map, if◌then◌else◌}
 use Rattle.dom_base.specs.declared.NodeName.{NodeName}
-use Rattle.dom_model.specs.Names.{DomString, name_eq, is_in}
-use Rattle.dom_model.specs.Tree.{Trees, kind_of, is_text, children_of, root_of, inclusive_descendants, length_of}
+use Rattle.dom_model.specs.Names.{DomString, name_eq}
+use Rattle.dom_model.specs.Tree.{Trees, kind_of, is_text, root_of, inclusive_descendants}
 use Rattle.dom_model.specs.Place.{same_root}
 use Rattle.dom_model.specs.Ranges.{Range, is_contained}
 use Rattle.dom_model.specs.RangeOps.{text_part}
@@ -25,6 +25,10 @@ pub record AreEnds (f : NamedTrees) (points : Points) : Type 0 where
 abbrev pub contained_text : Trees → Range NodeName → List NodeName → DomString
 contained_text ts r xs = flat_map (text_part ts r) (filter (is_contained ts r) xs)
 
+-- the text of the nodes of a node's tree
+abbrev pub tree_text : Trees → Range NodeName → NodeName → DomString
+tree_text ts r x = flat_map (text_part ts r) (inclusive_descendants ts x)
+
 -- the text of a range, of whose tree these are the nodes
 abbrev pub text_among : Trees → Range NodeName → List NodeName → DomString
 text_among ts r xs =
@@ -34,10 +38,3 @@ text_among ts r xs =
 -- the nodes of a range's tree, in tree order
 abbrev pub nodes_around : Trees → Range NodeName → List NodeName
 nodes_around ts r = inclusive_descendants ts (root_of ts r.start.node)
-
--- they are, the second one is within its node, and no Text of their tree has children
-pub record AreBounded (f : NamedTrees) (points : Points) : Type 0 where
-  pub ends : AreEnds f points
-  pub within : points.end.1 ≤ length_of f.trees (name_at f.names points.end.0)
-  pub leaves : (x : NodeName) → is_in name_eq x (nodes_around f.trees (range_at_points f.names points)) ≡ true →
-      is_text (kind_of f.trees x) ≡ true → children_of f.trees x ≡ []

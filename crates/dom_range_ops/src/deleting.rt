@@ -40,7 +40,7 @@ pub fn delete(alloc: Global, doc: &mut Doc, owner: Owner, number: u32) -> Result
     if is_collapsed(&points) {
         return Ok(());
     }
-    let (node, offset) = place_after(doc, &points);
+    let (node, offset) = place_after(alloc, doc, &points)?;
     delete_contents(alloc, doc, &points)?;
     let collapsed = Points {
         start: (node, offset),
@@ -72,16 +72,21 @@ fn delete_contents(alloc: Global, doc: &mut Doc, points: &Points) -> Result<(), 
     cut(doc, last, at_end)
 }
 
-/// Where a range of a document stands after its contents were taken.
-pub(crate) fn place_after(doc: &Doc, points: &Points) -> (Key, usize)
+/// Where a range of a document stands after its contents were taken. It is refused where memory is refused.
+pub(crate) fn place_after(
+    alloc: Global,
+    doc: &Doc,
+    points: &Points,
+) -> Result<(Key, usize), AllocError>
     requires { IsRangeIn doc.now points.now }
-    ensures value { at (name_in doc.now result.0) result.1 ≡ new_place (trees_in doc.now points.now.start.0) (range_at_points doc.now.names points.now) }
-    ensures node { HoldsNode doc.now result.0 }
-    ensures owner { owner_in doc.now result.0 ≡ owner_in doc.now points.now.start.0 }
+    ensures value { IfOk result (λ place. at (name_in doc.now place.0) place.1 ≡
+        new_place (trees_in doc.now points.now.start.0) (range_at_points doc.now.names points.now)) }
+    ensures node { IfOk result (λ place. HoldsNode doc.now place.0) }
+    ensures owner { IfOk result (λ place. owner_in doc.now place.0 ≡ owner_in doc.now points.now.start.0) }
 {
     let forest = doc.forest();
     forest.law_nodes_stand_once();
-    new_place(forest, points)
+    new_place(alloc, forest, points)
 }
 
 /// The part of a node in a range, by an offset and a count of code units, if the node is a Text or a Comment.

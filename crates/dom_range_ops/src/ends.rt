@@ -1,21 +1,24 @@
 //! How the two ends of a live range stand to one another (DOM Standard, 5.5 Interface Range).
-ghost use Rattle.std.specs.Prelude.{◌≡◌, true, false, not, filter, is_some, Some, List, [], ◌∷◌};
+ghost use Rattle.std.specs.Prelude.{◌≡◌, true, false, is_some, Some, List, IfOk};
 ghost use Rattle.dom_base.specs.declared.NodeName.{NodeName as Name};
 ghost use Rattle.dom_model.specs.Extract.{is_in_one_data, behind_node, new_place};
 ghost use Rattle.dom_model.specs.Names.{name_eq};
 ghost use Rattle.dom_model.specs.Part.{range_at};
 ghost use Rattle.dom_model.specs.Ranges.{at, is_collapsed};
-ghost use Rattle.dom_model.specs.Tree.{kind_of, has_data, parent_of, inclusive_ancestors, is_inclusive_ancestor};
+ghost use Rattle.dom_model.specs.Tree.{kind_of, has_data, parent_of};
 ghost use Rattle.dom_model.specs.World.{part_of};
-ghost use Rattle.dom_range_ops.specs.Deletions.{AreLeaves, IsOfPoints};
+ghost use Rattle.dom_range_ops.specs.Deletions.{IsOfPoints};
+ghost use Rattle.dom_range_ops.specs.Pieces.{AreSpanned};
 ghost use Rattle.dom_range_ops.specs.Texts.{range_at_points, AreEnds};
 ghost use Rattle.dom_tree.specs.Forest.{name_at, IsNode, name_of};
 
+use crate::pieces::paths::parted_paths;
 use dom_base::{Kind, Owner};
 use dom_mutation::Doc;
-use dom_ranges::{Points, climb, climb_together};
+use dom_ranges::Points;
 use dom_tree::Forest;
 use node_arena::Key;
+use std::alloc::{AllocError, Global};
 
 /// The ends of an owner's live range that is there.
 pub(crate) fn live_points(doc: &Doc, owner: Owner, number: u32) -> Points
@@ -58,52 +61,22 @@ pub(crate) fn has_data(forest: &Forest, key: Key) -> bool
 
 /// Where a range stands after its contents were taken (DOM Standard, concept: extract, new node and new offset): its start,
 /// where the start node is an inclusive ancestor of the end node, else just behind the start node's outermost inclusive
-/// ancestor that is none of the end node.
-pub(crate) fn new_place(forest: &Forest, points: &Points) -> (Key, usize)
-    requires ends { AreEnds forest.now points.now }
-    requires leaves { AreLeaves forest.now points.now }
-    ensures value { at (name_of forest.now result.0) result.1 ≡ new_place forest.now.trees (range_at_points forest.now.names points.now) }
-    ensures node { IsNode forest.now result.0 }
+/// ancestor that is none of the end node. It is refused where memory is refused.
+pub(crate) fn new_place(
+    alloc: Global,
+    forest: &Forest,
+    points: &Points,
+) -> Result<(Key, usize), AllocError>
+    requires { AreSpanned forest.now points.now }
+    ensures value { IfOk result (λ place. at (name_of forest.now place.0) place.1 ≡ new_place forest.now.trees (range_at_points forest.now.names points.now)) }
+    ensures node { IfOk result (λ place. IsNode forest.now place.0) }
 {
     forest.law_nodes_stand_once();
-    let first = points.start.0;
-    let last = points.end.0;
-    if forest.is_inclusive_ancestor(first, last) {
-        return points.start;
-    }
-    behind_node(forest, outermost_apart(forest, first, last))
-}
-
-/// The outermost inclusive ancestor of a node that is no inclusive ancestor of another one. The steps taken are as many as the
-/// nodes above the two.
-pub(crate) fn outermost_apart(forest: &Forest, first: Key, last: Key) -> Key
-    requires first_is_node { IsNode forest.now first }
-    requires last_is_node { IsNode forest.now last }
-    requires apart { is_inclusive_ancestor forest.now.trees (name_of forest.now first) (name_of forest.now last) ≡ false }
-    ensures node { IsNode forest.now result }
-    ensures above { is_inclusive_ancestor forest.now.trees (name_of forest.now result) (name_of forest.now first) ≡ true }
-    ensures alone { filter (λ a. not (is_inclusive_ancestor forest.now.trees a (name_of forest.now last)))
-        (inclusive_ancestors forest.now.trees (name_of forest.now result)) ≡ name_of forest.now result ∷ [] }
-{
-    forest.law_nodes_stand_once();
-    let Some(parent) = forest.parent(first) else {
-        return first;
-    };
-    let (gauge, last_gauge) = climb_together(forest, parent, last);
-    let (mut low, _) = climb(forest, first, gauge);
-    let (mut other, _) = climb(forest, last, last_gauge);
-    'up: loop {
-        let Some(above) = forest.parent(low) else {
-            return low;
-        };
-        if above == other {
-            return low;
-        }
-        let Some(beside) = forest.parent(other) else {
-            return above;
-        };
-        low = above;
-        other = beside;
+    let (start_path, _) = parted_paths(alloc, forest, points)?;
+    let path = start_path.as_slice();
+    match path.last() {
+        Some(low) => Ok(behind_node(forest, *low)),
+        None => Ok(points.start),
     }
 }
 

@@ -64,7 +64,7 @@ pub fn extract(alloc: Global, doc: &mut Doc, owner: Owner, number: u32) -> Resul
     if is_past_limit(doc, owner, count_made(pieces)) {
         return Err(Fault::Refused(Refusal::Limit));
     }
-    let place = place_after(doc, &points);
+    let place = place_after(alloc, doc, &points)?;
     extract_pieces(alloc, doc, owner, number, points.start.0, place, pieces)
 }
 

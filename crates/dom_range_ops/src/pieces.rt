@@ -6,15 +6,14 @@ ghost use Rattle.dom_range_ops.specs.Pieces.{items_of, item_in, made_by, AreItem
 ghost use Rattle.dom_range_ops.specs.Texts.{range_at_points};
 
 use crate::ends::{is_collapsed, is_in_one_data};
-use crate::pieces::paths::parting;
+use crate::pieces::paths::parted_paths;
 use crate::pieces::sides::push_pieces;
-use dom_observers::inclusive_ancestors;
 use dom_ranges::Points;
 use dom_tree::Forest;
 use node_arena::Key;
 use std::alloc::{AllocError, Global};
 
-mod paths;
+pub(crate) mod paths;
 mod runs;
 mod sides;
 
@@ -68,16 +67,14 @@ pub(crate) fn pieces_apart(
         (items_of (pieces_apart forest.now.trees (range_at_points forest.now.names points.now)))) }
 {
     forest.law_nodes_stand_once();
-    let start_path = inclusive_ancestors(alloc, forest, points.start.0)?;
-    let end_path = inclusive_ancestors(alloc, forest, points.end.0)?;
-    let (first, last) = parting(&start_path, &end_path);
+    let (start_path, end_path) = parted_paths(alloc, forest, points)?;
     let mut pieces = Vec::new(alloc);
     push_pieces(
         &mut pieces,
         forest,
         points,
-        &start_path[..first],
-        &end_path[..last],
+        start_path.as_slice(),
+        end_path.as_slice(),
     )?;
     Ok(pieces)
 }

@@ -1,26 +1,26 @@
 //! The text of a live range (DOM Standard, 5.5: stringification behavior).
-ghost use Rattle.std.specs.Prelude.{◌≡◌, ◌++◌, true, false, is_some, slice_range, IfOk, OnOk};
+ghost use Rattle.std.specs.Prelude.{◌≡◌, ◌++◌, true, is_some, slice_range, IfOk, OnOk};
 ghost use Rattle.std.specs.Option.{ForSome};
 ghost use Rattle.dom_model.specs.Part.{range_at};
-ghost use Rattle.dom_model.specs.Place.{is_before};
 ghost use Rattle.dom_model.specs.RangeOps.{range_text_of, text_part as spec_text_part};
 ghost use Rattle.dom_model.specs.Tree.{kind_of, is_text};
 ghost use Rattle.dom_model.specs.World.{part_of};
-ghost use Rattle.dom_range_ops.specs.Texts.{range_at_points, AreEnds, AreBounded, contained_text, text_among, nodes_around};
+ghost use Rattle.dom_range_ops.specs.Pieces.{AreSpanned};
+ghost use Rattle.dom_range_ops.specs.Texts.{range_at_points, AreEnds, contained_text, text_among, tree_text, nodes_around};
 ghost use Rattle.dom_tree.specs.Forest.{IsNode, name_of};
 
+use crate::contained::outermost_contained;
 use crate::ends::live_points;
-use crate::points::{is_node, node_after};
 use dom_base::{DomStr, Kind, Owner};
 use dom_mutation::Doc;
-use dom_ranges::{Points, is_before};
+use dom_ranges::Points;
 use dom_tree::Forest;
 use node_arena::Key;
 use std::alloc::{AllocError, Global};
 
 /// The text of an owner's live range, in code units: the part of its start node, the contained Texts in tree order and the
-/// part of its end node, of which nodes but Texts have none (DOM Standard, 5.5: stringification behavior). The nodes from
-/// the start to the end are walked once, by their links. It is refused where memory for the answer is refused.
+/// part of its end node, of which nodes but Texts have none (DOM Standard, 5.5: stringification behavior). The outermost
+/// contained nodes are found first, then their trees are walked, by their links. It is refused where memory is refused.
 pub fn range_text(alloc: Global, doc: &Doc, owner: Owner, number: u32) -> Result<DomStr, AllocError>
     requires there { is_some (range_at (part_of doc.now.world owner) number) ≡ true }
     ensures { IfOk result (λ text. ForSome (range_at (part_of doc.now.world owner) number)
@@ -34,7 +34,7 @@ pub fn range_text(alloc: Global, doc: &Doc, owner: Owner, number: u32) -> Result
 
 /// The text between two points of one tree.
 fn text_between(alloc: Global, forest: &Forest, points: &Points) -> Result<DomStr, AllocError>
-    requires { AreBounded forest.now points.now }
+    requires { AreSpanned forest.now points.now }
     ensures { IfOk result (λ text. text.items ≡ text_among forest.now.trees (range_at_points forest.now.names points.now)
         (nodes_around forest.now.trees (range_at_points forest.now.names points.now))) }
 {
@@ -45,46 +45,48 @@ fn text_between(alloc: Global, forest: &Forest, points: &Points) -> Result<DomSt
     if first == last && is_text(forest, first) {
         return Ok(text);
     }
-    push_contained(&mut text, forest, points)?;
+    push_contained(alloc, &mut text, forest, points)?;
     text.extend_from_slice(text_part(forest, points, last))?;
     Ok(text)
 }
 
-/// The text of the nodes that are contained between two points of one tree is put behind a text.
-fn push_contained(text: &mut DomStr, forest: &Forest, points: &Points) -> Result<(), AllocError>
-    requires { AreBounded forest.now points.now }
+/// The text of the nodes that are contained between two points of one tree is put behind a text: that of the tree of each
+/// outermost one.
+fn push_contained(
+    alloc: Global,
+    text: &mut DomStr,
+    forest: &Forest,
+    points: &Points,
+) -> Result<(), AllocError>
+    requires { AreSpanned forest.now points.now }
     ensures { OnOk result (text.new.items ≡ text.old.items ++ contained_text forest.now.trees (range_at_points forest.now.names points.now)
         (nodes_around forest.now.trees (range_at_points forest.now.names points.now))) }
 {
     forest.law_nodes_stand_once();
-    if is_before(forest, points.end, points.start) {
-        return Ok(());
+    let found = outermost_contained(alloc, forest, points)?;
+    let tops = found.as_slice();
+    for top in tops {
+        push_tree(text, forest, points, *top)?;
     }
-    push_between(text, forest, points)
+    Ok(())
 }
 
-/// Pushes the text between two points of which the second does not come before the first: the nodes are walked from the
-/// first one on.
-fn push_between(text: &mut DomStr, forest: &Forest, points: &Points) -> Result<(), AllocError>
-    requires bounded { AreBounded forest.now points.now }
-    requires ordered { is_before forest.now.trees (range_at_points forest.now.names points.now).end
-        (range_at_points forest.now.names points.now).start ≡ false }
-    ensures { OnOk result (text.new.items ≡ text.old.items ++ contained_text forest.now.trees (range_at_points forest.now.names points.now)
-        (nodes_around forest.now.trees (range_at_points forest.now.names points.now))) }
+/// The text of the nodes of a node's tree is put behind a text.
+fn push_tree(
+    text: &mut DomStr,
+    forest: &Forest,
+    points: &Points,
+    top: Key,
+) -> Result<(), AllocError>
+    requires ends { AreEnds forest.now points.now }
+    requires node { IsNode forest.now top }
+    ensures { OnOk result (text.new.items ≡ text.old.items ++ tree_text forest.now.trees (range_at_points forest.now.names points.now)
+        (name_of forest.now top)) }
 {
     forest.law_nodes_stand_once();
-    let last = points.end.0;
-    let top = forest.root(points.start.0);
-    let stop = node_after(forest, points.end, top);
-    let mut at = node_after(forest, points.start, top);
+    let mut at = Some(top);
     while let Some(key) = at {
-        let found = stop;
-        if is_node(found, key) {
-            break;
-        }
-        if key != last {
-            text.extend_from_slice(text_part(forest, points, key))?;
-        }
+        text.extend_from_slice(text_part(forest, points, key))?;
         at = forest.following(key, top);
     }
     Ok(())

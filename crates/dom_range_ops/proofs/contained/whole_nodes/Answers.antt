@@ -1,6 +1,5 @@
-use Rattle.dom_range_ops.proofs.Cited.{◌≡◌, ◌+◌, ◌∷◌, ◌++◌, [], take, get_or, sym, ap, ◌∙◌, option_to_list, append-nil, take_more, whole_keys}
+use Rattle.dom_range_ops.proofs.Cited.{◌≡◌, ◌+◌, ◌∷◌, ◌++◌, [], take, get_or, sym, ap, ◌∙◌, option_to_list, append-nil, take_more, whole_keys, take_all}
 use Rattle.dom_range_ops.proofs.OutermostPieces.{keys-append}
-use Rattle.dom_range_ops.proofs.PiecePaths.{all-taken}
 use Rattle.dom_range_ops.proofs.contained.whole_nodes.Goals.{in-Some+in_ok-push, in_default}
 use Rattle.dom_range_ops.proofs.contained.whole_nodes.Goals as goal
 
@@ -20,4 +19,4 @@ loop-piece-preserved c =
     ]
 
 pub returns : goal.returns
-returns c = c.loop-piece.invariant ∙ ap whole_keys (all-taken c.args.pieces.now c.loop-piece.piece-index c.loop-piece-test.false)
+returns c = c.loop-piece.invariant ∙ ap whole_keys (take_all c.loop-piece.piece-index c.args.pieces.now c.loop-piece-test.false)

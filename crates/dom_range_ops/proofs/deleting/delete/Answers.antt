@@ -1,4 +1,4 @@
-use Rattle.dom_range_ops.proofs.Cited.{refl, sym, ◌∙◌, plan_of_range, both_at, deleting, at, set_range, name_in, ready-planned, stands-then, ready-deleting}
+use Rattle.dom_range_ops.proofs.Cited.{refl, sym, ◌∙◌, plan_of_range, both_at, deleting, at, set_range, name_in, ready-planned, stands-then, ready-deleting, ℕ}
 use Rattle.dom_parts.specs.Definitions.{stepped}
 use Rattle.dom_range_ops.proofs.DeletionPlans.{deletion-done, deletion-there, deletion-owner}
 use Rattle.dom_range_ops.proofs.InsertedRanges.{range-there}
@@ -14,7 +14,7 @@ pub range_put-requires-clause-own_start : goal.range_put-requires-clause-own_sta
 range_put-requires-clause-own_start c =
     let here = c.live_points-points.ensures in
     deletion-owner c.args.doc.now c.args.owner c.args.number c.live_points-points.result here (c.laws.ensures.alone _ here.range.start)
-    c.delete_contents.new.doc c.in_ok-delete_contents.ensures c.place_after-node.result.0 c.place_after-node.ensures.owner
+    c.delete_contents.new.doc c.in_ok-delete_contents.ensures c.in_ok-node.node c.in_ok-node.ensures.owner
 
 pub range_put-requires-clause-own_end : goal.range_put-requires-clause-own_end
 range_put-requires-clause-own_end c = range_put-requires-clause-own_start c
@@ -24,7 +24,7 @@ range_put-requires-clause-may_stand c =
     let d = c.args.doc.now in
     let here = c.live_points-points.ensures in
     let n = c.args.number in
-    let place = c.place_after-node.result in
+    let place : ℕ × ℕ = (c.in_ok-node.node, c.in_ok-node.offset) in
     let both = both_at (at (name_in c.delete_contents.new.doc place.0) place.1) in
     stands-then c.delete_contents.new.doc c.args.owner n both (range_put-requires-clause-there c)
     (ready-planned d c.live_points-points.result.start.0 c.args.owner (λ p. plan_of_range p n (deleting n))
@@ -33,16 +33,16 @@ range_put-requires-clause-may_stand c =
     (deletion-done d c.args.owner n c.live_points-points.result here (c.laws.ensures.alone _ here.range.start)
     c.delete_contents.new.doc c.in_ok-delete_contents.ensures place
     (sym (c.is_collapsed.ensures d.names (c.laws.ensures.distinct _ _ here.range.start here.range.end)) ∙ c.if-is_collapsed.false)
-    c.place_after-node.ensures.value refl) c.laws.ensures.ready (λ i r. ready-deleting _ i r n))
+    c.in_ok-node.ensures.value refl) c.laws.ensures.ready (λ i r. ready-deleting _ i r n))
 
 pub returns-clause-world : goal.returns-clause-world
 returns-clause-world c =
     let d = c.args.doc.now in
     let here = c.live_points-points.ensures in
     deletion-done d c.args.owner c.args.number c.live_points-points.result here (c.laws.ensures.alone _ here.range.start)
-    c.delete_contents.new.doc c.in_ok-delete_contents.ensures c.place_after-node.result
+    c.delete_contents.new.doc c.in_ok-delete_contents.ensures (c.in_ok-node.node, c.in_ok-node.offset)
     (sym (c.is_collapsed.ensures d.names (c.laws.ensures.distinct _ _ here.range.start here.range.end)) ∙ c.if-is_collapsed.false)
-    c.place_after-node.ensures.value c.range_put.ensures.state
+    c.in_ok-node.ensures.value c.range_put.ensures.state
 
 pub returns-clause-there : goal.returns-clause-there
 returns-clause-there c =

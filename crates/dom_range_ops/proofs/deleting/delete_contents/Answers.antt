@@ -1,6 +1,6 @@
 use Rattle.dom_range_ops.proofs.Cited.{◌≡◌, ℕ, map, refl, sym, ap, subst, ◌∙◌, AllByRecursion, on_ok_weaker, DocState, HoldsNode, name_in, owner_in}
 use Rattle.dom_range_ops.proofs.DeletionPlans.{with_cut, without_nodes, contents-cut, contents-made}
-use Rattle.dom_range_ops.proofs.DocRanges.{RangeRead, range-read, bounded-in, spanned-in, one-in, cut-in, found-in, found-own}
+use Rattle.dom_range_ops.proofs.DocRanges.{RangeRead, range-read, spanned-in, one-in, cut-in, found-in, found-own}
 use Rattle.dom_range_ops.proofs.deleting.delete_contents.Goals.{After-law_nodes_stand_once}
 use Rattle.dom_range_ops.proofs.deleting.delete_contents.Goals as goal
 
@@ -11,13 +11,13 @@ read c =
     range-read c.forest-forest.result.now c.args.doc.now c.args.points.now e.once e.only g.owned g.names g.trees c.requires
 
 pub part_in-at_start-requires-clause-ends : goal.part_in-at_start-requires-clause-ends
-part_in-at_start-requires-clause-ends c = (bounded-in (read c)).ends
+part_in-at_start-requires-clause-ends c = (spanned-in (read c)).ends
 
 pub is_in_one_data-requires : goal.is_in_one_data-requires
-is_in_one_data-requires c = (bounded-in (read (goal.at.is_in_one_data-requires c).After-law_nodes_stand_once)).ends
+is_in_one_data-requires c = (spanned-in (read (goal.at.is_in_one_data-requires c).After-law_nodes_stand_once)).ends
 
 pub part_in-at_end-requires-clause-ends : goal.part_in-at_end-requires-clause-ends
-part_in-at_end-requires-clause-ends c = (bounded-in (read (goal.at.part_in-at_end-requires-clause-ends c).After-law_nodes_stand_once)).ends
+part_in-at_end-requires-clause-ends c = (spanned-in (read (goal.at.part_in-at_end-requires-clause-ends c).After-law_nodes_stand_once)).ends
 
 pub outermost_contained-requires : goal.outermost_contained-requires
 outermost_contained-requires c = spanned-in (read (goal.at.outermost_contained-requires c).After-law_nodes_stand_once)

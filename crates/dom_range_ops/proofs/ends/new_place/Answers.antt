@@ -1,24 +1,29 @@
-use Rattle.dom_range_ops.proofs.Cited.{not, filter, unwrap_or, sym, ap, ◌∙◌, cond-false, behind_node, last_of, inclusive_ancestors, is_inclusive_ancestor}
-use Rattle.dom_range_ops.proofs.Cited.{name_at, Once-forest, Has-forest, range_at_points}
-use Rattle.dom_range_ops.proofs.DeletionPlaces.{parent-holds, outermost-is}
+use Rattle.dom_range_ops.proofs.Cited.{◌≡◌, ◌-◌, ℕ, List, length, slice_get, sym, ap, ◌∙◌, option_copied, Option}
+use Rattle.dom_range_ops.proofs.PieceLaws.{place-at_start, place-at_low, open-at_low}
+use Rattle.dom_range_ops.proofs.PieceSteps.{none-named}
 use Rattle.dom_range_ops.proofs.ends.new_place.Goals as goal
 
+-- the last key of the path by that of the slice
+by_path : {path keys : List ℕ} {last other : Option ℕ} → path ≡ keys → last ≡ slice_get path (length path - 1) → last ≡ other →
+    slice_get keys (length keys - 1) ≡ other
+by_path same is e = ap (λ ks. slice_get ks (length ks - 1)) (sym same) ∙ sym is ∙ e
+
 pub behind_node-requires-clause-below_no_data : goal.behind_node-requires-clause-below_no_data
-behind_node-requires-clause-below_no_data c p up =
-    let f = c.args.forest.now in
+behind_node-requires-clause-below_no_data c =
     let e = c.law_nodes_stand_once.ensures in
-    parent-holds f.trees (Once-forest f e.once e.only) (range_at_points f.names c.args.points.now) (name_at f.names c.outermost_apart.result)
-    c.requires.leaves (Has-forest f e.once c.args.points.now.start.0 c.requires.ends.start) c.outermost_apart.ensures.above up
+    open-at_low c.args.forest.now e.once e.only c.args.points.now c.requires _ _ c.in_ok-start_path.ensures c.in-Some.low.now
+    (by_path c.as_slice-path.ensures.value c.last.ensures.value (ap option_copied c.in-Some.is))
+
+pub returns-in-Some-clause-value : goal.returns-in-Some-clause-value
+returns-in-Some-clause-value c =
+    let e = c.law_nodes_stand_once.ensures in
+    c.behind_node.ensures.value
+    ∙ sym (place-at_low c.args.forest.now e.once e.only c.args.points.now c.requires _ _ c.in_ok-start_path.ensures c.in-Some.low.now
+    (by_path c.as_slice-path.ensures.value c.last.ensures.value (ap option_copied c.in-Some.is)))
 
 pub returns-clause-value : goal.returns-clause-value
 returns-clause-value c =
-    let f = c.args.forest.now in
     let e = c.law_nodes_stand_once.ensures in
-    let r = range_at_points f.names c.args.points.now in
-    let s = r.start.node in
-    let behind = behind_node f.trees (unwrap_or (last_of (filter (λ a. not (is_inclusive_ancestor f.trees a r.end.node)) (inclusive_ancestors f.trees s))) s) in
-    let last = outermost-is f.trees (Once-forest f e.once e.only) s r.end.node (name_at f.names c.outermost_apart.result)
-    (Has-forest f e.once c.args.points.now.start.0 c.requires.ends.start) c.outermost_apart.ensures.above c.outermost_apart.ensures.alone in
-    c.behind_node.ensures.value
-    ∙ (ap (λ o. behind_node f.trees (unwrap_or o s)) (sym last) ∙
-    sym (cond-false (is_inclusive_ancestor f.trees s r.end.node) r.start behind (sym c.if-is_inclusive_ancestor.ensures)))
+    sym (place-at_start c.args.forest.now e.once e.only c.args.points.now c.requires _ _ c.in_ok-start_path.ensures
+    (none-named c.in_ok-start_path.start_path.items
+    (by_path c.as_slice-path.ensures.value c.last.ensures.value (ap option_copied c.in-None.is))))

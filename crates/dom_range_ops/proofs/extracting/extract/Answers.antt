@@ -23,7 +23,7 @@ is_past_limit-requires c =
     subst (λ (o : Owner). is_there c.args.doc.now.world o ≡ true) here.owner (c.laws.ensures.present _ here.range.start)
 
 pub extract_pieces-requires-clause-place_owner : goal.extract_pieces-requires-clause-place_owner
-extract_pieces-requires-clause-place_owner c = c.place_after-place.ensures.owner ∙ c.live_points-points.ensures.owner
+extract_pieces-requires-clause-place_owner c = c.in_ok-place.ensures.owner ∙ c.live_points-points.ensures.owner
 
 pub extract_pieces-requires-clause-may_take : goal.extract_pieces-requires-clause-may_take
 extract_pieces-requires-clause-may_take c =
@@ -37,9 +37,9 @@ pub extract_pieces-requires-clause-ready : goal.extract_pieces-requires-clause-r
 extract_pieces-requires-clause-ready c =
     let here = c.live_points-points.ensures in
     let n = c.args.number in
-    let place = c.place_after-place.result in
+    let place = c.in_ok-place.place in
     let w = world-own (found (goal.at.extract_pieces-requires-clause-ready c).After-as_slice-pieces) (at (name_in c.args.doc.now place.0) place.1)
-    c.place_after-place.ensures.value _ refl in
+    c.in_ok-place.ensures.value _ refl in
     ready-planned c.args.doc.now c.live_points-points.result.start.0 c.args.owner (λ p. plan_of_range p n (extracting n)) _
     (record { alone = c.laws.ensures.alone; parts = c.laws.ensures.parts; stand = c.laws.ensures.stand }) here.range.start here.owner w
     c.laws.ensures.ready (λ i r. ready-extracting _ i r n)
@@ -51,9 +51,9 @@ returns-clause-names c =
 
 pub returns-clause-world : goal.returns-clause-world
 returns-clause-world c =
-    let place = c.place_after-place.result in
+    let place = c.in_ok-place.place in
     on_ok_weaker c.extract_pieces.result
-    (world-own (found (goal.at.returns-clause-world c).After-as_slice-pieces) (at (name_in c.args.doc.now place.0) place.1) c.place_after-place.ensures.value
+    (world-own (found (goal.at.returns-clause-world c).After-as_slice-pieces) (at (name_in c.args.doc.now place.0) place.1) c.in_ok-place.ensures.value
     c.extract_pieces.new.doc.world) c.extract_pieces.ensures.world
 
 pub returns-then-is_past_limit-clause-refused : goal.returns-then-is_past_limit-clause-refused

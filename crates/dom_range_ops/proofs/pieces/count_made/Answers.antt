@@ -1,6 +1,5 @@
 use Rattle.dom_range_ops.proofs.Cited.{◌≡◌, ◌≤◌, ℕ, ◌+◌, List, [], ◌∷◌, map, take, get_or, sym, ap, ◌∙◌, arith, if◌then◌else◌, take_more, map_push, NodeName}
-use Rattle.dom_range_ops.proofs.Cited.{item_in, made_by}
-use Rattle.dom_range_ops.proofs.PiecePaths.{all-taken}
+use Rattle.dom_range_ops.proofs.Cited.{item_in, made_by, take_all}
 use Rattle.dom_range_ops.proofs.PieceSteps.{made-append}
 use Rattle.dom_range_ops.proofs.pieces.count_made.Goals.{then-is_made, else-is_made}
 use Rattle.dom_range_ops.proofs.pieces.count_made.Goals as goal
@@ -37,4 +36,4 @@ loop-piece-preserved c =
 
 pub returns : goal.returns
 returns c names = c.loop-piece.invariant.value names ∙ ap (λ ps. made_by (map (item_in names) ps))
-    (all-taken c.args.pieces.now c.loop-piece.piece-index c.loop-piece-test.false)
+    (take_all c.loop-piece.piece-index c.args.pieces.now c.loop-piece-test.false)

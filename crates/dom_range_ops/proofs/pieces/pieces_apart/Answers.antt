@@ -1,34 +1,14 @@
-use Rattle.dom_range_ops.proofs.Cited.{ℕ, ◌<◌, List, [], length, map, take, sym, ap, subst, ◌∙◌, refl, AllByRecursion, name_at, AreItems, ArePaths, Piece}
-use Rattle.dom_range_ops.proofs.PiecePaths.{paths-part, alike}
-use Rattle.dom_range_ops.proofs.pieces.pieces_apart.Goals.{After-deref-4}
+use Rattle.dom_range_ops.proofs.Cited.{List, [], sym, subst, refl, AreItems, ArePaths, Piece}
 use Rattle.dom_range_ops.proofs.pieces.pieces_apart.Goals as goal
 
--- the paths up to where they part
-paths : (c : After-deref-4) → ArePaths c.args.forest.now c.args.points.now (take c.parting-first.result.0 c.deref-3.result.now)
-    (take c.parting-first.result.1 c.deref-4.result.now)
-paths c =
-    let f = c.args.forest.now in
-    let e = c.law_nodes_stand_once.ensures in
-    let points = c.args.points.now in
-    let node = λ (ks : List ℕ). AllByRecursion (λ k. k < length f.names) ks in
-    let start = c.deref-3.ensures.value in
-    let end = c.deref-4.ensures.value in
-    let first = c.deref.ensures.value ∙ sym start in
-    let second = c.deref-2.ensures.value ∙ sym end in
-    paths-part f e.once e.only e.distinct points c.requires.ends c.deref-3.result.now c.deref-4.result.now
-    (ap (map (name_at f.names)) start ∙ c.in_ok-start_path.ensures.names) (ap (map (name_at f.names)) end ∙ c.in_ok-end_path.ensures.names)
-    (subst node (sym start) c.in_ok-start_path.ensures.nodes) (subst node (sym end) c.in_ok-end_path.ensures.nodes)
-    (alike first second c.parting-first.ensures)
-
 pub push_pieces-requires-clause-paths : goal.push_pieces-requires-clause-paths
-push_pieces-requires-clause-paths c = paths (goal.at.push_pieces-requires-clause-paths c).After-deref-4
+push_pieces-requires-clause-paths c =
+    let paths = ArePaths c.args.forest.now c.args.points.now in
+    subst (λ ks. paths ks c.as_slice-2.result.now) (sym c.as_slice.ensures.value)
+    (subst (paths c.in_ok-start_path.start_path.items) (sym c.as_slice-2.ensures.value) c.in_ok-start_path.ensures)
 
 pub returns-clause-paths : goal.returns-clause-paths
-returns-clause-paths c = (
-  take c.parting-first.result.0 c.deref-3.result.now,
-  take c.parting-first.result.1 c.deref-4.result.now,
-  paths (goal.at.returns-clause-paths c).After-deref-4,
-)
+returns-clause-paths c = (c.in_ok-start_path.start_path.items, c.in_ok-start_path.end_path.items, c.in_ok-start_path.ensures)
 
 pub returns-clause-items : goal.returns-clause-items
 returns-clause-items c =

@@ -1,5 +1,5 @@
 use Rattle.dom_range_ops.proofs.Cited.{◌≡◌, Some, sym, ap, ◌∙◌, range_text_of, part_of, range_at_points}
-use Rattle.dom_range_ops.proofs.DocRanges.{RangeRead, range-read, bounded-in, text-in, if-ok}
+use Rattle.dom_range_ops.proofs.DocRanges.{RangeRead, range-read, spanned-in, text-in, if-ok}
 use Rattle.dom_range_ops.proofs.text.range_text.Goals.{After-law_nodes_stand_once}
 use Rattle.dom_range_ops.proofs.text.range_text.Goals as goal
 
@@ -10,7 +10,7 @@ read c =
     range-read c.forest-forest.result.now c.args.doc.now c.live_points-points.result e.once e.only g.owned g.names g.trees c.live_points-points.ensures.range
 
 pub text_between-requires : goal.text_between-requires
-text_between-requires c = bounded-in (read (goal.at.text_between-requires c).After-law_nodes_stand_once)
+text_between-requires c = spanned-in (read (goal.at.text_between-requires c).After-law_nodes_stand_once)
 
 pub returns : goal.returns
 returns c =

@@ -1,19 +1,19 @@
--- The paths from the ends of a range up to the children of their lowest common inclusive ancestor, by keys.
 use Rattle.dom_range_ops.proofs.Cited.{◌≡◌, ℕ, zero, suc, ◌<◌, ◌≤◌, ◌-◌, List, [], ◌∷◌, ◌++◌, length, map, take, drop, get_or, Some, refl, sym, ap, subst, ◌∙◌}
 use Rattle.dom_range_ops.proofs.Cited.{arith, length-drop, unwrap_or, AllByRecursion, take-suc, map-append, map_push, take-append-drop, same_Some, none-some}
 use Rattle.dom_range_ops.proofs.Cited.{NodeName, last_of, inclusive_ancestors, root_of, name_eq-true, Points, StandOnce, StandAlone, Has-forest, last_of-end}
-use Rattle.dom_range_ops.proofs.Cited.{above-present, NamedTrees, name_at, TellApart, EndAlike, ArePaths, AreEnds}
+use Rattle.dom_range_ops.proofs.Cited.{above-present, NamedTrees, name_at, TellApart, EndAlike, ArePaths, AreEnds, take_all}
+use Rattle.dom_range_ops.proofs.pieces.paths.parted_paths.Goals as goal
 
 -- ---- what holds of all keys of a list
 
 -- of one of them
-pub all-at : (P : ℕ → Type 0) (ks : List ℕ) (i : ℕ) → AllByRecursion P ks → i < length ks → P (get_or ks i 0)
+all-at : (P : ℕ → Type 0) (ks : List ℕ) (i : ℕ) → AllByRecursion P ks → i < length ks → P (get_or ks i 0)
 all-at P [] i all l = absurd (omega (arith, l))
 all-at P (k ∷ ks) zero all l = all.0
 all-at P (k ∷ ks) (suc i) all l = all-at P ks i all.1 (omega (arith, l))
 
 -- of the first of them
-pub all-take : (P : ℕ → Type 0) (m : ℕ) (ks : List ℕ) → AllByRecursion P ks → AllByRecursion P (take m ks)
+all-take : (P : ℕ → Type 0) (m : ℕ) (ks : List ℕ) → AllByRecursion P ks → AllByRecursion P (take m ks)
 all-take P zero ks all = tt
 all-take P (suc m) [] all = tt
 all-take P (suc m) (k ∷ ks) all = (all.0, all-take P m ks all.1)
@@ -21,7 +21,7 @@ all-take P (suc m) (k ∷ ks) all = (all.0, all-take P m ks all.1)
 -- ---- last items
 
 -- the last of the first so many
-pub last-taken : (names : List NodeName) (ks : List ℕ) (m : ℕ) → 0 < m → m ≤ length ks →
+last-taken : (names : List NodeName) (ks : List ℕ) (m : ℕ) → 0 < m → m ≤ length ks →
     last_of (map (name_at names) (take m ks)) ≡ Some (name_at names (get_or ks (m - 1) 0))
 last-taken names ks zero l le = absurd (omega (arith, l))
 last-taken names ks (suc m) l le =
@@ -29,13 +29,6 @@ last-taken names ks (suc m) l le =
     ap (λ xs. last_of (map (name_at names) xs)) (take-suc ks m 0 (omega (arith, le)))
     ∙ (ap last_of (map_push (name_at names) (take m ks) (get_or ks m 0))
     ∙ (last_of-end (map (name_at names) (take m ks)) (name_at names (get_or ks m 0)) ∙ ap (λ n. Some (name_at names (get_or ks n 0))) (sym here)))
-
--- the first of all are all
-pub all-taken : {X : Type 0} (ks : List X) (m : ℕ) → length ks ≤ m → take m ks ≡ ks
-all-taken [] zero l = refl
-all-taken [] (suc m) l = refl
-all-taken (k ∷ ks) zero l = absurd (omega (arith, l))
-all-taken (k ∷ ks) (suc m) l = ap (λ js. k ∷ js) (all-taken ks m (omega (arith, l)))
 
 -- ---- where the paths part
 
@@ -61,10 +54,10 @@ module _ (f : NamedTrees) (once : StandOnce f) (only : StandAlone f) (distinct :
   last-root ks k node e =
       let last = last-taken f.names ks (length ks) (some-names ks k node e) (omega arith) in
       let is : last_of (above k) ≡ Some (name_at f.names (get_or ks (length ks - 1) 0)) =
-      ap last_of (sym e) ∙ (ap (λ js. last_of (named js)) (sym (all-taken ks (length ks) (omega arith))) ∙ last) in
+      ap last_of (sym e) ∙ (ap (λ js. last_of (named js)) (sym (take_all (length ks) ks (omega arith))) ∙ last) in
       sym (ap (λ o. unwrap_or o (name_at f.names k)) is)
 
-  pub paths-part : named first ≡ above points.start.0 → named second ≡ above points.end.0 → AllByRecursion (λ k. k < length f.names) first →
+  paths-part : named first ≡ above points.start.0 → named second ≡ above points.end.0 → AllByRecursion (λ k. k < length f.names) first →
       AllByRecursion (λ k. k < length f.names) second
       → {m n : ℕ} → EndAlike first second m n → ArePaths f points (take m first) (take n second)
   paths-part start end start_nodes end_nodes {m} {n} a = by (drop m first) refl
@@ -126,5 +119,17 @@ module _ (f : NamedTrees) (once : StandOnce f) (only : StandAlone f) (distinct :
       }
 
 -- lists that are the same end alike as others do
-pub alike : {xs ys us vs : List ℕ} {m n : ℕ} → xs ≡ us → ys ≡ vs → EndAlike xs ys m n → EndAlike us vs m n
+alike : {xs ys us vs : List ℕ} {m n : ℕ} → xs ≡ us → ys ≡ vs → EndAlike xs ys m n → EndAlike us vs m n
 alike {ys} {us} {m} {n} e g a = subst (λ ws. EndAlike us ws m n) g (subst (λ ws. EndAlike ws ys m n) e a)
+
+pub returns : goal.returns
+returns c =
+    let f = c.args.forest.now in
+    let e = c.law_nodes_stand_once.ensures in
+    let points = c.args.points.now in
+    let start = c.in_ok-start_path.ensures in
+    let end = c.in_ok-end_path.ensures in
+    subst (λ ks. ArePaths f points ks c.truncate-2.new.self.items) (sym c.truncate.ensures.items)
+    (subst (λ ks. ArePaths f points (take c.parting-first.result.0 c.in_ok-start_path.start_path.items) ks) (sym c.truncate-2.ensures.items)
+    (paths-part f e.once e.only e.distinct points c.requires c.in_ok-start_path.start_path.items c.in_ok-end_path.end_path.items
+    start.names end.names start.nodes end.nodes (alike c.as_slice.ensures.value c.as_slice-2.ensures.value c.parting-first.ensures)))
