@@ -1,5 +1,5 @@
 //! Numbers, owners and nodes.
-ghost use Rattle.std.specs.Prelude.{◌≡◌, ◌++◌, take, OnOk, OnErr};
+ghost use Rattle.std.specs.Prelude.{◌≡◌, ◌++◌, OnOk, OnErr};
 ghost use Rattle.std.specs.Fmt.{decimal};
 ghost use Rattle.std.specs.List.{flat_map};
 ghost use Rattle.dom_text.specs.Text.{node_text, node_or_null, next_node_text, list_text};
@@ -36,21 +36,14 @@ fn put_inner_numbers(out: &mut Vec<u8>, numbers: &[u32]) -> Result<(), AllocErro
     Ok(())
 }
 
-/// The numbers of a component's word, the outermost first.
-fn numbers_of(component: &OwnerPath) -> &[u32]
-    ensures { result.now ≡ take component.now.depth component.now.parts }
-{
-    &component.parts[..(component.depth as usize).min(component.parts.len())]
-}
-
 /// Puts the word of a component: `c`, and the numbers of its path with dots between them.
 #[tactic(auto, using(crate::proofs::KeepLaws::keeps_at))]
-fn put_component(out: &mut Vec<u8>, component: OwnerPath) -> Result<(), AllocError>
-    ensures ok { OnOk result (out.new.items ≡ out.old.items ++ component_word component) }
+fn put_component(out: &mut Vec<u8>, component: &OwnerPath) -> Result<(), AllocError>
+    ensures ok { OnOk result (out.new.items ≡ out.old.items ++ component_word component.now) }
     ensures err { OnErr result (Keeps out.old.items out.new.items) }
 {
-    out.extend_from_slice(b"c")?;
-    match numbers_of(&component) {
+    out.push(b'c')?;
+    match component.numbers() {
         [] => Ok(()),
         [first, inner @ ..] => {
             put_number(out, *first as usize)?;
@@ -67,13 +60,13 @@ pub fn put_owner_word(out: &mut Vec<u8>, owner: Owner) -> Result<(), AllocError>
     ensures err { OnErr result (out.new.items ≡ out.old.items) }
 {
     let length = out.len();
-    let put = put_owner(out, owner);
+    let put = put_owner(out, &owner);
     cut_if_refused(out, length, put)
 }
 
 /// Puts the word of an owner, as far as there is memory.
-pub(crate) fn put_owner(out: &mut Vec<u8>, owner: Owner) -> Result<(), AllocError>
-    ensures ok { OnOk result (out.new.items ≡ out.old.items ++ owner_word owner) }
+pub(crate) fn put_owner(out: &mut Vec<u8>, owner: &Owner) -> Result<(), AllocError>
+    ensures ok { OnOk result (out.new.items ≡ out.old.items ++ owner_word owner.now) }
     ensures err { OnErr result (Keeps out.old.items out.new.items) }
 {
     match owner {
@@ -92,7 +85,7 @@ pub(crate) fn put_node(out: &mut Vec<u8>, viewer: Owner, node: NodeName) -> Resu
         Owner::Page => out.push(b'n')?,
         Owner::Component(component) => {
             if viewer != node.owner {
-                put_component(out, component)?;
+                put_component(out, &component)?;
                 out.extend_from_slice(b":")?;
             }
             out.push(b'm')?;

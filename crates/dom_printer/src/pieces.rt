@@ -47,7 +47,7 @@ fn put_line_parts(out: &mut Vec<u8>, owner: Owner, pieces: &[Piece<'_>]) -> Resu
     ensures ok { OnOk result (out.new.items ≡ out.old.items ++ line_text owner (pieces_text owner pieces.now)) }
     ensures err { OnErr result (Keeps out.old.items out.new.items) }
 {
-    put_owner(out, owner)?;
+    put_owner(out, &owner)?;
     out.push(b' ')?;
     put_pieces(out, owner, pieces)?;
     Ok(out.push(b'\n')?)
@@ -76,7 +76,7 @@ fn put_piece(out: &mut Vec<u8>, viewer: Owner, piece: &Piece<'_>) -> Result<(), 
         Piece::Text(_) => Ok(()),
         Piece::Bytes(_, bytes) => out.extend_from_slice(bytes),
         Piece::Number(_, number) => put_number(out, *number),
-        Piece::Owner(_, owner) => put_owner(out, *owner),
+        Piece::Owner(_, owner) => put_owner(out, owner),
         Piece::Node(_, node) => put_node(out, viewer, *node),
         Piece::NodeOrNull(_, node) => put_node_or_null(out, viewer, *node),
         Piece::Nodes(_, nodes) => put_list(out, viewer, nodes),

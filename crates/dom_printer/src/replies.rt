@@ -12,7 +12,7 @@ use crate::buffers::cut_if_refused;
 use crate::names::{put_node, put_owner};
 use crate::pieces::{Piece, put_line};
 use dom_base::{NodeName, Owner, Refusal};
-use itoa::Buffer;
+use itoa::write_digits;
 use std::alloc::AllocError;
 
 /// A boundary point: a node and an offset, in children or in code units (DOM Standard, 5.2 Boundary points).
@@ -83,18 +83,16 @@ fn put_page_node(out: &mut Vec<u8>, number: u32) -> Result<(), AllocError>
     ensures ok { OnOk result (out.new.items ≡ out.old.items ++ line_text Page (codes "ok n" ++ decimal number)) }
     ensures err { OnErr result (out.new.items ≡ out.old.items) }
 {
-    let mut digits = Buffer::new();
-    let digits = digits.format(number as usize).as_bytes();
-    out.reserve(b"p ok n\n".len() + digits.len())?;
+    let mut end = *b"0000000000\n";
+    let start = write_digits(number as u64, &mut end, 10);
+    out.reserve(b"p ok n".len() + end.len())?;
     out.extend_from_slice(b"p ok n")?;
-    out.extend_from_slice(digits)?;
-    out.push(b'\n')?;
-    Ok(())
+    out.extend_from_slice(&end[start..])
 }
 
 /// Puts the reply that has no value.
-fn put_done(out: &mut Vec<u8>, owner: Owner) -> Result<(), AllocError>
-    ensures ok { OnOk result (out.new.items ≡ out.old.items ++ output_text (says owner (replied nothing) ∷ [])) }
+fn put_done(out: &mut Vec<u8>, owner: &Owner) -> Result<(), AllocError>
+    ensures ok { OnOk result (out.new.items ≡ out.old.items ++ output_text (says owner.now (replied nothing) ∷ [])) }
     ensures err { OnErr result (out.new.items ≡ out.old.items) }
 {
     let length = out.len();
@@ -104,8 +102,8 @@ fn put_done(out: &mut Vec<u8>, owner: Owner) -> Result<(), AllocError>
 
 /// Puts that reply, as far as there is memory.
 #[tactic(auto, using(crate::proofs::KeepLaws::keeps_at))]
-fn put_done_parts(out: &mut Vec<u8>, owner: Owner) -> Result<(), AllocError>
-    ensures ok { OnOk result (out.new.items ≡ out.old.items ++ line_text owner (codes "ok")) }
+fn put_done_parts(out: &mut Vec<u8>, owner: &Owner) -> Result<(), AllocError>
+    ensures ok { OnOk result (out.new.items ≡ out.old.items ++ line_text owner.now (codes "ok")) }
     ensures err { OnErr result (Keeps out.old.items out.new.items) }
 {
     put_owner(out, owner)?;
@@ -113,8 +111,8 @@ fn put_done_parts(out: &mut Vec<u8>, owner: Owner) -> Result<(), AllocError>
 }
 
 /// Puts the reply that has a node.
-fn put_found(out: &mut Vec<u8>, owner: Owner, node: NodeName) -> Result<(), AllocError>
-    ensures ok { OnOk result (out.new.items ≡ out.old.items ++ output_text (says owner (replied (a_node node)) ∷ [])) }
+fn put_found(out: &mut Vec<u8>, owner: &Owner, node: NodeName) -> Result<(), AllocError>
+    ensures ok { OnOk result (out.new.items ≡ out.old.items ++ output_text (says owner.now (replied (a_node node)) ∷ [])) }
     ensures err { OnErr result (out.new.items ≡ out.old.items) }
 {
     let length = out.len();
@@ -124,14 +122,14 @@ fn put_found(out: &mut Vec<u8>, owner: Owner, node: NodeName) -> Result<(), Allo
 
 /// Puts that reply, as far as there is memory.
 #[tactic(auto, using(crate::proofs::KeepLaws::keeps_at))]
-fn put_found_parts(out: &mut Vec<u8>, owner: Owner, node: NodeName) -> Result<(), AllocError>
-    ensures ok { OnOk result (out.new.items ≡ out.old.items ++ line_text owner (codes "ok " ++ node_text owner node)) }
+fn put_found_parts(out: &mut Vec<u8>, owner: &Owner, node: NodeName) -> Result<(), AllocError>
+    ensures ok { OnOk result (out.new.items ≡ out.old.items ++ line_text owner.now (codes "ok " ++ node_text owner.now node)) }
     ensures err { OnErr result (Keeps out.old.items out.new.items) }
 {
     put_owner(out, owner)?;
     out.extend_from_slice(b" ok ")?;
-    put_node(out, owner, node)?;
-    out.extend_from_slice(b"\n")
+    put_node(out, *owner, node)?;
+    Ok(out.push(b'\n')?)
 }
 
 /// Puts a reply with its end, whatever its value.
@@ -141,8 +139,8 @@ fn put_value(out: &mut Vec<u8>, owner: Owner, value: &Value<'_>) -> Result<(), A
     ensures err { OnErr result (out.new.items ≡ out.old.items) }
 {
     let piece = match value {
-        Value::Nothing => return put_done(out, owner),
-        Value::Node(node) => return put_found(out, owner, *node),
+        Value::Nothing => return put_done(out, &owner),
+        Value::Node(node) => return put_found(out, &owner, *node),
         Value::Null => Piece::Text(b"ok null"),
         Value::List(nodes) => Piece::Nodes(b"ok ", nodes),
         Value::Component(component) => Piece::Owner(b"ok ", *component),

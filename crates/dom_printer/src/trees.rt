@@ -76,7 +76,7 @@ fn put_tree_parts(out: &mut Vec<u8>, owner: Owner, steps: &[TreeStep<'_>]) -> Re
         ≡ out.old.items ++ line_text owner (codes "ok" ++ steps_text owner (steps_view steps.now))) }
     ensures err { OnErr result (Keeps out.old.items out.new.items) }
 {
-    put_owner(out, owner)?;
+    put_owner(out, &owner)?;
     out.extend_from_slice(b" ok")?;
     put_steps(out, owner, steps)?;
     out.extend_from_slice(b"\n")

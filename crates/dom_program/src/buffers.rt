@@ -41,11 +41,12 @@ impl<W: Write + Drop> Output<W> {
     }
 
     /// Fails where a call has failed.
+    #[inline(always)]
     fn expect_no_failure(&self) -> io::Result<()>
         ensures { 0 < self.now.failed_calls.total → IsErr result }
     {
         if self.has_failed {
-            return Err(ErrorKind::BrokenPipe.into());
+            return Err(failed_before());
         }
         Ok(())
     }
@@ -61,6 +62,7 @@ impl<W: Write + Drop> Output<W> {
     }
 
     /// Keeps some first bytes, and gives their number. What was kept before is handed on where they find no room.
+    #[inline(always)]
     fn keep(&mut self, bytes: &[u8]) -> io::Result<usize>
         ensures bound { WritesAtMost result bytes.now }
         ensures bytes { WriteAppends (writer_contents W.contents self.old.kept) (writer_contents W.contents self.new.kept) result bytes.now }
@@ -101,6 +103,13 @@ impl<W: Write + Drop> Output<W> {
     }
 }
 
+/// The error of a call behind one that has failed. It is made out of line, since few calls have it.
+#[cold]
+#[inline(never)]
+fn failed_before() -> io::Error {
+    ErrorKind::BrokenPipe.into()
+}
+
 impl<W: Write + Drop> Sink for Output<W> {
     ghost use Rattle.std.specs.Prelude.{length};
     ghost use Rattle.std.specs.Io.Buffered.{writer_buffer, writer_contents};
@@ -113,6 +122,7 @@ impl<W: Write + Drop> Sink for Output<W> {
 
     ghost held = { λ s. length (writer_buffer s.kept) };
 
+    #[inline(always)]
     fn write(&mut self, bytes: &[u8]) -> io::Result<usize> {
         let outcome = self.keep(bytes);
         let is_taken = matches!(outcome, Ok(n) if n > 0 || bytes.is_empty());

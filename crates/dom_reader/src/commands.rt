@@ -33,10 +33,10 @@ fn ended(command: Command, words: &WordReader) -> Result<Command, NotRead>
 fn command_behind(
     alloc: Global,
     keyword: Keyword,
-    owner: Owner,
+    owner: &Owner,
     words: &mut WordReader,
 ) -> Result<Command, NotRead>
-    ensures { Gives command_view result (spec_command_behind (keyword_view keyword) owner words.old) }
+    ensures { Gives command_view result (spec_command_behind (keyword_view keyword) owner.now words.old) }
 {
     match keyword {
         Keyword::Making(word) => making_command(alloc, word, owner, words),
@@ -51,8 +51,8 @@ fn command_behind(
 }
 
 /// The command that the bytes behind the owner's word say.
-pub fn command_at(alloc: Global, owner: Owner, bytes: &[u8]) -> Result<Command, NotRead>
-    ensures { Gives command_view result (spec_command_at owner bytes.now) }
+pub fn command_at(alloc: Global, owner: &Owner, bytes: &[u8]) -> Result<Command, NotRead>
+    ensures { Gives command_view result (spec_command_at owner.now bytes.now) }
 {
     let mut words = WordReader::new(bytes);
     let word = words.word()?;

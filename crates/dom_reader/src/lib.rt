@@ -44,7 +44,7 @@ pub fn parse_line(
     if line.len() > MAX_LINE {
         return Ok(Err((Some(owner), Refusal::Syntax)));
     }
-    match command_at(alloc, owner, bytes) {
+    match command_at(alloc, &owner, bytes) {
         Ok(command) => Ok(Ok(Line { owner, command })),
         Err(NotRead::Syntax) => Ok(Err((Some(owner), Refusal::Syntax))),
         Err(NotRead::Memory) => Err(AllocError),

@@ -106,8 +106,8 @@ pub fn owner_at(line: &[u8]) -> Option<(Owner, &[u8])>
 }
 
 /// The node `nJ` in a line of the owner.
-fn page_node(owner: Owner, number: u32) -> NodeWord
-    ensures { word_view result ≡ spec_page_node owner number }
+fn page_node(owner: &Owner, number: u32) -> NodeWord
+    ensures { word_view result ≡ spec_page_node owner.now number }
 {
     match owner {
         Owner::Page => NodeWord::Own(number),
@@ -116,8 +116,8 @@ fn page_node(owner: Owner, number: u32) -> NodeWord
 }
 
 /// The node `mJ` in a line of the owner.
-fn inner_node(owner: Owner, number: u32) -> NodeWord
-    ensures { word_view result ≡ spec_inner_node owner number }
+fn inner_node(owner: &Owner, number: u32) -> NodeWord
+    ensures { word_view result ≡ spec_inner_node owner.now number }
 {
     match owner {
         Owner::Page => NodeWord::Foreign,
@@ -154,8 +154,8 @@ fn full_name_of(word: &[u8]) -> Option<NodeWord>
 }
 
 /// The node that the word names in a line of the owner.
-fn node_word_of(owner: Owner, word: &[u8]) -> Option<NodeWord>
-    ensures { option_map word_view result ≡ spec_spelled_of owner word.now }
+fn node_word_of(owner: &Owner, word: &[u8]) -> Option<NodeWord>
+    ensures { option_map word_view result ≡ spec_spelled_of owner.now word.now }
 {
     match word {
         [] => None,
@@ -168,8 +168,8 @@ fn node_word_of(owner: Owner, word: &[u8]) -> Option<NodeWord>
 }
 
 /// The letter before the number of an owner's own node in its lines.
-fn own_letter(owner: Owner) -> u8
-    ensures { result ≡ own_letter owner }
+fn own_letter(owner: &Owner) -> u8
+    ensures { result ≡ own_letter owner.now }
 {
     match owner {
         Owner::Page => b'n',
@@ -180,16 +180,17 @@ fn own_letter(owner: Owner) -> u8
 /// The next word as a node, as a line of the owner names it, however it is spelled. It is kept out of line, so that the reading of an
 /// owner's own node keeps few registers.
 #[inline(never)]
-fn spelled_node(owner: Owner, words: &mut WordReader) -> Result<NodeWord, NotRead>
-    ensures { Takes word_view result (node_at owner words.old) words.new }
+fn spelled_node(owner: &Owner, words: &mut WordReader) -> Result<NodeWord, NotRead>
+    ensures { Takes word_view result (node_at owner.now words.old) words.new }
 {
     let word = words.word()?;
     node_word_of(owner, word).ok_or(NotRead::Syntax)
 }
 
-/// The next word as a node, as a line of the owner names it. Most are the owner's own, and are read in one pass.
-pub fn next_node(owner: Owner, words: &mut WordReader) -> Result<NodeWord, NotRead>
-    ensures { Takes word_view result (node_at owner words.old) words.new }
+/// The next word as a node, as a line of the owner names it. Most are the owner's own, and are read in one pass, in line.
+#[inline(always)]
+pub fn next_node(owner: &Owner, words: &mut WordReader) -> Result<NodeWord, NotRead>
+    ensures { Takes word_view result (node_at owner.now words.old) words.new }
 {
     match words.lettered(own_letter(owner)) {
         Some(number) => Ok(NodeWord::Own(number)),

@@ -45,7 +45,8 @@ impl View {
         Ok(View { owner, prefix })
     }
 
-    /// Writes the lines of the text that the view keeps.
+    /// Writes the lines of the text that the view keeps. It is in line, since each line of a run ends with it.
+    #[inline(always)]
     pub fn write<W: Sink>(&self, sink: &mut W, text: &[u8]) -> Result<(), RunFault>
         ensures { EndsWriting result (W.failures sink.old) (W.failures sink.new) (W.contents sink.old, W.taken sink.old) (W.contents sink.new, W.taken sink.new)
             (viewed self.now text.now) ⊥ }

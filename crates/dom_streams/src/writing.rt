@@ -7,6 +7,7 @@ use crate::fault::RunFault;
 use crate::streams::{Sink, Source};
 
 /// Writes all of the bytes.
+#[inline(always)]
 pub fn write_all_to<W: Sink>(sink: &mut W, bytes: &[u8]) -> Result<(), RunFault>
     ensures { EndsWriting result (W.failures sink.old) (W.failures sink.new)
         (W.contents sink.old, W.taken sink.old) (W.contents sink.new, W.taken sink.new) bytes.now ⊥ }

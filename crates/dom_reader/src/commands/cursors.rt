@@ -20,10 +20,10 @@ use std::alloc::Global;
 /// The words of an iterator or a walker: a root, what is shown, and perhaps a name.
 fn filtered(
     alloc: Global,
-    owner: Owner,
+    owner: &Owner,
     words: &mut WordReader,
 ) -> Result<(NodeWord, Filter), NotRead>
-    ensures { Gives (λ x. (word_view x.0, filter_view x.1)) result (spec_filtered owner words.old) }
+    ensures { Gives (λ x. (word_view x.0, filter_view x.1)) result (spec_filtered owner.now words.old) }
 {
     let root = next_node(owner, words)?;
     let word = words.word()?;
@@ -33,16 +33,16 @@ fn filtered(
 }
 
 /// The words of `iter-new`.
-fn iterator_new(alloc: Global, owner: Owner, words: &mut WordReader) -> Result<Command, NotRead>
-    ensures { Gives command_view result (cursor_at owner model.iterator_new words.old) }
+fn iterator_new(alloc: Global, owner: &Owner, words: &mut WordReader) -> Result<Command, NotRead>
+    ensures { Gives command_view result (cursor_at owner.now model.iterator_new words.old) }
 {
     let (root, filter) = filtered(alloc, owner, words)?;
     Ok(Command::IteratorNew(root, filter))
 }
 
 /// The words of `walk-new`.
-fn walker_new(alloc: Global, owner: Owner, words: &mut WordReader) -> Result<Command, NotRead>
-    ensures { Gives command_view result (cursor_at owner model.walker_new words.old) }
+fn walker_new(alloc: Global, owner: &Owner, words: &mut WordReader) -> Result<Command, NotRead>
+    ensures { Gives command_view result (cursor_at owner.now model.walker_new words.old) }
 {
     let (root, filter) = filtered(alloc, owner, words)?;
     Ok(Command::WalkerNew(root, filter))
@@ -51,10 +51,10 @@ fn walker_new(alloc: Global, owner: Owner, words: &mut WordReader) -> Result<Com
 /// The range's command that goes on with the words.
 pub fn range_command(
     word: RangeWord,
-    owner: Owner,
+    owner: &Owner,
     words: &mut WordReader,
 ) -> Result<Command, NotRead>
-    ensures { Gives command_view result (command_behind (range_keyword word) owner words.old) }
+    ensures { Gives command_view result (command_behind (range_keyword word) owner.now words.old) }
 {
     match word {
         RangeWord::New => ended(Command::RangeNew, words),
@@ -94,10 +94,10 @@ pub fn range_command(
 pub fn cursor_command(
     alloc: Global,
     word: CursorWord,
-    owner: Owner,
+    owner: &Owner,
     words: &mut WordReader,
 ) -> Result<Command, NotRead>
-    ensures { Gives command_view result (command_behind (cursor_keyword word) owner words.old) }
+    ensures { Gives command_view result (command_behind (cursor_keyword word) owner.now words.old) }
 {
     match word {
         CursorWord::IterNew => iterator_new(alloc, owner, words),

@@ -16,8 +16,8 @@ use dom_words::{NotRead, WordReader};
 use std::alloc::Global;
 
 /// The words of `listen`.
-fn listen(alloc: Global, owner: Owner, words: &mut WordReader) -> Result<Command, NotRead>
-    ensures { Gives command_view result (listen_at owner words.old) }
+fn listen(alloc: Global, owner: &Owner, words: &mut WordReader) -> Result<Command, NotRead>
+    ensures { Gives command_view result (listen_at owner.now words.old) }
 {
     let node = next_node(owner, words)?;
     let event = words.label(alloc)?;
@@ -35,8 +35,8 @@ fn listen(alloc: Global, owner: Owner, words: &mut WordReader) -> Result<Command
 }
 
 /// The words of `unlisten`.
-fn unlisten(alloc: Global, owner: Owner, words: &mut WordReader) -> Result<Command, NotRead>
-    ensures { Gives command_view result (unlisten_at owner words.old) }
+fn unlisten(alloc: Global, owner: &Owner, words: &mut WordReader) -> Result<Command, NotRead>
+    ensures { Gives command_view result (unlisten_at owner.now words.old) }
 {
     let node = next_node(owner, words)?;
     let event = words.label(alloc)?;
@@ -46,8 +46,8 @@ fn unlisten(alloc: Global, owner: Owner, words: &mut WordReader) -> Result<Comma
 }
 
 /// The words of `dispatch`.
-fn dispatch(alloc: Global, owner: Owner, words: &mut WordReader) -> Result<Command, NotRead>
-    ensures { Gives command_view result (dispatch_at owner words.old) }
+fn dispatch(alloc: Global, owner: &Owner, words: &mut WordReader) -> Result<Command, NotRead>
+    ensures { Gives command_view result (dispatch_at owner.now words.old) }
 {
     let target = next_node(owner, words)?;
     let event = EventWords {
@@ -65,8 +65,8 @@ fn dispatch(alloc: Global, owner: Owner, words: &mut WordReader) -> Result<Comma
 }
 
 /// The words of `observe`.
-fn observe(alloc: Global, owner: Owner, words: &mut WordReader) -> Result<Command, NotRead>
-    ensures { Gives command_view result (observe_at owner words.old) }
+fn observe(alloc: Global, owner: &Owner, words: &mut WordReader) -> Result<Command, NotRead>
+    ensures { Gives command_view result (observe_at owner.now words.old) }
 {
     let observer = words.numbered(b'o')?;
     let node = next_node(owner, words)?;
@@ -86,10 +86,10 @@ fn observe(alloc: Global, owner: Owner, words: &mut WordReader) -> Result<Comman
 pub fn event_command(
     alloc: Global,
     word: EventWord,
-    owner: Owner,
+    owner: &Owner,
     words: &mut WordReader,
 ) -> Result<Command, NotRead>
-    ensures { Gives command_view result (command_behind (event_keyword word) owner words.old) }
+    ensures { Gives command_view result (command_behind (event_keyword word) owner.now words.old) }
 {
     match word {
         EventWord::Listen => listen(alloc, owner, words),
@@ -104,10 +104,10 @@ pub fn event_command(
 pub fn observer_command(
     alloc: Global,
     word: ObserverWord,
-    owner: Owner,
+    owner: &Owner,
     words: &mut WordReader,
 ) -> Result<Command, NotRead>
-    ensures { Gives command_view result (command_behind (observer_keyword word) owner words.old) }
+    ensures { Gives command_view result (command_behind (observer_keyword word) owner.now words.old) }
 {
     match word {
         ObserverWord::Observer => ended(Command::Observer, words),

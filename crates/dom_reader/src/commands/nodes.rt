@@ -47,8 +47,8 @@ fn new_element(alloc: Global, words: &mut WordReader) -> Result<Command, NotRead
 }
 
 /// The words of `assigned`, which is a component's.
-fn assigned(owner: Owner, words: &mut WordReader) -> Result<Command, NotRead>
-    ensures { Gives command_view result (assigned_at owner words.old) }
+fn assigned(owner: &Owner, words: &mut WordReader) -> Result<Command, NotRead>
+    ensures { Gives command_view result (assigned_at owner.now words.old) }
 {
     match owner {
         Owner::Page => Err(NotRead::Syntax),
@@ -60,10 +60,10 @@ fn assigned(owner: Owner, words: &mut WordReader) -> Result<Command, NotRead>
 pub fn making_command(
     alloc: Global,
     word: MakingWord,
-    owner: Owner,
+    owner: &Owner,
     words: &mut WordReader,
 ) -> Result<Command, NotRead>
-    ensures { Gives command_view result (command_behind (making_keyword word) owner words.old) }
+    ensures { Gives command_view result (command_behind (making_keyword word) owner.now words.old) }
 {
     match word {
         MakingWord::New => new_command(alloc, words),
@@ -75,10 +75,10 @@ pub fn making_command(
 /// The command that changes where nodes stand, and goes on with the words.
 pub fn tree_command(
     word: TreeWord,
-    owner: Owner,
+    owner: &Owner,
     words: &mut WordReader,
 ) -> Result<Command, NotRead>
-    ensures { Gives command_view result (command_behind (tree_keyword word) owner words.old) }
+    ensures { Gives command_view result (command_behind (tree_keyword word) owner.now words.old) }
 {
     match word {
         TreeWord::Append => of_nodes!(Append(parent, node), owner, words),
@@ -91,8 +91,8 @@ pub fn tree_command(
 }
 
 /// The words of `set`.
-fn set_attribute(alloc: Global, owner: Owner, words: &mut WordReader) -> Result<Command, NotRead>
-    ensures { Gives command_view result (three (node_at owner) next_word next_string model.set_attribute words.old) }
+fn set_attribute(alloc: Global, owner: &Owner, words: &mut WordReader) -> Result<Command, NotRead>
+    ensures { Gives command_view result (three (node_at owner.now) next_word next_string model.set_attribute words.old) }
 {
     let element = next_node(owner, words)?;
     let name = words.text(alloc)?;
@@ -101,8 +101,8 @@ fn set_attribute(alloc: Global, owner: Owner, words: &mut WordReader) -> Result<
 }
 
 /// The words of `replace-data`.
-fn replace_data(alloc: Global, owner: Owner, words: &mut WordReader) -> Result<Command, NotRead>
-    ensures { Gives command_view result (four (node_at owner) number_at number_at next_string model.replace_data words.old) }
+fn replace_data(alloc: Global, owner: &Owner, words: &mut WordReader) -> Result<Command, NotRead>
+    ensures { Gives command_view result (four (node_at owner.now) number_at number_at next_string model.replace_data words.old) }
 {
     let node = next_node(owner, words)?;
     let offset = words.number()?;
@@ -115,10 +115,10 @@ fn replace_data(alloc: Global, owner: Owner, words: &mut WordReader) -> Result<C
 pub fn content_command(
     alloc: Global,
     word: ContentWord,
-    owner: Owner,
+    owner: &Owner,
     words: &mut WordReader,
 ) -> Result<Command, NotRead>
-    ensures { Gives command_view result (command_behind (content_keyword word) owner words.old) }
+    ensures { Gives command_view result (command_behind (content_keyword word) owner.now words.old) }
 {
     match word {
         ContentWord::Set => set_attribute(alloc, owner, words),
@@ -143,8 +143,8 @@ pub fn content_command(
 }
 
 /// The words of `attr`.
-fn attribute(alloc: Global, owner: Owner, words: &mut WordReader) -> Result<Command, NotRead>
-    ensures { Gives command_view result (two (node_at owner) next_word model.attribute words.old) }
+fn attribute(alloc: Global, owner: &Owner, words: &mut WordReader) -> Result<Command, NotRead>
+    ensures { Gives command_view result (two (node_at owner.now) next_word model.attribute words.old) }
 {
     let element = next_node(owner, words)?;
     let name = words.text(alloc)?;
@@ -152,8 +152,8 @@ fn attribute(alloc: Global, owner: Owner, words: &mut WordReader) -> Result<Comm
 }
 
 /// The words of `query`.
-fn query(alloc: Global, owner: Owner, words: &mut WordReader) -> Result<Command, NotRead>
-    ensures { Gives command_view result (two (node_at owner) next_string model.query words.old) }
+fn query(alloc: Global, owner: &Owner, words: &mut WordReader) -> Result<Command, NotRead>
+    ensures { Gives command_view result (two (node_at owner.now) next_string model.query words.old) }
 {
     let node = next_node(owner, words)?;
     let selector = words.string(alloc)?;
@@ -161,8 +161,8 @@ fn query(alloc: Global, owner: Owner, words: &mut WordReader) -> Result<Command,
 }
 
 /// The words of `matches`.
-fn matches(alloc: Global, owner: Owner, words: &mut WordReader) -> Result<Command, NotRead>
-    ensures { Gives command_view result (two (node_at owner) next_string model.matches words.old) }
+fn matches(alloc: Global, owner: &Owner, words: &mut WordReader) -> Result<Command, NotRead>
+    ensures { Gives command_view result (two (node_at owner.now) next_string model.matches words.old) }
 {
     let element = next_node(owner, words)?;
     let selector = words.string(alloc)?;
@@ -173,10 +173,10 @@ fn matches(alloc: Global, owner: Owner, words: &mut WordReader) -> Result<Comman
 pub fn question_command(
     alloc: Global,
     word: QuestionWord,
-    owner: Owner,
+    owner: &Owner,
     words: &mut WordReader,
 ) -> Result<Command, NotRead>
-    ensures { Gives command_view result (command_behind (question_keyword word) owner words.old) }
+    ensures { Gives command_view result (command_behind (question_keyword word) owner.now words.old) }
 {
     match word {
         QuestionWord::Tree => of_nodes!(Tree(node), owner, words),
