@@ -113,13 +113,6 @@ items_after-root (tree n c r) above after s (inr h) once =
 
 -- At a spot of whole trees: the next sibling.
 module _ (ts : Trees) (s : Spot) (at : IsSpot ts [] [] s) (once : Once ts) where
-  -- a root has none
-  pub next-root : IsRoot ts [] [] s → next_sibling ts s.node.name ≡ None
-  next-root h =
-      let alone : siblings ts s.node.name ≡ s.node.name ∷ [] =
-      ap (λ o. option_map_or (children_of ts) o (s.node.name ∷ [])) (parent-spot ts s at once ∙ ap first_of (above-root ts [] [] s h)) in
-      ap (λ ys. first_of (items_after name_eq s.node.name ys)) alone ∙ rw (name_eq-same s.node.name) refl
-
   -- that of a child is the first root right of it
   pub next-child : (p : Spot) → IsSpot ts [] [] p → IsChild p s → next_sibling ts s.node.name ≡ first_of (names_of (roots s.right))
   next-child p at_p h =

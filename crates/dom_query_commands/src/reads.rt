@@ -22,6 +22,9 @@ use dom_tree::Forest;
 use node_arena::Key;
 use std::alloc::{AllocError, Global};
 
+/// For how many names a list of children has room at first, so that a short list is one piece of memory.
+const FIRST_ROOM: usize = 16;
+
 /// `tree N`: the text of a node's tree.
 pub fn tree(state: &mut State, owner: Owner, node: NodeWord, out: &mut Vec<u8>) -> Result<(), Fault>
     ensures handled { IsHandled owner (tree (word_view node)) state.old.world state.new.world out.old.items out.new.items result }
@@ -159,7 +162,7 @@ fn child_names(alloc: Global, forest: &Forest, node: Key) -> Result<Vec<NodeName
     ensures { IfOk result (λ names. names.items ≡ children_of forest.now.trees (name_of forest.now node)) }
 {
     forest.law_nodes_stand_once();
-    let mut names = Vec::new(alloc);
+    let mut names = Vec::with_capacity(alloc, FIRST_ROOM)?;
     let mut at = forest.first(node);
     while let Some(child) = at {
         names.push(forest.name(child))?;

@@ -11,7 +11,7 @@ loop-at-init c =
     record {
       node = c.first-at.ensures.node;
       child = from.1;
-      so_far = ap (λ items. items ++ from_or f.trees (option_map (name_at f.names) c.first-at.result)) c.new-names.ensures.items ∙ from.0;
+      so_far = ap (λ items. items ++ from_or f.trees (option_map (name_at f.names) c.first-at.result)) c.in_ok-names.ensures.items ∙ from.0;
     }
 
 pub loop-at-smaller : goal.loop-at-smaller
