@@ -1,13 +1,8 @@
 -- The lists of an arena in which a new node takes the place of another one.
-use Rattle.std.proofs.Common.{◌≡◌, ◌≢◌, ℕ, zero, suc, List, [], ◌∷◌, ◌++◌, length, map, set, Some, None, refl, ◌∙◌, eq-eqb}
+use Rattle.std.proofs.Common.{◌≡◌, ◌≢◌, ℕ, zero, suc, List, [], ◌∷◌, ◌++◌, length, map, set, Some, None, refl, ◌∙◌}
 use Rattle.std.proofs.lemmas.List.{get_or-set_other}
-use Rattle.node_arena.specs.Nodes.{children_of, head_of, insert_before, parent_of, put_before, without}
+use Rattle.node_arena.specs.Nodes.{children_of, parent_of, put_before, without}
 use Rattle.dom_callers.specs.Fronts.{grouped}
-
--- what is put before the first of a list comes first
-pub insert-front : (xs : List ℕ) (k : ℕ) → insert_before xs k (head_of xs) ≡ k ∷ xs
-insert-front [] k = refl
-insert-front (x ∷ xs) k = rw (eq-eqb x x refl) refl
 
 -- a node without children has none once another node is taken out
 childless-map : (lists : List (List ℕ)) (k n : ℕ) → children_of lists n ≡ [] → children_of (map (without k) lists) n ≡ []

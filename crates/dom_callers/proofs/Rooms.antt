@@ -86,8 +86,3 @@ module _ {f g : NamedTrees} {parent index : ℕ} {was now : RangeLists} (comes :
       ap (λ (ns : List NodeName). named_ranges ns (ranges_of now o)) comes.names ∙ ap (named_ranges f.names) (comes.moved o)
       ∙ (named f.names b.apart parent index 1 comes.there).0 (ranges_of was o) (at_nodes f.names b.room.most was b.room.within o)
       ∙ ap (λ i. named_ends_by (after_insert name_eq (name_at f.names parent) i 1) (shown_ranges f was o)) b.index_is
-
--- ---- less room
-
-pub less-room : (f : NamedTrees) (t : RangeLists) → HasRoom 1 f t → HasRoom 0 f t
-less-room f t h = let fits = h.fits in record { most = h.most; nodes = h.nodes; fits = omega (arith, fits); within = h.within }

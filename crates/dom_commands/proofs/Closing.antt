@@ -1,6 +1,6 @@
 -- The end of a turn: the tasks run, one after another, and their lines are put.
-use Rattle.dom_commands.proofs.Cited.{OnOk, AllByRecursion, true, false, ◌≡◌, ℕ, ◌<◌, length, arith, List, [], ◌∷◌, ◌++◌, drop, map, filter, Some, None, Result}
-use Rattle.dom_commands.proofs.Cited.{Ok, Err, append_assoc, append-nil, sym, ap, ◌∙◌, refl, subst, none-some, same_Some, IsBounded, IsThere, task_owner}
+use Rattle.dom_commands.proofs.Cited.{OnOk, AllByRecursion, true, false, ◌≡◌, ℕ, List, [], ◌∷◌, ◌++◌, drop, map, filter, Some, None, Result}
+use Rattle.dom_commands.proofs.Cited.{Ok, Err, append_assoc, sym, ap, ◌∙◌, refl, subst, none-some, same_Some, IsBounded, IsThere, task_owner}
 use Rattle.dom_commands.proofs.Cited.{all-then, stays-running, Stands, at_end-stands, told-stands, dispatch-stands, output_text, name_at, DocState}
 use Rattle.dom_commands.proofs.Cited.{IsListenerAt, heard, own_listeners, MachineNow, machine_now, IsAtRest, AreAtNodes, AreThere, output_text-append}
 use Rattle.dom_model.proofs.Model.{Owner, NodeName, Listener, Word, first_of, EventWords, Part, Run, run_each, ending_turn, running_task, notifying, notified}
@@ -19,9 +19,6 @@ module _ {A : Type 0} (f : World → A → Run World) where
     pub world : (run_each f now left).0 ≡ (run_each f was all).0
     pub text : after ++ output_text (run_each f now left).1 ≡ before ++ output_text (run_each f was all).1
 
-  pub ran_none : (w : World) (all : List A) (text : List ℕ) → Ran w w all all text text
-  ran_none w all text = record { world = refl; text = refl }
-
   -- one more
   pub ran_more : {was now then : World} {all rest : List A} {x : A} {before after next : List ℕ} → Ran was now all (x ∷ rest) before after →
       then ≡ (f now x).0 → next ≡ after ++ output_text (f now x).1 → Ran was then all rest before next
@@ -34,14 +31,6 @@ module _ {A : Type 0} (f : World → A → Run World) where
             ∙ ap (λ (t : List ℕ). after ++ t) (sym (output_text-append r.1 (run_each f r.0 rest).1)) ∙ ran.text;
       }
 
-  -- no item is left
-  pub ran_world : (was now : World) (all : List A) (before after : List ℕ) → Ran was now all [] before after → now ≡ (run_each f was all).0
-  ran_world was now all before after ran = ran.world
-
-  pub ran_text : (was now : World) (all : List A) (before after : List ℕ) → Ran was now all [] before after →
-      after ≡ before ++ output_text (run_each f was all).1
-  ran_text was now all before after ran = sym (append-nil after) ∙ ran.text
-
 -- ---- the queue
 
 -- what a first task and the others make
@@ -52,10 +41,6 @@ first_rest (u ∷ ts) us t e is = ap (λ v. v ∷ ts) (sym (same_Some t u e)) �
 pub none_left : (ts : List Task) → None ≡ first_of ts → ts ≡ []
 none_left [] e = refl
 none_left (u ∷ ts) e = absurd (none-some u e)
-
--- a task less
-pub tasks_less : (ts us : List Task) (t : Task) → ts ≡ t ∷ us → length us < length ts
-tasks_less ts us t e = let same = ap (length {A = Task}) e in omega arith
 
 -- the owners of the other tasks stay
 pub there_after : (w v : World) (t : Task) (ts : List Task) → AreThere w (t ∷ ts) → v ≡ (running_task w t).0 → AreThere v ts

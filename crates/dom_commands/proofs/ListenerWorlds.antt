@@ -3,7 +3,7 @@ use Rattle.dom_commands.proofs.Cited.{◌≡◌, ℕ, zero, suc, Bool, true, fal
 use Rattle.dom_commands.proofs.Cited.{Option, Some, None, refl, sym, ap, ◌∙◌, true≢false, is_some, option_map, option_to_list, unwrap_or, slice_get}
 use Rattle.dom_commands.proofs.Cited.{if◌then◌else◌, option_and_then, option_map_or, owners_in, there-with_part, by_cases, hearing, heard}
 use Rattle.dom_model.proofs.Model.{Owner, NodeName, Listener, owner_eq, name_eq, max_depth, owner_depth, is_in, is_empty, distinct, list_eq, last_of, Part}
-use Rattle.dom_model.proofs.Model.{empty_part, is_slot_element, slot_in, slots_among, slot_of, assigned_nodes, signals, with_signal, Step, make, make_room}
+use Rattle.dom_model.proofs.Model.{empty_part, is_slot_element, slot_in, slots_among, assigned_nodes, signals, with_signal, Step, make, make_room}
 use Rattle.dom_model.proofs.Model.{place, take_out, set_document, set_attribute, replace_data, split_at, join_at, set_range, queue_record, part_step, leave}
 use Rattle.dom_model.proofs.Model.{is_taken, Trees, node_in, parent_of, root_of, children_of, subtree, inclusive_ancestors, inclusive_descendants, is_document}
 use Rattle.dom_model.proofs.Model.{World, find_part, put_part, part_of, with_part, is_there, component_at, component_made, made_by, shadow_root_of, some_if}
@@ -149,10 +149,7 @@ module _ (of : Owner → List (Listener NodeName)) where
     hosts-same : hosts_in (heard of w) ≡ hosts_in w
     hosts-same = λ j o. (part-heard w fits o j).attached
 
-    -- what is assigned to a slot, whether a node is connected, and which components stand below it
-    pub slot-heard : (x : NodeName) → slot_of (heard of w) x ≡ slot_of w x
-    slot-heard x = λ j. slot_from (trees-same j) (hosts-same j) x
-
+    -- whether a node is connected, what is assigned to a slot, and which components stand below a node
     pub component-heard : (x : NodeName) → component_at (heard of w) x ≡ component_at w x
     component-heard x = λ j. component_from (trees-same j) (hosts-same j) x
 

@@ -1,5 +1,5 @@
 -- What is done in a state is done in the machine around it.
-use Rattle.dom_commands.proofs.Cited.{◌≡◌, ℕ, true, false, List, [], ◌∷◌, None, Result, Ok, Err, length, arith, sym, ap, subst, ◌∙◌, true≢false, take-length}
+use Rattle.dom_commands.proofs.Cited.{◌≡◌, ℕ, true, false, List, [], ◌∷◌, None, Result, Ok, Err, length, arith, sym, ap, subst, ◌∙◌, true≢false}
 use Rattle.dom_commands.proofs.Cited.{AllByRecursion, is_some, slice_get, slice_get_past, IsBounded, IsReached, IsWhole, accepted-facts, attach-may}
 use Rattle.dom_commands.proofs.Cited.{first-is_bounded, step-keeps_bounds, first-is_reached, step-keeps_reached, attached-are_there, first-is_whole}
 use Rattle.dom_commands.proofs.Cited.{step-keeps_whole, host_of-made, DocState, IsListenerAt, IsHandled, BeginsWith, KeepsNames, heard, own_listeners}
@@ -10,10 +10,6 @@ use Rattle.dom_commands.proofs.Bounded.{first_nodes-unheard}
 use Rattle.dom_commands.proofs.ListenerWorlds.{FitsIn, there-heard, part-heard}
 use Rattle.dom_commands.proofs.HeardCommands.{IsNew, IsHeardPlain, handled-heard}
 use Rattle.dom_commands.proofs.Listening.{OwnersAreThere, fits-own, at-kept, own-kept}
-
--- the same names
-pub begins_same : (names : List NodeName) → BeginsWith names names
-begins_same names = take-length names
 
 -- A world that is reached, with the listeners of its owners.
 module _ (of : Owner → List (Listener NodeName)) (w : World) (fits : FitsIn of w) (reached : IsReached false (heard of w)) where

@@ -1,6 +1,6 @@
 -- The types for which there are listeners.
 use Rattle.dom_dispatch.proofs.Cited.{◌≡◌, ℕ, Bool, true, false, ◌&&◌, cond, List, [], ◌∷◌, ◌++◌, Result, Ok, Err, refl, sym, ap, subst, ◌∙◌, true≢false, OnOk}
-use Rattle.dom_dispatch.proofs.Cited.{OnErr, if◌then◌else◌, beq, bytes_eq-Decides, text_test, Listener, Word, text_eq, all-then, Entry, Types, listener_of}
+use Rattle.dom_dispatch.proofs.Cited.{OnErr, beq, bytes_eq-Decides, text_test, Listener, Word, text_eq, all-then, Entry, Types, listener_of}
 use Rattle.dom_dispatch.proofs.Cited.{listeners_in, NoneHears, is_noted, HasTypes}
 
 module _ (types : Types) where

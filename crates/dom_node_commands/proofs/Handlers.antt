@@ -1,6 +1,6 @@
 -- What the answers of handlers cite.
-pub use Rattle.dom_base.proofs.Std.{◌++◌, ◌∙◌, ◌∷◌, ◌≡◌, Bool, Err, IfOk-weaker, List, None, Ok, Option, Some, [], ap, false, if◌then◌else◌, is_some, length}
-pub use Rattle.dom_base.proofs.Std.{map, not, option_map, refl, string_bytes, subst, sym, true}
+pub use Rattle.dom_base.proofs.Std.{◌++◌, ◌∙◌, ◌∷◌, ◌≡◌, Err, IfOk-weaker, List, None, Ok, Option, Some, [], ap, if◌then◌else◌, is_some, length}
+pub use Rattle.dom_base.proofs.Std.{map, not, option_map, refl, string_bytes, subst, sym}
 pub use Rattle.dom_model.proofs.Model.{Attribute, Command, Node, NodeName, a_list, a_node, adopt_plan, answers, assigned_nodes, attaching, attribute_value}
 pub use Rattle.dom_model.proofs.Model.{changes, component_made, is_document, is_name, kind_of, made_by_text, make, named, next_name, node_in, node_of}
 pub use Rattle.dom_model.proofs.Model.{normalizing, observed, own, own_document, part_of, past_end, past_limit, pre_insert_plan, pre_insert_refusal}

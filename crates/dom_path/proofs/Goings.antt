@@ -1,9 +1,9 @@
 -- The trees from that of a node outward: found from the inside, and kept from the outside.
-use Rattle.dom_path.proofs.Cited.{◌≡◌, inl, inr, ℕ, zero, suc, ◌<◌, ◌≤◌, true, List, [], ◌∷◌, ◌++◌, length, Option, Some, None, refl, sym, ap, subst, ◌∙◌}
+use Rattle.dom_path.proofs.Cited.{◌≡◌, inl, inr, ℕ, suc, ◌<◌, ◌≤◌, true, List, [], ◌∷◌, ◌++◌, length, Option, Some, None, refl, sym, ap, subst, ◌∙◌}
 use Rattle.dom_path.proofs.Cited.{arith, length-append, slice_get, is_some, option_map, ForSome, NodeName, is_shadow, node_in, root_of, NamedTrees, name_at}
 use Rattle.dom_path.proofs.Cited.{slice_get-pushed, slice_get-push, ShadowHost, PathNode, Tree, IsHosted, IsNested, Grows, IsAround, GoesOut, IsTreeOf}
 use Rattle.dom_path.proofs.Cited.{HasTreeNodes, IsTree, AreTrees, IsPathNode}
-use Rattle.dom_path.proofs.Nesting.{nested-none, nested-more, kept-more, grows-longer, grows-twice}
+use Rattle.dom_path.proofs.Nesting.{nested-more, kept-more, grows-longer, grows-twice}
 
 module _ (f : NamedTrees) (hosts : List ShadowHost) where
   -- one tree more, further out
@@ -72,18 +72,6 @@ module _ (f : NamedTrees) (hosts : List ShadowHost) where
   -- the last of them has this place
   pub tree-pushed : (trees : List Tree) (t : Tree) (x : NodeName) → name_at f.names t.root ≡ root_of f.trees x → IsTreeOf f (trees ++ t ∷ []) (length trees) x
   tree-pushed trees t x e = ap (option_map (λ (t : Tree). name_at f.names t.root)) (slice_get-pushed trees t) ∙ ap Some e
-
-  -- no trees
-  pub trees-none : (trees : List Tree) → trees ≡ [] → AreTrees f hosts trees
-  trees-none trees e = record {
-    nested = nested-none trees e;
-    nodes = λ place t at. absurd (never place t (subst (λ ts. slice_get ts place ≡ Some t) e at));
-    each = λ depth is place t at. absurd (never place t (subst (λ ts. slice_get ts place ≡ Some t) e at));
-  }
-    where
-      never : (place : ℕ) (t : Tree) → slice_get {X = Tree} [] place ≡ Some t → ⊥
-      never zero t h = cc
-      never (suc place) t h = cc
 
   -- Trees to which those around a node are added, the outermost first: these are still to come, and then the node has the last place.
   pub record IsOutside (x : NodeName) (old : List Tree) (around trees : List Tree) (outer : ℕ) : Type 0 where

@@ -4,15 +4,6 @@ use Rattle.dom_path.proofs.Cited.{ap, subst, ◌∙◌, arith, append_assoc, len
 use Rattle.dom_path.proofs.Cited.{append-nil, slice_get_within, is_in, slice_get-push, Tree, IsNested, AreNested, Grows, roots_up, roots_around, hiding_host}
 use Rattle.dom_path.proofs.Cited.{outer_of, seen_up, seen_from}
 
--- no trees stand rightly
-pub nested-none : (trees : List Tree) → trees ≡ [] → AreNested trees
-nested-none trees e place t at = let none_at : slice_get {X = Tree} [] place ≡ Some t =
-    subst (λ ts. slice_get ts place ≡ Some t) e at in absurd (never place none_at)
-  where
-    never : (place : ℕ) → slice_get {X = Tree} [] place ≡ Some t → ⊥
-    never zero h = cc
-    never (suc place) h = cc
-
 -- nor does one more disturb them
 pub nested-more : (trees : List Tree) (t : Tree) → AreNested trees → IsNested (length trees) t → AreNested (trees ++ t ∷ [])
 nested-more trees t each here place x at = elim (slice_get-push trees place t x at) [
@@ -30,9 +21,6 @@ kept-more (x ∷ trees) more (suc place) t h = kept-more trees more place t h
 -- trees that did not grow, and some that grew twice
 pub grows-none : (trees : List Tree) → Grows trees trees
 grows-none trees = ([], sym (append-nil trees))
-
-pub grows-one : (trees new : List Tree) (t : Tree) → new ≡ trees ++ t ∷ [] → Grows trees new
-grows-one trees new t e = (t ∷ [], e)
 
 pub grows-twice : (a b c : List Tree) → Grows a b → Grows b c → Grows a c
 grows-twice a b c g h = (g.0 ++ h.0, h.1 ∙ ap (λ ts. ts ++ h.0) g.1 ∙ append_assoc a g.0 h.0)
@@ -121,10 +109,6 @@ module _ (trees : List Tree) (nested : AreNested trees) where
     seen-host node place host e =
         ap (λ o. option_map_or (λ host. seen_up trees place viewer host (outer_of trees place)) o node) e
         ∙ (let below = outer-below place host e in seen-enough place (suc (outer_of trees place)) host (outer_of trees place) below (omega arith))
-
-    -- and else the node
-    pub seen-itself : (node place : ℕ) → hiding_host trees viewer place ≡ None → seen_from trees viewer node place ≡ node
-    seen-itself node place e = ap (λ o. option_map_or (λ host. seen_up trees place viewer host (outer_of trees place)) o node) e
 
 module _ (trees : List Tree) where
   -- the host by which a tree's nodes are hidden, read at a tree

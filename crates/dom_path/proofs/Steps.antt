@@ -116,10 +116,6 @@ module _ (f : NamedTrees) (hosts : List ShadowHost) (distinct : TellApart f.name
   pub up-host : x.is_shadow_root ≡ true → (composed || not (nat_eq x.node top)) ≡ true → host_named f.names hosts named ≡ up
   up-host e opened = sym (at-shadow e ∙ ap (λ b. if b then host_named f.names hosts named else None) opened)
 
-  -- or none
-  pub up-shut : x.is_shadow_root ≡ true → (composed || not (nat_eq x.node top)) ≡ false → None ≡ up
-  up-shut e shut = sym (at-shadow e ∙ ap (λ b. if b then host_named f.names hosts named else None) shut)
-
   -- of another node
   pub up-plain : x.is_shadow_root ≡ false → inside ≡ up
   up-plain e = sym (ap (λ b. if b then (if composed || not (name_eq named (name_at f.names top)) then host_named f.names hosts named else None)

@@ -62,24 +62,6 @@ module _ (f : NamedTrees) (hosts : List ShadowHost) (t : NodeName) (r : Option N
       pub way : (depth : ℕ) → IsHosted f hosts depth → (rest : List Item) → Comes depth next rest → IsWay f hosts t r depth composed (items ++ rest)
       pub trail : (rest : List Item) → Rises next rest → IsTrail (shadows f hosts) t composed (map (item_named f.names) (items ++ rest))
 
-    -- as it begins
-    pub track-first : {trees : List Tree} {items : List Item} {x : PathNode} → items ≡ [] → IsPathNode f hosts trees x → name_at f.names x.node ≡ t →
-        x.is_entered ≡ false → IsTrack trees items (Some x)
-    track-first {trees} {x} e place named off = subst (λ is. IsTrack trees is (Some x)) (sym e) (record {
-      place = λ y h. subst (IsPathNode f hosts trees) (let same : x ≡ y = cc in same) place;
-      each = tt;
-      way = λ depth hosted rest h. begins depth rest h;
-      trail = rises;
-    })
-      where
-        rises : (rest : List Item) → Rises (Some x) rest → IsTrail (shadows f hosts) t composed (map (item_named f.names) rest)
-        rises [] h = absurd h
-        rises (i ∷ rest) h = (ap (name_at f.names) h.0 ∙ named, h.1 ∙ off, h.2, h.3)
-
-        begins : (depth : ℕ) (rest : List Item) → Comes depth (Some x) rest → IsWay f hosts t r depth composed rest
-        begins depth [] h = h
-        begins depth (i ∷ rest) h = (ap (name_at f.names) h.0 ∙ named, h.1 ∙ off, h.2)
-
     -- The path node x at the end of a track, among trees that grow.
     module _ (trees new : List Tree) (items : List Item) (x : PathNode) (i : Item) (more : List Item) (next : Option PathNode)
         (track : IsTrack trees items (Some x)) where

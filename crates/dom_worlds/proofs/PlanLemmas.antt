@@ -2,7 +2,7 @@
 pub use Rattle.dom_worlds.proofs.Plans.{AllWhole, AreFit, IsKept, Keeps, keeps-adopting, keeps-deleting, keeps-extracting, keeps-inserting}
 pub use Rattle.dom_worlds.proofs.Plans.{keeps-inserting_into_range, keeps-normalizing, keeps-removing, keeps-replacing, keeps-replacing_data}
 pub use Rattle.dom_worlds.proofs.Plans.{keeps-setting_attribute, keeps-setting_text, keeps-splitting, keeps-unsetting_attribute, kept-after}
-pub use Rattle.dom_worlds.proofs.Rules.{AreRules, rules-kept}
+pub use Rattle.dom_worlds.proofs.Rules.{rules-kept}
 pub use Rattle.dom_worlds.proofs.ShadowRoots.{IsClonable, any-whole, common_below, fit-apart, fit-pieces, whole-pieces}
 pub use Rattle.dom_worlds.proofs.PlanPlaces.{Changed, Leads, MayGo, after-append, leads-adopting, leads-eased, leads-inserting, leads-nothing, leads-one}
 pub use Rattle.dom_worlds.proofs.PlanPlaces.{leads-removing, leads-then, still}

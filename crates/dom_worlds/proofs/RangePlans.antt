@@ -283,9 +283,6 @@ room-deleting k r p i g h =
     let done = by_cases (is_in_one_data ts r) (λ e. in_data e) (λ e. in_trees e) in
     room-then nowhere p steps (last ∷ []) (room-last p (after p steps) k b done.1 done.0))
   where
-    first_cut : Plan
-    first_cut = cutting_data p.trees r r.start.node
-
     others : Plan
     others = cutting_data p.trees r r.start.node and_then in_turn (remove_plan observed)
         (outermost_contained p.trees r) and_then cutting_data p.trees r r.end.node

@@ -2,7 +2,7 @@
 pub use Rattle.dom_worlds.proofs.Trees.{all-both, ancestors-present, ancestors-there, nodes-there}
 pub use Rattle.dom_worlds.proofs.TreeChangeLaws.{nodes-listed, nodes-map_nodes, nodes-named, nodes-placed, nodes-subtree, nodes-taken_out, nodes-then}
 pub use Rattle.dom_worlds.proofs.TreeChangeLaws.{nodes-with_node, root-below_none, times-below}
-pub use Rattle.dom_worlds.proofs.InsideAncestors.{child-there, inside-no_ancestor, no_parent-root, roots-there, times-has_node}
+pub use Rattle.dom_worlds.proofs.InsideAncestors.{inside-no_ancestor, no_parent-root, roots-there, times-has_node}
 pub use Rattle.dom_worlds.proofs.Descents.{ancestor-inside}
 pub use Rattle.dom_worlds.proofs.Roots.{roots-equal, roots-same, node-new, read-all}
 pub use Rattle.dom_worlds.proofs.ChildCounts.{index-below, kids, kids-absent, length-children, rooted}
