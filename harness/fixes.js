@@ -1,7 +1,7 @@
 // The differences between a DOM and the protocol that can be made good by smaller steps: with a fix the adapter carries a command out
 // as the DOM Standard has it, and a script that then agrees differs by just this. What a fix does is met only where it changes something.
 "use strict";
-(function (exports, { planIterators, planRoots, planUntold, planTransients, observesWhatLeft, Unrepresentable }, { held, indexOf }) {
+(function (exports, { planIterators, planEmptied, planRoots, planUntold, planTransients, observesWhatLeft, Unrepresentable }, { held, indexOf }) {
   // The boundary points of an owner's ranges, moved as the Standard's steps move them.
   class Points {
     constructor(owner) {
@@ -372,6 +372,7 @@
     "fragment-adopted": (run, owner, name, values) => after(planFragment(name, values)),
     "empty-records": () => ({ after: withoutEmpty }),
     "iterator-kept": ofIterators(planIterators),
+    "leaving-together": ofIterators(planEmptied),
     "root-left": ofIterators(planRoots),
     "iterator-untold": ofIterators(planUntold),
     transients: planTransients,

@@ -134,6 +134,32 @@ KNOWN = {
         p iter-prev i0
         p remove n2
         p iter-at i0""")),
+    "leaving-together": Known(
+        "fixed", "C",
+        "an iterator behind one of several children which leave together goes to one of the others, that leaves too", lines("""
+        p new element p
+        p new text "a"
+        p new text "b"
+        p append n1 n2
+        p append n1 n3
+        p iter-new n1 all
+        p iter-next i0
+        p iter-next i0
+        p iter-next i0
+        p text n1 "c"
+        p iter-at i0"""), lines("""
+        p new element p
+        p new fragment
+        p new text "a"
+        p new text "b"
+        p append n2 n3
+        p append n2 n4
+        p iter-new n2 all
+        p iter-next i0
+        p iter-next i0
+        p iter-next i0
+        p append n1 n2
+        p iter-at i0""")),
     "insert-node-offset": Known(
         "fixed", "F",
         "insert-node of a node that has the place's parent already: the end's offset is counted before the node leaves, and may "

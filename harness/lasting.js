@@ -75,6 +75,28 @@
     return { after: () => plans.map((plan) => plan()).includes(true) };
   }
 
+  // The node that a command empties of its children, which a DOM may take out together.
+  function emptied(name, values) {
+    if (name === "text") return values[0];
+    const fragment = ["append", "insert", "replace", "insert-node"].includes(name) ? values[1] : null;
+    return fragment && fragment.nodeType === 11 && !fragment.host ? fragment : null;
+  }
+
+  // Where an iterator goes that stands behind one of several children which leave together: behind their parent.
+  function planEmptied(run, owner, name, values) {
+    const parent = emptied(name, values);
+    if (!parent || parent.childNodes.length < 2) return null;
+    const isWithin = ({ root, referenceNode, pointerBeforeReferenceNode: isBefore }) =>
+      !isBefore && root.contains(parent) && referenceNode !== parent && parent.contains(referenceNode);
+    const within = owner.iterators.map(isWithin);
+    return { after: () => within.map((was, number) => {
+      const iterator = owner.iterators[number];
+      const moved = was && !iterator.root.contains(iterator.referenceNode) && iteratorBehind(iterator, parent);
+      if (moved) owner.iterators[number] = moved;
+      return Boolean(moved);
+    }).includes(true) };
+  }
+
   // Own rule: an iterator stays where it is when an ancestor of its root leaves.
   function planRoots(run, owner) {
     const places = owner.iterators.map(({ root, referenceNode }) => ({ root, referenceNode }));
@@ -268,5 +290,5 @@
     return observers.every(({ lasting }) => lasting) ? [...observers].sort((one, other) => compare(one, other, stepOf)) : observers;
   }
 
-  exports.lasting = { inOrder, observesWhatLeft, planIterators, planRoots, planUntold, planTransients, endTurn, Unrepresentable };
+  exports.lasting = { inOrder, observesWhatLeft, planIterators, planEmptied, planRoots, planUntold, planTransients, endTurn, Unrepresentable };
 })(typeof module === "object" ? module.exports : globalThis);
