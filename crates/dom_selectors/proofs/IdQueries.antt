@@ -1,5 +1,5 @@
 -- Queries that one node alone may answer.
-use Rattle.dom_selectors.proofs.Cited.{◌≡◌, inl, inr, ℕ, zero, suc, ◌<◌, Bool, true, false, not, ◌&&◌, ◌||◌, true≢false, List, [], ◌∷◌, length, Option}
+use Rattle.dom_selectors.proofs.Cited.{◌≡◌, inl, inr, ℕ, zero, suc, ◌<◌, Bool, true, false, ◌&&◌, ◌||◌, true≢false, List, [], ◌∷◌, length, Option}
 use Rattle.dom_selectors.proofs.Cited.{Some, None, refl, sym, ap, subst, ◌∙◌, drop, map, filter, list_all, get_or, option_map_or, codes, arith, cases_Bool}
 use Rattle.dom_selectors.proofs.Cited.{and_parts, false_from_ne_true, Trees, NodeName, name_eq, is_in, inclusive_descendants, descendants, name_eq-other}
 use Rattle.dom_selectors.proofs.Cited.{compound_matches, selector_matches, DomString, kind_of, is_element, node_in, attribute_value}

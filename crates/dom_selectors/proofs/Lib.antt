@@ -1,4 +1,5 @@
 mod Cited
+mod AskedOfAll
 mod TokenLaws
 mod NameLaws
 mod Shorter

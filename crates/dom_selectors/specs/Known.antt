@@ -1,13 +1,17 @@
 -- What a query remembers of one node for the next.
-use Rattle.std.specs.Prelude.{◌≡◌, List, [], ◌∷◌, Option}
+use Rattle.std.specs.Prelude.{◌≡◌, Bool, true, List, [], ◌∷◌, Option, is_some}
 use Rattle.std.specs.List.{list_any}
 use Rattle.std.specs.Option.{ForSome}
-use Rattle.dom_model.specs.Tree.{ancestors}
+use Rattle.dom_base.specs.declared.NodeName.{NodeName}
+use Rattle.dom_model.specs.Names.{text_eq}
+use Rattle.dom_model.specs.Tree.{Trees, ancestors, attribute_value, node_in}
 use Rattle.dom_model.specs.Selectors as model
 use Rattle.dom_tree.specs.Forest.{NamedTrees, name_of}
 use Rattle.dom_selectors.specs.Search.{last_compound}
 use Rattle.dom_selectors.specs.Views.{compound_view, complex_view}
 use Rattle.dom_selectors.specs.declared.above.Above.{Above}
+use Rattle.dom_selectors.specs.declared.asking.Asked.{Asked}
+use Rattle.dom_selectors.specs.declared.asking.Asked.TheVariants.{Nothing, Name, Attribute}
 use Rattle.dom_selectors.specs.declared.selector.CompoundPart.{CompoundPart}
 use Rattle.dom_selectors.specs.declared.selector.Complex.{Complex}
 
@@ -29,3 +33,17 @@ IsKnown f c known = ForSome known (λ a. a.matches ≡ list_any (model.complex_m
 abbrev pub IsKnownOfFirst : NamedTrees → List Complex → Option Above → Type 0
 IsKnownOfFirst f [] known = Unit {0}
 IsKnownOfFirst f (c ∷ cs) known = IsKnown f (left_part (complex_view c)) known
+
+-- a node has what is asked for (own rule)
+abbrev pub has_asked : Trees → NodeName → Asked → Bool
+has_asked ts x Nothing = true
+has_asked ts x (Name name) = text_eq (node_in ts x).element name.now
+has_asked ts x (Attribute name) = is_some (attribute_value (node_in ts x) name.now)
+
+-- each node that matches a compound has it (own rule)
+abbrev pub CompoundAsks : List model.CompoundPart → Asked → Type 0
+CompoundAsks parts asked = (ts : Trees) (x : NodeName) → model.compound_matches ts parts x ≡ true → has_asked ts x asked ≡ true
+
+-- each node that matches a selector has it (own rule)
+abbrev pub SelectorAsks : List model.Complex → Asked → Type 0
+SelectorAsks complexes asked = (ts : Trees) (x : NodeName) → model.selector_matches ts complexes x ≡ true → has_asked ts x asked ≡ true

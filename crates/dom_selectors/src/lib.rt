@@ -5,6 +5,7 @@
 #![tactic(auto)]
 
 mod above;
+mod asking;
 mod by_id;
 mod chain;
 mod compounds;

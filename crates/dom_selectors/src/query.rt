@@ -4,10 +4,11 @@ ghost use Rattle.std.specs.List.{list_any};
 ghost use Rattle.dom_model.specs.Selectors.{complex_matches as spec_complex_matches, selector_matches, query_all as spec_query_all};
 ghost use Rattle.dom_tree.specs.Forest.{IsNode, name_of};
 ghost use Rattle.dom_tree.specs.Spots.{name_here};
-ghost use Rattle.dom_selectors.specs.Known.{IsFirstLast, IsKnownOfFirst};
+ghost use Rattle.dom_selectors.specs.Known.{IsFirstLast, IsKnownOfFirst, SelectorAsks};
 ghost use Rattle.dom_selectors.specs.Views.{complex_view, selector_view};
 
 use crate::above::{Above, matches_knowing};
+use crate::asking::{Asked, has_asked};
 use crate::joined::{complex_matches, last_of_complex};
 use crate::selector::{Complex, CompoundPart, Selector};
 use dom_tree::{Forest, NodeAt};
@@ -60,16 +61,23 @@ fn some_matches(
 }
 
 impl Selector {
-    /// Whether a node matches a selector, where the compound on the right of its first complex selector is given, and something may
-    /// be remembered of what is left of that.
+    /// Whether a node matches a selector, where what that asks for and the compound on the right of its first complex selector are given,
+    /// and something may be remembered of what is left of that. What is asked for comes first, since most elements fail there.
     #[inline(always)]
-    fn matches_with(&self, node: &NodeAt, last: &[CompoundPart], known: &mut Option<Above>) -> bool
+    fn matches_with(
+        &self,
+        node: &NodeAt,
+        asked: Asked,
+        last: &[CompoundPart],
+        known: &mut Option<Above>,
+    ) -> bool
+        requires asked { SelectorAsks (selector_view self.now) asked }
         requires last { IsFirstLast self.now.complexes.items last.now }
         requires known { IsKnownOfFirst node.now.whole self.now.complexes.items known.old }
         ensures value { result ≡ selector_matches node.now.whole.trees (selector_view self.now) (name_here node.now) }
         ensures known { IsKnownOfFirst node.now.whole self.now.complexes.items known.new }
     {
-        some_matches(node, self.complexes.as_slice(), last, known)
+        has_asked(node, asked) && some_matches(node, self.complexes.as_slice(), last, known)
     }
 
     /// Whether an element matches a selector, which a node of another kind never does (DOM Standard, matches()). It
@@ -96,12 +104,13 @@ impl Selector {
         ensures nodes { IfOk result (λ keys. All (IsNode forest.now) keys.items) }
     {
         forest.law_nodes_stand_once();
+        let asked = self.asked();
         let last = first_last(self.complexes.as_slice());
         let mut known = None;
         let mut found = Vec::new(alloc);
         let mut at = forest.at(top).following(top);
         while let Some(node) = at {
-            if self.matches_with(&node, last, &mut known) {
+            if self.matches_with(&node, asked, last, &mut known) {
                 found.push(node.key())?;
             }
             at = node.following(top);

@@ -3,8 +3,8 @@ use Rattle.dom_selectors.proofs.Cited.{ap, ◌∙◌, list_any, complex_matches,
 use Rattle.dom_selectors.proofs.Anywhere.{any_seen}
 use Rattle.dom_selectors.proofs.selector.Selector.matches_with.Goals as goal
 
-pub returns-clause-value : goal.returns-clause-value
-returns-clause-value c =
+pub returns-then-has_asked-clause-value : goal.returns-then-has_asked-clause-value
+returns-then-has_asked-clause-value c =
     let f = c.args.node.now.whole in
     let x = name_at f.names c.args.node.now.key in
     c.some_matches.ensures.value
