@@ -1,18 +1,18 @@
 -- What the end of a step signals, and what stands before and after it.
-use Rattle.dom_base.proofs.Std.{◌≡◌, ℕ, ◌<◌, Bool, true, false, not, List, [], ◌++◌, None, map, length, refl, sym, ap, subst, ◌∙◌, true≢false, option_to_list}
-use Rattle.dom_base.proofs.Std.{option_map, option_map_or, option_and_then, or_parts, true_from_ne_false, All-nil, list_any-append, get_or_from_slice_get}
-use Rattle.dom_base.proofs.Std.{slice_get_within}
+use Rattle.dom_base.proofs.Std.{◌≡◌, ℕ, ◌<◌, Bool, true, false, not, List, [], ◌++◌, None, Some, map, length, refl, sym, ap, subst, ◌∙◌, true≢false}
+use Rattle.dom_base.proofs.Std.{option_to_list, option_map, option_map_or, option_and_then, or_parts, true_from_ne_false, All-nil, list_any-append}
+use Rattle.dom_base.proofs.Std.{get_or_from_slice_get, slice_get_within}
 use Rattle.dom_model.proofs.Model.{NodeName, Page, name_eq, is_in, list_eq, node_of, slot_in, slots_among, Trees, node_in, has_node, subtree, parent_of}
 use Rattle.dom_tree.specs.Definitions.{NamedTrees, name_at, TellApart}
 use Rattle.dom_tree.proofs.Standing.{Once-forest, Has-forest}
 use Rattle.dom_laws.proofs.Laws.{In, Has}
 use Rattle.dom_slots.specs.Definitions.{ShadowHost, own_slots, SlotsNow, StandsOnce, AreSlotsOf, IsBegun, IsEndOf, AreRenewed, IsButFor, names_but, ShadowTrees}
 use Rattle.dom_slots.specs.Definitions.{shadows, shadow_trees, slot_at, assigned_at, is_assigned_at, is_changed_at, signalled_by, StepHasNodes, IsStepFrom}
-use Rattle.dom_slots.specs.Definitions.{step_node, around_of, is_move, step_signals, SlotTable, list_of, IsTableOf}
+use Rattle.dom_slots.specs.Definitions.{step_node, around_of, is_move, step_signals, SlotTable, list_of, IsTableOf, IsSingle}
 use Rattle.dom_slots.specs.declared.step.SlotChange.{SlotChange}
 use Rattle.dom_slots.specs.declared.step.Step.{Step}
 use Rattle.dom_slots.specs.declared.step.Step.TheVariants.{Place, Removal, Attribute}
-use Rattle.dom_slots.proofs.Assigned.{listed-slot}
+use Rattle.dom_slots.proofs.Assigned.{listed-slot, single-listed}
 use Rattle.dom_slots.proofs.Hosted.{named-key, host-key}
 use Rattle.dom_slots.proofs.Moved.{AreBoth}
 use Rattle.dom_slots.proofs.Settled.{KeepsBut}
@@ -52,6 +52,13 @@ step-ends {old} {new} {s} {step} {b} same names nodes slots begun moved =
       step = subst (λ t. IsStepFrom old.names old.trees new.trees t) (sym same) moved;
       slots = slots;
     }
+
+-- no node stands in the list of its old slot twice
+pub listed-single : {was : Trees} {f : NamedTrees} {s : SlotsNow} {b : SlotChange} → IsEndOf was f s b → (k : ℕ) → b.slot ≡ Some k →
+    IsSingle (list_of s.table k)
+listed-single {was} {f} h k e =
+    let before : NamedTrees = record { names = f.names; trees = was } in
+    single-listed before (Once-forest before h.begun.stands.once h.begun.stands.only) h.slots.table k (h.begun.slot_node k e)
 
 -- ---- before and after a step
 

@@ -35,7 +35,7 @@ mod Joining
 mod Parting
 mod Shortened
 mod InLine
-mod Counted
+mod Singles
 mod Unlisted
 mod Serving
 mod TreeSlots

@@ -3,10 +3,13 @@ ghost use Rattle.std.specs.Prelude.{◌≡◌, ℕ, ◌≤◌, ◌<◌, [], leng
 ghost use Rattle.std.specs.List.{insert as inserted, position};
 ghost use Rattle.dom_model.specs.Names.{is_in};
 ghost use Rattle.node_arena.specs.Nodes.{insert_before, without};
-ghost use Rattle.dom_slots.specs.KeyMaps.{list_at};
+ghost use Rattle.dom_slots.specs.KeyMaps.{list_at, IsSingle};
 
 use node_arena::Key;
 use std::alloc::{AllocError, Global};
+
+/// Up to so many nodes a list is short.
+const FEW: usize = 16;
 
 /// A list of nodes for each node, empty where it was not given any. They stand by the numbers of the nodes, and are found without
 /// a hash.
@@ -35,8 +38,9 @@ impl KeyLists {
         }
     }
 
-    /// Takes a node out of the list of another one, and tells whether it stood there.
+    /// Takes a node, which stands there at most once, out of the list of another one, and tells whether it stood there.
     pub(crate) fn take_out(&mut self, key: Key, node: Key) -> bool
+        requires { IsSingle (list_at self.old.rows.items key) }
         ensures stood { result ≡ is_in nat_eq node (list_at self.old.rows.items key) }
         ensures lists { (k : ℕ) → list_at self.new.rows.items k ≡
             (if nat_eq key k then without node (list_at self.old.rows.items k) else list_at self.old.rows.items k) }
@@ -45,6 +49,16 @@ impl KeyLists {
             return false;
         }
         remove_from(&mut self.rows[key.index()], node)
+    }
+
+    /// Takes a node out of the list of another one, however often it stands there. The whole list is gone through.
+    pub(crate) fn take_all_out(&mut self, key: Key, node: Key)
+        ensures { (k : ℕ) → list_at self.new.rows.items k ≡
+            (if nat_eq key k then without node (list_at self.old.rows.items k) else list_at self.old.rows.items k) }
+    {
+        if key.index() < self.rows.len() {
+            remove_all_from(&mut self.rows[key.index()], node);
+        }
     }
 
     /// Puts a node into the list of another one, just before one of its nodes or last. Where memory is refused, each list is as
@@ -100,14 +114,32 @@ impl KeyLists {
     }
 }
 
-/// Takes a node out of a list, and tells whether it stood there. The list is gone through once.
+/// Takes a node, which stands there at most once, out of a list, and tells whether it stood there. A short list is gone through once,
+/// and a longer one is looked through up to the node.
 fn remove_from(list: &mut Vec<Key>, node: Key) -> bool
+    requires { IsSingle list.old.items }
     ensures stood { result ≡ is_in nat_eq node list.old.items }
     ensures list { list.new.items ≡ without node list.old.items }
 {
     let length = list.len();
+    if length <= FEW {
+        remove_all_from(list, node);
+        return list.len() < length;
+    }
+    match position_of(list, node) {
+        Some(at) => {
+            let _ = list.remove(at);
+            true
+        }
+        None => false,
+    }
+}
+
+/// Takes a node out of a list, however often it stands there.
+fn remove_all_from(list: &mut Vec<Key>, node: Key)
+    ensures { list.new.items ≡ without node list.old.items }
+{
     list.retain(|other| *other != node);
-    list.len() < length
 }
 
 /// The place just before a node of a list, or behind all.

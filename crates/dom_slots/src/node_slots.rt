@@ -46,7 +46,7 @@ impl NodeSlots {
         if self.first.get(node.index()).copied() == Some(slot) {
             self.first[node.index()] = Key::default();
         }
-        let _ = self.rest.take_out(node, slot);
+        self.rest.take_all_out(node, slot);
     }
 
     /// Gives a node one slot more.

@@ -3,6 +3,7 @@ ghost use Rattle.std.specs.Prelude.{◌≡◌, ℕ, ◌&&◌, ◌||◌, [], true
 ghost use Rattle.std.specs.Option.{ForSome};
 ghost use Rattle.dom_model.specs.Names.{is_in, list_eq};
 ghost use Rattle.node_arena.specs.Nodes.{insert_before, without};
+ghost use Rattle.dom_slots.specs.KeyMaps.{IsSingle};
 ghost use Rattle.dom_slots.specs.NodeSlots.{slots_in};
 ghost use Rattle.dom_slots.specs.Tables.{list_of};
 
@@ -86,8 +87,9 @@ impl Table {
         Ok(())
     }
 
-    /// Takes a node out of the list of a slot, and tells whether it stood there.
+    /// Takes a node, which stands there at most once, out of the list of a slot, and tells whether it stood there.
     pub(crate) fn take_out(&mut self, slot: Key, node: Key) -> bool
+        requires { IsSingle (list_of self.old slot) }
         ensures stood { result ≡ is_in nat_eq node (list_of self.old slot) }
         ensures lists { (k : ℕ) → list_of self.new k ≡ (if nat_eq slot k then without node (list_of self.old k) else list_of self.old k) }
     {

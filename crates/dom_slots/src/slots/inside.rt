@@ -1,5 +1,5 @@
 //! Steps that are made inside of shadow trees.
-ghost use Rattle.std.specs.Prelude.{◌≡◌, ◌++◌, [], true, false, Bool as Truth, List, map, filter, All, OnOk, IfOk};
+ghost use Rattle.std.specs.Prelude.{◌≡◌, ℕ, ◌++◌, [], true, false, Bool as Truth, List, Some, map, filter, All, OnOk, IfOk};
 ghost use Rattle.std.specs.Option.{option_map, ForSome};
 ghost use Rattle.dom_base.specs.declared.NodeName.{NodeName as Name};
 ghost use Rattle.dom_model.specs.Names.{name_eq, is_in};
@@ -8,10 +8,11 @@ ghost use Rattle.dom_model.specs.Tree.{subtree};
 ghost use Rattle.dom_tree.specs.Forest.{IsNode, name_of};
 ghost use Rattle.dom_slots.specs.Hosts.{HostsAreNodes};
 ghost use Rattle.dom_slots.specs.Insides.{is_called, tree_slots, bare_around, left_slots, AreRight, AreSilent, MovesNone, MovesCalled, MayMove, IsInside};
+ghost use Rattle.dom_slots.specs.KeyMaps.{IsSingle};
 ghost use Rattle.dom_slots.specs.Renewals.{AreRenewed, Renews, IsButFor};
 ghost use Rattle.dom_slots.specs.Shadows.{shadows, is_bare_at};
 ghost use Rattle.dom_slots.specs.Steps.{StepHasNodes, step_node, is_move};
-ghost use Rattle.dom_slots.specs.Tables.{SlotTable};
+ghost use Rattle.dom_slots.specs.Tables.{SlotTable, list_of};
 
 use crate::Slots;
 use crate::changes::add_once;
@@ -34,6 +35,7 @@ impl Slots {
         requires nodes { StepHasNodes forest.now.names change.step }
         requires left { ForSome change.left (IsNode forest.now) }
         requires slot { ForSome change.slot (IsNode forest.now) }
+        requires single { (k : ℕ) → change.slot ≡ Some k → IsSingle (list_of self.old.table k) }
         requires still { MovesNone forest.now self.old.hosts change.step }
         ensures hosts { IfOk result (λ keys. self.new.hosts ≡ self.old.hosts) }
         ensures renewed { (p : Name → Truth) → IsButFor forest.now self.old.hosts self.old.table change.slot change.step →

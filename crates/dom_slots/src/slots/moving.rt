@@ -10,6 +10,7 @@ ghost use Rattle.dom_tree.specs.Forest.{IsNode, name_of};
 ghost use Rattle.node_arena.specs.Nodes.{without};
 ghost use Rattle.dom_slots.specs.Hosts.{HostsAreNodes, host_named};
 ghost use Rattle.dom_slots.specs.Insides.{own_slots};
+ghost use Rattle.dom_slots.specs.KeyMaps.{IsSingle};
 ghost use Rattle.dom_slots.specs.Renewals.{AreRenewed, Renews, IsButFor, names_but};
 ghost use Rattle.dom_slots.specs.Shadows.{shadows, slot_at, assigned_at, looks_for};
 ghost use Rattle.dom_slots.specs.Steps.{step_node, is_move};
@@ -38,6 +39,7 @@ impl Slots {
         requires hosts { HostsAreNodes forest.now.names self.old.hosts }
         requires node { IsNode forest.now node }
         requires slot { ForSome was (IsNode forest.now) }
+        requires single { (k : ℕ) → was ≡ Some k → IsSingle (list_of self.old.table k) }
         ensures hosts { IfOk result (λ keys. self.new.hosts ≡ self.old.hosts) }
         ensures renewed { (p : Name → Truth) (step : Step) → step_node step ≡ node → is_move step ≡ moves →
             IsButFor forest.now self.old.hosts self.old.table was step → AreRenewed forest.now self.old.hosts p self.old.table [] [] self.old.table [] →
@@ -68,6 +70,7 @@ impl Slots {
     ) -> Result<(), AllocError>
         requires node { IsNode forest.now node }
         requires slot { ForSome slot (IsNode forest.now) }
+        requires single { (k : ℕ) → slot ≡ Some k → IsSingle (list_of self.old.table k) }
         ensures hosts { OnOk result (self.new.hosts ≡ self.old.hosts) }
         ensures renewed { ((k : ℕ) → slot ≡ Some k → map (name_of forest.now) (without node (list_of self.old.table k)) ≡ assigned_at
             (shadows forest.now self.old.hosts) (name_of forest.now k)) →

@@ -1,8 +1,12 @@
-use Rattle.dom_base.proofs.Std.{◌≡◌, ap, sym, ◌∙◌, nat_eq, if◌then◌else◌, on_ok_weaker}
+use Rattle.dom_base.proofs.Std.{◌≡◌, ap, sym, subst, ◌∙◌, nat_eq, if◌then◌else◌, on_ok_weaker}
 use Rattle.dom_model.proofs.Model.{append_once}
-use Rattle.dom_slots.specs.Definitions.{SlotsNow}
+use Rattle.dom_slots.specs.Definitions.{SlotsNow, SlotTable, list_of, IsSingle}
 use Rattle.dom_slots.proofs.Leaving.{renews-left}
 use Rattle.dom_slots.proofs.slots.Slots.leave.Goals as goal
+
+pub take_out-requires : goal.take_out-requires
+take_out-requires c = subst (λ (t : SlotTable). IsSingle (list_of t c.in-Some.key)) (sym (ap (λ (s : SlotsNow). s.table) c.self.view_is))
+    (c.requires.single c.in-Some.key c.in-Some.is)
 
 pub returns-then-not-take_out-clause-renewed : goal.returns-then-not-take_out-clause-renewed
 returns-then-not-take_out-clause-renewed c =

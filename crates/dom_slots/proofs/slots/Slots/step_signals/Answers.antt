@@ -4,7 +4,7 @@ use Rattle.dom_tree.specs.Definitions.{NamedTrees, name_at}
 use Rattle.dom_slots.specs.Definitions.{SlotsNow, StandsOnce, IsEndOf, own_slots, IsInside, IsMoved, MovesNone, AreRenewed, shadows, shadow_trees}
 use Rattle.dom_slots.specs.Definitions.{is_changed_at, step_node, is_apart, IsTableOf}
 use Rattle.dom_slots.proofs.Apart.{apart-but-for, apart-table, apart-keys}
-use Rattle.dom_slots.proofs.Ended.{none-renewed}
+use Rattle.dom_slots.proofs.Ended.{listed-single, none-renewed}
 use Rattle.dom_slots.proofs.Inside.{inside-but-for, inside-table, inside-keys, inside-nodes}
 use Rattle.dom_slots.proofs.slots.Slots.step_signals.Goals.{After-still_signals, After-moved_signals, After-drop-slots}
 use Rattle.dom_slots.proofs.slots.Slots.step_signals.Goals as goal
@@ -29,6 +29,9 @@ module _ (c : After-still_signals) where
 
 pub still_signals-requires-clause-still : goal.still_signals-requires-clause-still
 still_signals-requires-clause-still c = subst (IsMoved c.args.forest.now c.args.self.now.hosts c.args.change) c.in-NoSlot.is c.requires.moved
+
+pub still_signals-requires-clause-single : goal.still_signals-requires-clause-single
+still_signals-requires-clause-single c = listed-single c.requires.ended.1
 
 pub returns-in-NoSlot-clause-value : goal.returns-in-NoSlot-clause-value
 returns-in-NoSlot-clause-value c = λ was h. IfOk-weaker c.still_signals.result _ _
@@ -72,6 +75,9 @@ module _ (c : After-moved_signals) where
       c.moved_signals.ensures.renewed (is_changed_at (shadow_trees f.names was s.hosts) (shadows f s.hosts)) c.args.change.step
       (sym c.node-node.ensures) (sym c.is_move-moves.ensures)
       (apart-but-for was f s c.args.change h stands apart c.law_nodes_stand_once.ensures.distinct) (none-renewed was f s c.args.change h stands)
+
+pub moved_signals-requires-clause-single : goal.moved_signals-requires-clause-single
+moved_signals-requires-clause-single c = listed-single c.requires.ended.1
 
 pub returns-in-Apart-clause-value : goal.returns-in-Apart-clause-value
 returns-in-Apart-clause-value c = λ was h. IfOk-weaker c.moved_signals.result _ _

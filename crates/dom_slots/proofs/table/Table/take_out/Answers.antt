@@ -1,10 +1,14 @@
-use Rattle.dom_base.proofs.Std.{ap, ◌∙◌, nat_eq, if◌then◌else◌}
+use Rattle.dom_base.proofs.Std.{sym, ap, subst, ◌∙◌, nat_eq, if◌then◌else◌}
 use Rattle.dom_model.proofs.Model.{is_in}
 use Rattle.node_arena.specs.Nodes.{without}
-use Rattle.dom_slots.specs.Definitions.{list_at, slots_in, SlotTable, list_of}
+use Rattle.dom_slots.specs.Definitions.{IsSingle, list_at, slots_in, SlotTable, list_of}
 use Rattle.dom_slots.proofs.Mapping.{agree-taken_out}
 use Rattle.dom_slots.proofs.Tables.{list-found, changed-found}
 use Rattle.dom_slots.proofs.table.Table.take_out.Goals as goal
+
+pub take_out-requires-2 : goal.take_out-requires-2
+take_out-requires-2 c = subst IsSingle
+    (sym (list-found c.args.slot c.self.inside.lists.rows.items ∙ ap (λ (t : SlotTable). list_of t c.args.slot) c.self.view_is)) c.requires
 
 pub invariant_of-self : goal.invariant_of-self
 invariant_of-self c =
