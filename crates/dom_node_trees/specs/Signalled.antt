@@ -15,7 +15,7 @@ use Rattle.dom_node_trees.specs.declared.steps.NodeTrees.{NodeTrees}
 abbrev pub no_trees : NodeTrees
 no_trees = record {
   forest = record { names = []; trees = none };
-  slots = record { hosts = []; table = []; bare = [] };
+  slots = record { hosts = []; table = []; bare = []; alone = [] };
   signalled = [];
   queue = [];
 }

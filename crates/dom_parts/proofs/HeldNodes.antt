@@ -217,6 +217,7 @@ no_slots_of f = record {
   hosts = tt;
   table = record { nodes = λ k. All-nil (λ j. j < length f.names); lists = λ k within. refl; beyond = λ k far. refl };
   bare = λ r e. absurd (true≢false (sym e));
+  alone = λ r a e. absurd (true≢false (sym e));
 }
 
 -- without nodes, where the page alone is there

@@ -72,7 +72,7 @@ with_signals tables t = record tables { tasks = t.queue; slots = t.slots; signal
 
 -- no hosts
 abbrev pub no_slots : SlotsNow
-no_slots = record { hosts = []; table = []; bare = [] }
+no_slots = record { hosts = []; table = []; bare = []; alone = [] }
 
 -- where the page alone is there, and has none
 abbrev pub first_tables : AllTables

@@ -5,12 +5,12 @@ use Rattle.dom_base.proofs.Std.{option_and_then, option_or, cases_Bool, cond-fal
 use Rattle.dom_base.proofs.Std.{eq-or-lt_of_le, get_or-append_seam}
 use Rattle.dom_model.proofs.Model.{NodeName, Page, name_eq, name_before, node_of, is_in, first_of, last_of, Trees, none, tree, Node, nodes, roots, names_of}
 use Rattle.dom_model.proofs.Model.{no_node, node_in, or_else, subtree, inclusive_ancestors, parent_of, root_of, trees_below, children_of, with_node, put_root}
-use Rattle.dom_model.proofs.Model.{is_slot_element, slots_among, slot_in, name_eq-other}
+use Rattle.dom_model.proofs.Model.{is_slot_element, has_slot_name, slot_name, slots_among, slot_in, name_eq-other}
 use Rattle.dom_tree.specs.Definitions.{NamedTrees, name_at}
 use Rattle.dom_tree.proofs.Standing.{Once-forest}
 use Rattle.dom_laws.proofs.Laws.{name_eq-from, same_or_not, above-put_others, once_apart, Has, above-absent, subtree-absent, Once}
 use Rattle.dom_slots.specs.Definitions.{ShadowHost, HostsAreNodes, host_named, root_named, host_of_root, SlotsNow, HasOneMore, AreSlotsOf, IsBare, ShadowTrees}
-use Rattle.dom_slots.specs.Definitions.{shadow_trees, slot_at, assigned_at, assigned_under, list_of}
+use Rattle.dom_slots.specs.Definitions.{shadow_trees, slot_at, assigned_at, assigned_under, list_of, IsAlone}
 use Rattle.dom_slots.proofs.Hosted.{host-key, root-key}
 
 -- ---- a tree of one node among others
@@ -259,27 +259,55 @@ module _ (f g : NamedTrees) (n : Node) (one : HasOneMore f g n) where
               slots = λ k within. bare_still r old k
                   (let at : k ≤ length f.names = omega (arith, within, length_push f.names n.name) in eq-or-lt_of_le at);
             };
+        alone = λ r a e. alone_still r a (slots.alone r a e);
       }
     where
-      bare_still : (r : ℕ) → IsBare f s.hosts r → (k : ℕ) → (k ≡ length f.names) ⊎ (k < length f.names) →
-          root_of (with_node n f.trees) (name_at (f.names ++ n.name ∷ []) k) ≡ name_at (f.names ++ n.name ∷ []) r →
-          is_slot_element (node_in (with_node n f.trees) (name_at (f.names ++ n.name ∷ []) k)) ≡ false
-      bare_still r old k (inl e) at =
+      -- the new node is its own root, and others have the roots that they had and are the same
+      apart : (r : ℕ) → r < length f.names → {k : ℕ} → k ≡ length f.names →
+          root_of (with_node n f.trees) (name_at (f.names ++ n.name ∷ []) k) ≡ name_at (f.names ++ n.name ∷ []) r → ⊥
+      apart r node {k} e at =
           let name : name_at (f.names ++ n.name ∷ []) k ≡ n.name =
           ap (λ i. name_at (f.names ++ n.name ∷ []) i) e ∙ get_or-append_seam f.names n.name [] (node_of Page 0) in
           let alone : root_of (with_node n f.trees) n.name ≡ n.name =
           ap (λ path. unwrap_or (last_of path) n.name) (path_alone n n.name f.trees new_node) in
-          absurd (new_name r old.node (sym (name_kept f.names n.name r old.node)
-          ∙ (sym at ∙ (ap (root_of (with_node n f.trees)) name ∙ alone))))
-      bare_still r old k (inr within) at =
-          let name = name_kept f.names n.name k within in
+          new_name r node (sym (name_kept f.names n.name r node) ∙ (sym at ∙ (ap (root_of (with_node n f.trees)) name ∙ alone)))
+
+      root_still : (r k : ℕ) → r < length f.names → k < length f.names
+          → root_of (with_node n f.trees) (name_at (f.names ++ n.name ∷ []) k) ≡ name_at (f.names ++ n.name ∷ []) r →
+          root_of f.trees (name_at f.names k) ≡ name_at f.names r
+      root_still r k node within at =
           let y = name_at f.names k in
-          let other : n.name ≡ y → ⊥ = λ e. new_name k within (sym e) in
-          ap (λ z. is_slot_element (node_in (with_node n f.trees) z)) name
-          ∙ (ap is_slot_element (node_other f.names f.trees s.hosts n slots.hosts new_name new_node y other)
-          ∙ old.slots k within (ap (λ path. unwrap_or (last_of path) y)
-          (sym (path_other f.names f.trees s.hosts n slots.hosts new_name new_node y other))
-          ∙ (ap (root_of (with_node n f.trees)) (sym name) ∙ (at ∙ name_kept f.names n.name r old.node))))
+          ap (λ path. unwrap_or (last_of path) y)
+          (sym (path_other f.names f.trees s.hosts n slots.hosts new_name new_node y (λ e. new_name k within (sym e))))
+          ∙ (ap (root_of (with_node n f.trees)) (sym (name_kept f.names n.name k within)) ∙ (at ∙ name_kept f.names n.name r node))
+
+      node_still : (k : ℕ) → k < length f.names → node_in (with_node n f.trees) (name_at (f.names ++ n.name ∷ []) k) ≡ node_in f.trees (name_at f.names k)
+      node_still k within =
+          ap (node_in (with_node n f.trees)) (name_kept f.names n.name k within)
+          ∙ node_other f.names f.trees s.hosts n slots.hosts new_name new_node (name_at f.names k) (λ e. new_name k within (sym e))
+
+      bare_still : (r : ℕ) → IsBare f s.hosts r → (k : ℕ) → (k ≡ length f.names) ⊎ (k < length f.names) →
+          root_of (with_node n f.trees) (name_at (f.names ++ n.name ∷ []) k) ≡ name_at (f.names ++ n.name ∷ []) r →
+          is_slot_element (node_in (with_node n f.trees) (name_at (f.names ++ n.name ∷ []) k)) ≡ false
+      bare_still r old k (inl e) at = absurd (apart r old.node e at)
+      bare_still r old k (inr within) at = ap is_slot_element (node_still k within) ∙ old.slots k within (root_still r k old.node within at)
+
+      alone_still : (r a : ℕ) → IsAlone f s.hosts r a → IsAlone record { names = f.names ++ n.name ∷ []; trees = with_node n f.trees } s.hosts r a
+      alone_still r a old = record {
+        hosted = old.hosted;
+        root = longer f.names n.name r old.root;
+        node = longer f.names n.name a old.node;
+        slots = λ at slot k within at_k named.
+            elim (let below : k ≤ length f.names = omega (arith, within, length_push f.names n.name) in eq-or-lt_of_le below) [
+              | inl e ↦ absurd (apart r old.root e at_k)
+              | inr there ↦
+                  let same = node_still a old.node in
+                  name_kept f.names n.name k there
+                  ∙ (old.slots (root_still r a old.root old.node at) (sym (ap is_slot_element same) ∙ slot) k there (root_still r k old.root there at_k)
+                  ((λ j. has_slot_name (slot_name (sym same j)) (sym (node_still k there) j)) ∙ named)
+                  ∙ sym (name_kept f.names n.name a old.node))
+            ];
+      }
 
       by : (k : ℕ) → (k ≡ length f.names) ⊎ (k < length f.names)
           → map (name_at (f.names ++ n.name ∷ [])) (list_of s.table k) ≡ assigned_at

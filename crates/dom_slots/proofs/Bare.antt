@@ -13,7 +13,7 @@ use Rattle.dom_slots.specs.declared.step.SlotChange.{SlotChange}
 use Rattle.dom_slots.specs.declared.step.Step.{Step}
 use Rattle.dom_slots.specs.declared.step.Step.TheVariants.{Place, Removal, Attribute}
 use Rattle.dom_slots.proofs.Attaching.{in_filter}
-use Rattle.dom_slots.proofs.Attributed.{changed, changed_name}
+use Rattle.dom_slots.proofs.Attributed.{changed, changed_name, node_off}
 use Rattle.dom_slots.proofs.Ended.{there-was, there-now, both-stand, node-within}
 use Rattle.dom_slots.proofs.Far.{slot-among, attribute-slot}
 use Rattle.dom_slots.proofs.Looks.{changed-slot}
@@ -29,7 +29,7 @@ use Rattle.dom_slots.proofs.Stepping.{removal-so, place-so, attribute-name}
 
 module _ (ts : Trees) (once : Once ts) (top : NodeName) (bare : slots_among (subtree ts top) ≡ []) where
   -- no slot stands below its root
-  none-below : (y : NodeName) → is_slot_element (node_in ts y) ≡ true → Has (subtree ts top) y → ⊥
+  pub none-below : (y : NodeName) → is_slot_element (node_in ts y) ≡ true → Has (subtree ts top) y → ⊥
   none-below y slot i = subst (In y) bare (slot-among ts once top y i slot)
 
   -- so none has that root
@@ -54,11 +54,11 @@ some_host h (g ∷ hosts) e = true≢false (sym (ap is_empty e))
 
 -- ---- a tree that is moved
 
--- its own nodes stay below it, other nodes have the roots that they had, and slots are slots
+-- its own nodes stay below it, other nodes have the roots that they had, and each node is the same
 record IsCarried (x : NodeName) (was now : Trees) : Type 0 where
   own : subtree was x ≡ subtree now x
   roots : (y : NodeName) → (Has (subtree now x) y → ⊥) → root_of was y ≡ root_of now y
-  slots : (y : NodeName) → Has was y → Has now y → is_slot_element (node_in was y) ≡ is_slot_element (node_in now y)
+  nodes : (y : NodeName) → Has was y → Has now y → node_in was y ≡ node_in now y
 
 module _ (names : List NodeName) (hosts : List ShadowHost) (m : Node) (d us : Trees) (p q : Spot)
     (apart : (y : NodeName) → Has us y → Has (tree m d none) y → ⊥)
@@ -69,7 +69,7 @@ module _ (names : List NodeName) (hosts : List ShadowHost) (m : Node) (d us : Tr
       record {
         own = own p ∙ sym (own q);
         roots = λ y off. Moved.root_same names hosts m d us p q apart both y (λ i. off (subst (λ (ts : Trees). Has ts y) (sym (own q)) i));
-        slots = λ y h g. ap is_slot_element (Moved.contents_same names hosts m d us p q apart both y h g);
+        nodes = Moved.contents_same names hosts m d us p q apart both;
       }
 
 -- ---- a step
@@ -78,13 +78,13 @@ module _ (was : Trees) (f : NamedTrees) (s : SlotsNow) (b : SlotChange) (ended :
   abbrev x : NodeName
   x = name_at f.names (step_node b.step)
 
-  both : AreBoth f.names s.hosts was f.trees
+  pub both : AreBoth f.names s.hosts was f.trees
   both = both-stand was f s b ended stands
 
   here-was : Has was x
   here-was = there-was was f s b ended stands (step_node b.step) (node-within f.names b.step ended.nodes)
 
-  here-now : Has f.trees x
+  pub here-now : Has f.trees x
   here-now = there-now was f s b ended stands (step_node b.step) (node-within f.names b.step ended.nodes)
 
   carries : is_move b.step ≡ true → IsCarried x was f.trees
@@ -100,17 +100,20 @@ module _ (was : Trees) (f : NamedTrees) (s : SlotsNow) (b : SlotChange) (ended :
           (there-was was f s b ended stands z nodes) is
       by (Attribute z) nodes is e = absurd (true≢false (sym e))
 
-  -- a node that a move does not carry has the root that it had, and a slot is one as before
-  abbrev Stays : Step → NodeName → Type 0
+  -- a node that a move does not carry has the root that it had; a slot is one as before, and a node the same, but one with another attribute
+  abbrev pub Stays : Step → NodeName → Type 0
   Stays step y = ((is_move step ≡ true → Has (subtree f.trees (name_at f.names (step_node step))) y → ⊥) → root_of was y ≡ root_of f.trees y) ×
-      (Has was y → Has f.trees y → is_slot_element (node_in was y) ≡ is_slot_element (node_in f.trees y))
+      (Has was y → Has f.trees y → is_slot_element (node_in was y) ≡ is_slot_element (node_in f.trees y)) ×
+      (Has was y → Has f.trees y → (is_move step ≡ false → y ≡ name_at f.names (step_node step) → ⊥) → node_in was y ≡ node_in f.trees y)
 
-  stays : (y : NodeName) → Stays b.step y
+  pub stays : (y : NodeName) → Stays b.step y
   stays y = by b.step ended.step carries
     where
       by : (step : Step) → IsStepFrom f.names was f.trees step → (is_move step ≡ true → IsCarried (name_at f.names (step_node step)) was f.trees) → Stays step y
-      by (Place z parent next) is moved = let c = moved refl in (λ off. c.roots y (off refl), c.slots y)
-      by (Removal z) is moved = let c = moved refl in (λ off. c.roots y (off refl), c.slots y)
+      by (Place z parent next) is moved =
+          let c = moved refl in (λ off. c.roots y (off refl), λ h i. ap is_slot_element (c.nodes y h i), λ h i other. c.nodes y h i)
+      by (Removal z) is moved =
+          let c = moved refl in (λ off. c.roots y (off refl), λ h i. ap is_slot_element (c.nodes y h i), λ h i other. c.nodes y h i)
       by (Attribute z) is moved =
           let g = with_attribute is.0 is.1 in
           let named = attribute-name is.0 is.1 in
@@ -118,6 +121,7 @@ module _ (was : Trees) (f : NamedTrees) (s : SlotsNow) (b : SlotChange) (ended :
             λ off. ap (λ path. unwrap_or (last_of path) y) (sym (path_recast (changed at g named) (changed_name at g named) was y)) ∙
                 ap (λ (ts : Trees). root_of ts y) (sym is.2),
             λ h i. sym (changed-slot at g named (attribute-slot is.0 is.1) was y) ∙ ap (λ (ts : Trees). is_slot_element (node_in ts y)) (sym is.2),
+            λ h i other. sym (node_off at g named was y (other refl)) ∙ ap (λ (ts : Trees). node_in ts y) (sym is.2),
           )
 
   -- a tree without slots stays one, if none is carried into it
@@ -134,7 +138,7 @@ module _ (was : Trees) (f : NamedTrees) (s : SlotsNow) (b : SlotChange) (ended :
   }
 
   -- where no slot is moved it is so of each
-  none-moved : MovesNone f s.hosts b.step → is_move b.step ≡ true → slots_among (subtree f.trees x) ≡ []
+  pub none-moved : MovesNone f s.hosts b.step → is_move b.step ≡ true → slots_among (subtree f.trees x) ≡ []
   none-moved (inl bare) moves = bare
   none-moved (inr no_move) moves = absurd (true≢false (sym moves ∙ no_move.0))
 
@@ -185,7 +189,7 @@ module _ (was : Trees) (f : NamedTrees) (s : SlotsNow) (b : SlotChange) (ended :
           let c = carries moves in
           let below_was : Has (subtree was x) y = subst (λ (ts : Trees). Has ts y) (sym c.own) below in
           let root : root_of was y ≡ name_at f.names top = root-below was both.once_was x y here-was below_was ∙ root-was top moves is in
-          true≢false (sym (c.slots y (Has-subtree was x y both.once_was below_was) there ∙ d.0)
+          true≢false (sym (ap is_slot_element (c.nodes y (Has-subtree was x y both.once_was below_was) there) ∙ d.0)
           ∙ subst (λ z. is_slot_element (node_in was z) ≡ false) named
           ((ended.slots.bare top mark).slots found.0 (slice_get_within f.names found.0 y found.1) (ap (root_of was) named ∙ root)))
 

@@ -41,3 +41,4 @@ mod Serving
 mod TreeSlots
 mod Waited
 mod Bare
+mod Alone

@@ -1,7 +1,7 @@
 -- The members of lists after nodes were taken out of them and put into them, and the lists of slots beside the slots of nodes.
-use Rattle.dom_base.proofs.Std.{◌≡◌, inl, inr, ℕ, ◌+◌, ◌<◌, Bool, true, false, not, ◌&&◌, ◌||◌, List, [], ◌∷◌, ◌++◌, take, length, get_or, Option, Some, None}
-use Rattle.dom_base.proofs.Std.{refl, sym, ap, ◌∙◌, true≢false, nat_eq, slice_get, if◌then◌else◌, cases_Bool, eqb-true, eq-eqb, false_from_ne_true, take_more}
-use Rattle.dom_base.proofs.Std.{list_any-append, same_Some, none-some}
+use Rattle.dom_base.proofs.Std.{◌≡◌, inl, inr, ℕ, zero, suc, ◌+◌, ◌<◌, Bool, true, false, not, ◌&&◌, ◌||◌, List, [], ◌∷◌, ◌++◌, take, length, get_or, Option}
+use Rattle.dom_base.proofs.Std.{Some, None, refl, sym, ap, ◌∙◌, true≢false, nat_eq, slice_get, if◌then◌else◌, cases_Bool, eqb-true, eq-eqb, false_from_ne_true}
+use Rattle.dom_base.proofs.Std.{take_more, list_any-append, same_Some, none-some, arith, or_left, or_right}
 use Rattle.node_arena.specs.Nodes.{put_before, insert_before, without}
 use Rattle.dom_model.proofs.Model.{is_in}
 
@@ -137,6 +137,12 @@ pub none_taken : (a d : Bool) → a ≡ (a && not (d && false))
 none_taken true true = refl
 none_taken true false = refl
 none_taken false d = refl
+
+-- a number that stands at a place of a list is among its members
+pub listed-at : (n : ℕ) (nodes : List ℕ) (i : ℕ) → n ≡ get_or nodes i n → i < length nodes → is_in nat_eq n nodes ≡ true
+listed-at n [] i at within = absurd (omega (arith, within))
+listed-at n (x ∷ xs) zero at within = or_left (nat_eq n x) (is_in nat_eq n xs) (eq-eqb n x at)
+listed-at n (x ∷ xs) (suc i) at within = or_right (nat_eq n x) (is_in nat_eq n xs) (listed-at n xs i at (omega (arith, within)))
 
 -- members of the first items and one more
 in-more : (k : ℕ) (nodes : List ℕ) (i n : ℕ) → n ≡ get_or nodes i n → i < length nodes →

@@ -2,7 +2,8 @@
 use Rattle.dom_base.proofs.Std.{◌≡◌, Bool, true, false, List, [], ◌∷◌, map, filter, drop, Option, Some, None, refl, sym, ap, ◌∙◌, find, if◌then◌else◌}
 use Rattle.dom_base.proofs.Std.{option_to_list, unwrap_or, option_map, option_map_or, option_and_then, map-append}
 use Rattle.dom_model.proofs.Model.{NodeName, DomString, name_eq, is_in, first_of, Trees, none, tree, Node, nodes, roots, names_of, no_node, node_in, or_else}
-use Rattle.dom_model.proofs.Model.{subtree, inclusive_ancestors, trees_below, children_of, map_nodes, has_slot_name, slottable_name, is_slot_element}
+use Rattle.dom_model.proofs.Model.{subtree, inclusive_ancestors, trees_below, children_of, root_of, map_nodes, has_slot_name, slot_name, slottable_name}
+use Rattle.dom_model.proofs.Model.{is_slot_element}
 use Rattle.dom_tree.specs.Definitions.{NamedTrees, name_at}
 use Rattle.dom_slots.specs.Definitions.{ShadowHost, host_named, root_named, ShadowTrees, shadow_trees, slot_at, assigned_at, SlotsNow, AreSlotsOf}
 
@@ -96,6 +97,10 @@ module _ (h : Node → Node) (keeps : KeepsSlots h) where
   element_recast n = λ j. is_slot_element
       record { name = n.name; kind = keeps.kind n j; element = keeps.element n j; attributes = []; text = []; document = None }
 
+  name_recast : (n : Node) → slot_name (h n) ≡ slot_name n
+  name_recast n = λ j. slot_name
+      record { name = n.name; kind = n.kind; element = []; attributes = keeps.attributes n j; text = []; document = None }
+
   -- and the first slot of a name is the same
   first_recast : (ts : Trees) (r : NodeName) (name : DomString)
       → option_map (λ (n : Node). n.name) (find (has_slot_name name) (nodes (subtree (map_nodes h ts) r))) ≡ option_map (λ (n : Node). n.name)
@@ -136,6 +141,8 @@ module _ (h : Node → Node) (keeps : KeepsSlots h) where
 pub slots-recast : {s : SlotsNow} {h : Node → Node} (f g : NamedTrees) → KeepsSlots h → g.names ≡ f.names → g.trees ≡ map_nodes h f.trees →
     AreSlotsOf f s → AreSlotsOf g s
 slots-recast {s} {h} f g keeps names trees slots =
+    let up : (y : NodeName) → root_of f.trees y ≡ root_of (map_nodes h f.trees) y = λ y.
+    ap (λ path. unwrap_or (Rattle.dom_model.specs.Names.last_of path) y) (sym (path_recast h keeps.name f.trees y)) in
     let there : record { names = f.names; trees = map_nodes h f.trees } ≡ g = λ j. record { names = sym names j; trees = sym trees j } in
     Rattle.std.proofs.Common.subst (λ (k : NamedTrees). AreSlotsOf k s) there record {
       hosts = slots.hosts;
@@ -152,6 +159,21 @@ slots-recast {s} {h} f g keeps names trees slots =
             slots = λ k within at.
                 let y = name_at f.names k in
                 read_recast h keeps.name is_slot_element (element_recast h keeps) f.trees y
-                ∙ old.slots k within (ap (λ path. unwrap_or (Rattle.dom_model.specs.Names.last_of path) y) (sym (path_recast h keeps.name f.trees y)) ∙ at);
+                ∙ old.slots k within (up y ∙ at);
+          };
+      alone = λ r a e.
+          let old = slots.alone r a e in
+          let x = name_at f.names a in
+          record {
+            hosted = old.hosted;
+            root = old.root;
+            node = old.node;
+            slots = λ at slot k within at_k named.
+                let y = name_at f.names k in
+                let name = slot_name (node_in (map_nodes h f.trees) x) in
+                let same : slot_name (node_in f.trees x) ≡ name = sym (read_recast h keeps.name slot_name (name_recast h keeps) f.trees x) in
+                old.slots (up x ∙ at) (sym (read_recast h keeps.name is_slot_element (element_recast h keeps) f.trees x) ∙ slot) k within (up y ∙ at_k)
+                (ap (λ a. has_slot_name a (node_in f.trees y)) same
+                ∙ (sym (read_recast h keeps.name (has_slot_name name) (slot_recast h keeps name) f.trees y) ∙ named));
           };
     }

@@ -1,12 +1,13 @@
 -- A walk through the tree of a node, from its top on.
-use Rattle.dom_base.proofs.Std.{◌≡◌, ℕ, ◌<◌, Bool, true, false, ◌&&◌, List, [], ◌∷◌, ◌++◌, All, map, length, Option, Some, filter, refl, sym, ap, subst, ◌∙◌}
-use Rattle.dom_base.proofs.Std.{append_assoc, if◌then◌else◌, map-append, All-push, option_map, ForSome}
-use Rattle.dom_model.proofs.Model.{NodeName, first_of, inclusive_descendants}
+use Rattle.dom_base.proofs.Std.{◌≡◌, ℕ, ◌<◌, Bool, true, false, ◌&&◌, List, [], ◌∷◌, ◌++◌, All, map, length, Option, None, Some, filter, find, refl, sym}
+use Rattle.dom_base.proofs.Std.{ap, subst, ◌∙◌, append_assoc, if◌then◌else◌, map-append, All-push, option_map, ForSome}
+use Rattle.dom_model.proofs.Model.{NodeName, DomString, first_of, has_slot_name, Node, nodes, node_in, subtree, inclusive_descendants}
 use Rattle.dom_tree.specs.Definitions.{NamedTrees, name_at, StandsIn}
 use Rattle.dom_laws.specs.Within.{behind, from_node}
-use Rattle.dom_laws.proofs.Laws.{filter-yes, filter-no, above-within, ordered, top_places}
+use Rattle.dom_laws.proofs.Laws.{filter-yes, filter-no, first-hit, above-within, ordered, top_places, Once}
 use Rattle.dom_tree.proofs.Standing.{StandOnce, StandAlone}
 use Rattle.dom_tree.proofs.Searching.{IsWithin-itself, following_step, length-behind}
+use Rattle.dom_slots.proofs.NamesOfNodes.{named-first}
 
 module _ (f : NamedTrees) (once : StandOnce f) (only : StandAlone f) (top : ℕ) (node : top < length f.names) where
   -- from the top on are all
@@ -37,6 +38,27 @@ module _ (f : NamedTrees) (once : StandOnce f) (only : StandAlone f) where
   walks-on {top} {k} {at} {next} is stands found node =
       let step = following_step f once only top k next (stands k is) found node in
       record { left = step.0; stands = step.1; less = length-behind f top k at next is step.0 }
+
+-- a walk looks for the first slot of a name, and what is left of it finds the one that the whole tree has
+module _ (f : NamedTrees) (once : Once f.trees) (top : ℕ) (name : DomString) where
+  abbrev left_first : Option ℕ → Option NodeName
+  left_first o = first_of (filter (λ y. has_slot_name name (node_in f.trees y)) (from_node f.trees (name_at f.names top) (option_map (name_at f.names) o)))
+
+  abbrev pub Finds : Option ℕ → Type 0
+  Finds o = left_first o ≡ first_of (filter (λ y. has_slot_name name (node_in f.trees y)) (inclusive_descendants f.trees (name_at f.names top)))
+
+  abbrev first : Option NodeName
+  first = option_map (λ (n : Node). n.name) (find (has_slot_name name) (nodes (subtree f.trees (name_at f.names top))))
+
+  -- it is the node to which the walk came, if that has the name
+  pub finds-here : {at : Option ℕ} {k : ℕ} → Finds at → at ≡ Some k → has_slot_name name (node_in f.trees (name_at f.names k)) ≡ true →
+      Some (name_at f.names k) ≡ first
+  finds-here {at} {k} left is hit = sym (first-hit (λ y. has_slot_name name (node_in f.trees y)) (name_at f.names k) _ hit) ∙
+      (ap left_first (sym is) ∙ (left ∙ sym (named-first f.trees once (has_slot_name name) (name_at f.names top))))
+
+  -- and there is none, if the walk ends
+  pub finds-none : {at : Option ℕ} → Finds at → at ≡ None → None ≡ first
+  finds-none left is = ap left_first (sym is) ∙ (left ∙ sym (named-first f.trees once (has_slot_name name) (name_at f.names top)))
 
 -- two tests, one after the other
 pub filter-twice : (p q : NodeName → Bool) (xs : List NodeName) → filter (λ y. p y && q y) xs ≡ filter q (filter p xs)

@@ -3,7 +3,7 @@ pub use Rattle.dom_slots.specs.Fields.{host_in, hosts_in}
 pub use Rattle.dom_slots.specs.Hosts.{host_named, host_of_root, HostsAreNodes, root_named, root_of_host, ShadowHost}
 pub use Rattle.dom_slots.specs.Insides.{AreRight, AreSilent, bare_around, is_called, IsInside, is_slot_called, left_slots, MayMove, MovesCalled, MovesNone}
 pub use Rattle.dom_slots.specs.Insides.{IsMoved, is_nothing, own_slots, slots_around, tree_slots}
-pub use Rattle.dom_slots.specs.Kept.{AreBare, AreSlotsOf, HasOneMore, IsBare, IsBegun, IsEndOf, SlotsNow, StandsOnce}
+pub use Rattle.dom_slots.specs.Kept.{AreAlone, AreBare, AreSlotsOf, HasOneMore, IsAlone, IsBare, IsBegun, IsEndOf, SlotsNow, StandsOnce}
 pub use Rattle.dom_slots.specs.KeyMaps.{is_marked, IsSingle, list_at}
 pub use Rattle.dom_slots.specs.Lists.{table_from, table_in}
 pub use Rattle.dom_slots.specs.NodeSlots.{in_line, slots_at, slots_in}

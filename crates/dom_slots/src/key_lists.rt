@@ -1,5 +1,5 @@
 //! A list of nodes for each node.
-ghost use Rattle.std.specs.Prelude.{◌≡◌, ℕ, ◌≤◌, ◌<◌, [], length, nat_eq, if◌then◌else◌, OnOk, OnErr};
+ghost use Rattle.std.specs.Prelude.{◌≡◌, ℕ, ◌≤◌, ◌<◌, [], true, length, nat_eq, if◌then◌else◌, OnOk, OnErr};
 ghost use Rattle.std.specs.List.{insert as inserted, position};
 ghost use Rattle.dom_model.specs.Names.{is_in};
 ghost use Rattle.node_arena.specs.Nodes.{insert_before, without};
@@ -99,6 +99,22 @@ impl KeyLists {
         self.reach(alloc, key)?;
         self.rows[key.index()] = list;
         Ok(())
+    }
+
+    /// Whether no node was ever given a place.
+    pub(crate) fn is_empty(&self) -> bool
+        ensures { result ≡ true → self.now.rows.items ≡ [] }
+    {
+        self.rows.is_empty()
+    }
+
+    /// Empties the list of a node.
+    pub(crate) fn clear(&mut self, key: Key)
+        ensures { (k : ℕ) → list_at self.new.rows.items k ≡ (if nat_eq key k then [] else list_at self.old.rows.items k) }
+    {
+        if key.index() < self.rows.len() {
+            self.rows[key.index()].clear();
+        }
     }
 
     /// Makes a place for a node, where there is none.

@@ -6,6 +6,7 @@ ghost use Rattle.dom_tree.specs.Forest.{NamedTrees, name_at};
 ghost use Rattle.dom_slots.specs.Hosts.{host_of_root, root_of_host};
 ghost use Rattle.dom_slots.specs.Kept.{AreSlotsOf, StandsOnce};
 
+mod alone;
 mod apart;
 mod assigned;
 mod bare;
@@ -14,6 +15,7 @@ mod moving;
 mod renewal;
 mod signals;
 
+use crate::key_lists::KeyLists;
 use crate::key_map::KeyMap;
 use crate::marks::Marks;
 use crate::table::Table;
@@ -30,14 +32,17 @@ struct Attached {
     owner: Owner,
 }
 
-/// The hosts of shadow trees, in the order of attaching, the nodes assigned to the slots of their trees, and marks of roots whose
-/// trees have no slot.
+/// The hosts of shadow trees, in the order of attaching, the nodes assigned to the slots of their trees, marks of roots whose trees
+/// have no slot, for some roots slots that stand alone with their names in the tree, and marks of slots that did not, which save
+/// a walk and tell nothing.
 pub struct Slots {
     hosts: Vec<Attached>,
     by_host: KeyMap,
     by_root: KeyMap,
     table: Table,
     bare: Marks,
+    alone: KeyLists,
+    several: Marks,
     alloc: Global,
 }
 
@@ -50,6 +55,8 @@ impl Drop for Slots {
             by_root,
             table,
             bare,
+            alone,
+            several,
             alloc,
         } = self;
     }
@@ -61,8 +68,9 @@ impl Model for Slots {
     ghost Value = { SlotsNow };
 
     ghost use Rattle.dom_slots.specs.Fields.{hosts_in, AreFound};
+    ghost use Rattle.dom_slots.specs.Lists.{table_in};
 
-    ghost view = { λ s. record { hosts = hosts_in s.hosts.items; table = s.table; bare = s.bare.marked.items } };
+    ghost view = { λ s. record { hosts = hosts_in s.hosts.items; table = s.table; bare = s.bare.marked.items; alone = table_in s.alone.rows.items } };
 
     ghost invariant = { λ s. AreFound (hosts_in s.hosts.items) s.by_host.values.items s.by_root.values.items };
 }
@@ -70,7 +78,7 @@ impl Model for Slots {
 impl Slots {
     /// No hosts. Takes no memory yet; later calls take theirs from `alloc`.
     pub fn new(alloc: Global) -> Self
-        ensures value { result ≡ record { hosts = []; table = []; bare = [] } }
+        ensures value { result ≡ record { hosts = []; table = []; bare = []; alone = [] } }
         // They are the slots of every forest.
         ensures slots { (f : NamedTrees) → AreSlotsOf f result }
     {
@@ -80,6 +88,8 @@ impl Slots {
             by_root: KeyMap::new(alloc),
             table: Table::new(alloc),
             bare: Marks::new(alloc),
+            alone: KeyLists::new(alloc),
+            several: Marks::new(alloc),
             alloc,
         }
     }

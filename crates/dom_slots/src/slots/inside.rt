@@ -10,7 +10,7 @@ ghost use Rattle.dom_slots.specs.Hosts.{HostsAreNodes};
 ghost use Rattle.dom_slots.specs.Insides.{is_called, tree_slots, bare_around, left_slots, AreRight, AreSilent, MovesNone, MovesCalled, MayMove, IsInside};
 ghost use Rattle.dom_slots.specs.KeyMaps.{IsSingle};
 ghost use Rattle.dom_slots.specs.Renewals.{AreRenewed, Renews, IsButFor};
-ghost use Rattle.dom_slots.specs.Shadows.{shadows, is_bare_at};
+ghost use Rattle.dom_slots.specs.Shadows.{shadows, slot_at, is_bare_at};
 ghost use Rattle.dom_slots.specs.Steps.{StepHasNodes, step_node, is_move};
 ghost use Rattle.dom_slots.specs.Tables.{SlotTable, list_of};
 
@@ -30,11 +30,14 @@ impl Slots {
         &mut self,
         forest: &Forest,
         change: SlotChange,
+        slot: Option<Key>,
     ) -> Result<SmallVec<Key, 2>, AllocError>
         requires hosts { HostsAreNodes forest.now.names self.old.hosts }
         requires nodes { StepHasNodes forest.now.names change.step }
         requires left { ForSome change.left (IsNode forest.now) }
         requires slot { ForSome change.slot (IsNode forest.now) }
+        requires own { option_map (name_of forest.now) slot ≡ slot_at (shadows forest.now self.old.hosts) (name_of forest.now (step_node change.step)) }
+        requires own_node { ForSome slot (IsNode forest.now) }
         requires single { (k : ℕ) → change.slot ≡ Some k → IsSingle (list_of self.old.table k) }
         requires still { MovesNone forest.now self.old.hosts change.step }
         ensures hosts { IfOk result (λ keys. self.new.hosts ≡ self.old.hosts) }
@@ -44,7 +47,7 @@ impl Slots {
     {
         let node = change.step.node();
         let moves = change.step.is_move();
-        let mut signals = self.moved_signals(forest, node, moves, change.slot)?;
+        let mut signals = self.moved_signals(forest, node, moves, change.slot, slot)?;
         if let Some(around) = change.step.around(change.left) {
             self.add_bare(forest, change.step, around, &mut signals)?;
         }
@@ -57,18 +60,21 @@ impl Slots {
         forest: &Forest,
         change: SlotChange,
         moved: &[Key],
+        slot: Option<Key>,
     ) -> Result<SmallVec<Key, 2>, AllocError>
         requires hosts { HostsAreNodes forest.now.names self.old.hosts }
         requires nodes { StepHasNodes forest.now.names change.step }
         requires left { ForSome change.left (IsNode forest.now) }
         requires slot { ForSome change.slot (IsNode forest.now) }
+        requires own { option_map (name_of forest.now) slot ≡ slot_at (shadows forest.now self.old.hosts) (name_of forest.now (step_node change.step)) }
+        requires own_node { ForSome slot (IsNode forest.now) }
         requires moved { map (name_of forest.now) moved.now ≡ slots_among (subtree forest.now.trees (name_of forest.now (step_node change.step))) }
         requires moved_nodes { All (IsNode forest.now) moved.now }
         ensures hosts { IfOk result (λ keys. self.new.hosts ≡ self.old.hosts) }
         ensures renewed { (p : Name → Truth) (old : SlotTable) → AreRenewed forest.now self.old.hosts p old [] [] self.old.table [] →
             IfOk result (λ keys. IsInside forest.now self.old.hosts p old change.step change.left change.slot self.new.table keys.items) }
     {
-        let mut signals = self.own_signals(forest, change.step.node(), change.slot)?;
+        let mut signals = self.own_signals(forest, change.step.node(), change.slot, slot)?;
         if let Some(around) = change.step.around(change.left) {
             let step = change.step;
             self.add_bare(forest, step, around, &mut signals)?;

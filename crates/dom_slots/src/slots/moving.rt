@@ -35,10 +35,13 @@ impl Slots {
         node: Key,
         moves: bool,
         was: Option<Key>,
+        slot: Option<Key>,
     ) -> Result<SmallVec<Key, 2>, AllocError>
         requires hosts { HostsAreNodes forest.now.names self.old.hosts }
         requires node { IsNode forest.now node }
         requires slot { ForSome was (IsNode forest.now) }
+        requires own { option_map (name_of forest.now) slot ≡ slot_at (shadows forest.now self.old.hosts) (name_of forest.now node) }
+        requires own_node { ForSome slot (IsNode forest.now) }
         requires single { (k : ℕ) → was ≡ Some k → IsSingle (list_of self.old.table k) }
         ensures hosts { IfOk result (λ keys. self.new.hosts ≡ self.old.hosts) }
         ensures renewed { (p : Name → Truth) (step : Step) → step_node step ≡ node → is_move step ≡ moves →
@@ -47,11 +50,10 @@ impl Slots {
             (filter p (own_slots forest.now self.old.hosts was step)) self.new.table keys.items) }
     {
         forest.law_nodes_stand_once();
-        let slot = self.slot_now(forest, node);
         let mut signals = SmallVec::new(self.alloc);
         if slot == was {
             if moves {
-                return self.own_signals(forest, node, was);
+                return self.own_signals(forest, node, was, slot);
             }
             return Ok(signals);
         }

@@ -1,6 +1,6 @@
 //! Steps that are begun and ended, and the slots that they signal.
 ghost use Rattle.std.specs.Prelude.{◌≡◌, ◌≢◌, [], true, false, Bool as Truth, map, filter, All, OnOk, IfOk};
-ghost use Rattle.std.specs.Option.{ForSome};
+ghost use Rattle.std.specs.Option.{option_map, ForSome};
 ghost use Rattle.dom_base.specs.declared.NodeName.{NodeName as Name};
 ghost use Rattle.dom_model.specs.Tree.{Trees};
 ghost use Rattle.dom_tree.specs.Forest.{IsNode, name_of};
@@ -8,13 +8,14 @@ ghost use Rattle.dom_slots.specs.Hosts.{HostsAreNodes};
 ghost use Rattle.dom_slots.specs.Insides.{own_slots, IsMoved};
 ghost use Rattle.dom_slots.specs.Kept.{AreSlotsOf, IsBegun, IsEndOf};
 ghost use Rattle.dom_slots.specs.Renewals.{AreRenewed};
-ghost use Rattle.dom_slots.specs.Shadows.{shadows, shadow_trees};
+ghost use Rattle.dom_slots.specs.Shadows.{shadows, shadow_trees, slot_at};
 ghost use Rattle.dom_slots.specs.Steps.{StepHasNodes, step_node, step_signals};
 ghost use Rattle.dom_slots.specs.Tables.{SlotTable, IsTableOf};
 ghost use Rattle.dom_slots.specs.declared.step.Step.{Step as StepOf};
 
 use super::bare::Moved;
 use crate::Slots;
+use crate::key_lists::KeyLists;
 use crate::marks::Marks;
 use crate::step::{SlotChange, Step};
 use dom_tree::Forest;
@@ -50,11 +51,13 @@ impl Slots {
     /// slot change). Up to two of them take no memory. A value to which memory was refused is only dropped. Where there is no host
     /// this costs one look. A step whose node is no slot, and has no child where it is moved, costs no way up to a root. Any other
     /// one costs those from the parents that its node left and has now, and where one of them stands in a shadow tree a walk
-    /// through what is moved, unless it is known that the tree that it left has no slot. Where the parent is a host, its shadow
-    /// tree is walked up to the first slot that its node looks for; where that slot is another one than before, the list of the old
-    /// one is read, and of the siblings behind the node those up to the first that has the new one. Only where what is moved holds
-    /// a slot, or a slot's attributes change, the trees that were left and reached are walked, each once, and where they have such
-    /// a slot the children of their hosts are read once.
+    /// through what is moved, unless it is known that the tree that it left has no slot. Where the parent is a host, sixteen nodes of
+    /// its shadow tree are looked at, then up to sixteen slots that are remembered for that tree, and then all nodes up to the first
+    /// slot that its node looks for, and once all nodes to find out whether that slot may be remembered. A slot is remembered that
+    /// alone has its name, until the tree gets a slot or a slot of it has an attribute changed. Where the slot is another one than
+    /// before, the list of the old one is read, and of the siblings behind the node those up to the first that has the new one.
+    /// Only where what is moved holds a slot, or a slot's attributes change, the trees that were left and reached are walked, each
+    /// once, and where they have such a slot the children of their hosts are read once.
     pub fn end(
         &mut self,
         forest: &Forest,
@@ -73,10 +76,15 @@ impl Slots {
             return Ok(SmallVec::new(self.alloc));
         }
         let mut bare = mem::replace(&mut self.bare, Marks::new(self.alloc));
+        let mut alone = mem::replace(&mut self.alone, KeyLists::new(self.alloc));
         let kept = change;
+        let done = change;
         let moved = self.follow(&mut bare, forest, kept)?;
-        let signals = self.step_signals(forest, change, moved)?;
+        self.forget_reached(&mut alone, forest, done, &moved);
+        let slot = self.slot_found(&mut alone, forest, change.step.node())?;
+        let signals = self.step_signals(forest, change, moved, slot)?;
         self.bare = bare;
+        self.alone = alone;
         Ok(signals)
     }
 
@@ -86,9 +94,12 @@ impl Slots {
         forest: &Forest,
         change: SlotChange,
         moved: Moved,
+        slot: Option<Key>,
     ) -> Result<SmallVec<Key, 2>, AllocError>
         requires ended { (was : Trees) × IsEndOf was forest.now self.old change }
         requires moved { IsMoved forest.now self.old.hosts change moved }
+        requires own { option_map (name_of forest.now) slot ≡ slot_at (shadows forest.now self.old.hosts) (name_of forest.now (step_node change.step)) }
+        requires own_node { ForSome slot (IsNode forest.now) }
         ensures value { (was : Trees) → IsEndOf was forest.now self.old change →
             IfOk result (λ keys. map (name_of forest.now) keys.items ≡ step_signals forest.now.names
             (shadow_trees forest.now.names was self.old.hosts) (shadows forest.now self.old.hosts) change.step change.left) }
@@ -100,9 +111,9 @@ impl Slots {
         let node = change.step.node();
         let moves = change.step.is_move();
         match moved {
-            Moved::NoSlot => self.still_signals(forest, change),
-            Moved::Apart => self.moved_signals(forest, node, moves, change.slot),
-            Moved::Slots(slots) => self.stirred_signals(forest, change, &slots),
+            Moved::NoSlot => self.still_signals(forest, change, slot),
+            Moved::Apart => self.moved_signals(forest, node, moves, change.slot, slot),
+            Moved::Slots(slots) => self.stirred_signals(forest, change, &slots, slot),
         }
     }
 
@@ -121,10 +132,13 @@ impl Slots {
         forest: &Forest,
         node: Key,
         was: Option<Key>,
+        slot: Option<Key>,
     ) -> Result<SmallVec<Key, 2>, AllocError>
         requires hosts { HostsAreNodes forest.now.names self.old.hosts }
         requires node { IsNode forest.now node }
         requires slot { ForSome was (IsNode forest.now) }
+        requires own { option_map (name_of forest.now) slot ≡ slot_at (shadows forest.now self.old.hosts) (name_of forest.now node) }
+        requires own_node { ForSome slot (IsNode forest.now) }
         ensures hosts { IfOk result (λ keys. self.new.hosts ≡ self.old.hosts) }
         ensures renewed { (p : Name → Truth) (old : SlotTable) (step : StepOf) → step_node step ≡ node →
             AreRenewed forest.now self.old.hosts p old [] [] self.old.table [] →
@@ -132,7 +146,6 @@ impl Slots {
             (filter p (own_slots forest.now self.old.hosts was step)) self.new.table keys.items) }
     {
         forest.law_nodes_stand_once();
-        let slot = self.slot_now(forest, node);
         let mut signals = SmallVec::new(self.alloc);
         self.renew(forest, was.as_slice(), &mut signals)?;
         self.renew(forest, slot.as_slice(), &mut signals)?;

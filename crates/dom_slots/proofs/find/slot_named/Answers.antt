@@ -1,12 +1,8 @@
-use Rattle.dom_base.proofs.Std.{Bool, Some, refl, sym, ap, ◌∙◌, filter, option_map}
-use Rattle.dom_model.proofs.Model.{NodeName, first_of, has_slot_name, node_in}
-use Rattle.dom_tree.specs.Definitions.{name_at}
-use Rattle.dom_laws.specs.Within.{from_node}
+use Rattle.dom_base.proofs.Std.{Some, refl, sym, ap, ◌∙◌, filter}
+use Rattle.dom_model.proofs.Model.{first_of, has_slot_name, node_in}
 use Rattle.dom_tree.proofs.Standing.{Once-forest}
 use Rattle.dom_tree.proofs.Searching.{left-behind}
-use Rattle.dom_laws.proofs.Laws.{first-hit}
-use Rattle.dom_slots.proofs.NamesOfNodes.{named-first}
-use Rattle.dom_slots.proofs.Walks.{from-top, stands-top, walks-on}
+use Rattle.dom_slots.proofs.Walks.{from-top, stands-top, walks-on, finds-here, finds-none}
 use Rattle.dom_slots.proofs.find.slot_named.Goals as goal
 
 pub loop-at-init : goal.loop-at-init
@@ -36,17 +32,11 @@ loop-at-preserved c =
 
 pub returns-then-has_name-clause-value : goal.returns-then-has_name-clause-value
 returns-then-has_name-clause-value c =
-    let f = c.args.forest.now in
     let e = c.law_nodes_stand_once.ensures in
-    let test : NodeName → Bool = λ y. has_slot_name c.args.name.now (node_in f.trees y) in
-    sym (first-hit test (name_at f.names c.in-Some.key) _ (sym c.if-has_name.ensures))
-    ∙ (ap (λ o. first_of (filter test (from_node f.trees (name_at f.names c.args.top) (option_map (name_at f.names) o)))) (sym c.in-Some.is)
-    ∙ (c.loop-at.invariant.left ∙ sym (named-first f.trees (Once-forest f e.once e.only) (has_slot_name c.args.name.now) (name_at f.names c.args.top))))
+    finds-here c.args.forest.now (Once-forest c.args.forest.now e.once e.only) c.args.top c.args.name.now c.loop-at.invariant.left c.in-Some.is
+    (sym c.if-has_name.ensures)
 
 pub returns-clause-value : goal.returns-clause-value
 returns-clause-value c =
-    let f = c.args.forest.now in
     let e = c.law_nodes_stand_once.ensures in
-    let test : NodeName → Bool = λ y. has_slot_name c.args.name.now (node_in f.trees y) in
-    ap (λ o. first_of (filter test (from_node f.trees (name_at f.names c.args.top) (option_map (name_at f.names) o)))) (sym c.in_default.is)
-    ∙ (c.loop-at.invariant.left ∙ sym (named-first f.trees (Once-forest f e.once e.only) (has_slot_name c.args.name.now) (name_at f.names c.args.top)))
+    finds-none c.args.forest.now (Once-forest c.args.forest.now e.once e.only) c.args.top c.args.name.now c.loop-at.invariant.left c.in_default.is

@@ -1,7 +1,8 @@
 use Rattle.dom_base.proofs.Std.{◌≡◌, ◌<◌, ◌++◌, ◌∷◌, [], List, Some, length, ap, sym, subst, ◌∙◌, arith, nat_eq, if◌then◌else◌, map-append, common_steps}
 use Rattle.dom_slots.specs.declared.slots.Attached.{Attached}
-use Rattle.dom_slots.specs.Definitions.{ShadowHost, HostsAreNodes, host_of_root, root_of_host, IsTableOf, SlotsNow, AreBare, is_marked, host_in, hosts_in}
-use Rattle.dom_model.proofs.Model.{NodeName}
+use Rattle.dom_slots.specs.Definitions.{ShadowHost, HostsAreNodes, host_of_root, root_of_host, IsTableOf, SlotsNow, AreBare, AreAlone, is_marked, host_in}
+use Rattle.dom_slots.specs.Definitions.{hosts_in, list_of, table_in}
+use Rattle.dom_model.proofs.Model.{NodeName, is_in}
 use Rattle.dom_tree.specs.Definitions.{name_at}
 use Rattle.dom_tree.proofs.Standing.{Once-forest, Has-forest}
 use Rattle.dom_slots.proofs.Kept.{found-more}
@@ -71,4 +72,7 @@ returns-clause-slots c =
             slots = λ k within. none-at f.trees once (name_at f.names c.args.root) bare (name_at f.names k) (Has-forest f stands.once k within);
           } (λ r e. let was = slots.bare r (ap (λ (s : SlotsNow). is_marked s.bare r) (sym c.self.view_is) ∙ e) in
           record { hosted = some_host h old.hosts; node = was.node; slots = was.slots }));
+      alone = subst (λ hs. AreAlone f hs (table_in c.self.inside.alone.rows.items)) hosts_are
+          (λ r a e. let was = slots.alone r a (ap (λ (s : SlotsNow). is_in nat_eq a (list_of s.alone r)) (sym c.self.view_is) ∙ e) in
+          record { hosted = some_host h old.hosts; root = was.root; node = was.node; slots = was.slots });
     }

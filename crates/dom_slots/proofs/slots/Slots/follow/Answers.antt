@@ -1,18 +1,10 @@
-use Rattle.dom_base.proofs.Std.{◌≡◌, Bool, true, false, List, sym, ap, subst, ◌∙◌, true≢false, nat_eq, if◌then◌else◌}
+use Rattle.dom_base.proofs.Std.{true, false, List, Bool, sym, ap, subst, ◌∙◌, nat_eq, if◌then◌else◌}
 use Rattle.dom_model.proofs.Model.{root_of}
-use Rattle.dom_tree.specs.Definitions.{NamedTrees, name_at}
-use Rattle.dom_slots.specs.Definitions.{AreBare, is_marked, IsMoved, is_nothing, MovesNone, ShadowHost, StandsOnce, step_node}
-use Rattle.dom_slots.specs.declared.slots.bare.Moved.{Moved}
-use Rattle.dom_slots.specs.declared.slots.bare.Moved.TheVariants.{NoSlot, Apart, Slots}
-use Rattle.dom_slots.specs.declared.step.SlotChange.{SlotChange}
+use Rattle.dom_tree.specs.Definitions.{name_at}
+use Rattle.dom_slots.specs.Definitions.{AreBare, is_marked, StandsOnce, step_node}
+use Rattle.dom_slots.proofs.Alone.{none_known}
 use Rattle.dom_slots.proofs.Bare.{light-none, bare-still, bare-unmoved, bare-marked, bare-spoiled}
 use Rattle.dom_slots.proofs.slots.Slots.follow.Goals as goal
-
--- where it is known that no slot was moved, none was
-none_known : (f : NamedTrees) (hosts : List ShadowHost) (b : SlotChange) (m : Moved) → is_nothing m ≡ true → IsMoved f hosts b m → MovesNone f hosts b.step
-none_known f hosts b NoSlot e none = none
-none_known f hosts b Apart e is = absurd (true≢false (sym e))
-none_known f hosts b (Slots v) e is = absurd (true≢false (sym e))
 
 pub returns-then-is_light-clause-moved : goal.returns-then-is_light-clause-moved
 returns-then-is_light-clause-moved c =

@@ -27,6 +27,6 @@ returns-clause-renewed c =
     let own : a ++ b ≡ option_to_list (option_map name c.args.was) ++ option_to_list (slot_at (shadows f hosts) (name (step_node step))) =
     ap (λ xs. xs ++ b) (ap (map name) (listed c.args.was c.as_slice.result.now c.as_slice.ensures) ∙ listed-named f.names c.args.was)
     ∙ ap (λ xs. option_to_list (option_map name c.args.was) ++ xs)
-    (ap (map name) (listed c.slot_now-slot.result c.as_slice-2.result.now c.as_slice-2.ensures) ∙ (listed-named f.names c.slot_now-slot.result
-    ∙ (ap option_to_list c.slot_now-slot.ensures.value ∙ ap (λ k. option_to_list (slot_at (shadows f hosts) (name k))) (sym is)))) in
+    (ap (map name) (listed c.args.slot c.as_slice-2.result.now c.as_slice-2.ensures) ∙ (listed-named f.names c.args.slot
+    ∙ (ap option_to_list c.requires.own ∙ ap (λ k. option_to_list (slot_at (shadows f hosts) (name k))) (sym is)))) in
     subst (λ xs. AreRenewed f hosts p old xs (filter p xs) table keys) own both

@@ -2,7 +2,7 @@ use Rattle.dom_base.proofs.Std.{◌≡◌, ◌<◌, true, All, length, filter, m
 use Rattle.dom_model.proofs.Model.{Trees}
 use Rattle.dom_tree.specs.Definitions.{NamedTrees, name_at}
 use Rattle.dom_slots.specs.Definitions.{SlotsNow, StandsOnce, IsEndOf, own_slots, IsInside, IsMoved, MovesNone, AreRenewed, shadows, shadow_trees}
-use Rattle.dom_slots.specs.Definitions.{is_changed_at, step_node, is_apart, IsTableOf}
+use Rattle.dom_slots.specs.Definitions.{slot_at, is_changed_at, step_node, is_apart, IsTableOf}
 use Rattle.dom_slots.proofs.Apart.{apart-but-for, apart-table, apart-keys}
 use Rattle.dom_slots.proofs.Ended.{listed-single, none-renewed}
 use Rattle.dom_slots.proofs.Inside.{inside-but-for, inside-table, inside-keys, inside-nodes}
@@ -75,6 +75,10 @@ module _ (c : After-moved_signals) where
       c.moved_signals.ensures.renewed (is_changed_at (shadow_trees f.names was s.hosts) (shadows f s.hosts)) c.args.change.step
       (sym c.node-node.ensures) (sym c.is_move-moves.ensures)
       (apart-but-for was f s c.args.change h stands apart c.law_nodes_stand_once.ensures.distinct) (none-renewed was f s c.args.change h stands)
+
+pub moved_signals-requires-clause-own : goal.moved_signals-requires-clause-own
+moved_signals-requires-clause-own c = c.requires.own ∙
+    ap (λ k. slot_at (shadows c.args.forest.now c.args.self.now.hosts) (name_at c.args.forest.now.names k)) (sym c.node-node.ensures)
 
 pub moved_signals-requires-clause-single : goal.moved_signals-requires-clause-single
 moved_signals-requires-clause-single c = listed-single c.requires.ended.1

@@ -1,8 +1,12 @@
 use Rattle.dom_base.proofs.Std.{◌≡◌, ◌++◌, filter, sym, ap, subst, ◌∙◌, same_Some, none-some}
 use Rattle.dom_tree.specs.Definitions.{name_at}
-use Rattle.dom_slots.specs.Definitions.{own_slots, bare_around, MayMove, IsInside, SlotsNow, AreRenewed}
+use Rattle.dom_slots.specs.Definitions.{own_slots, bare_around, MayMove, IsInside, SlotsNow, AreRenewed, shadows, slot_at}
 use Rattle.dom_slots.proofs.slots.Slots.stirred_signals.Goals as goal
 use Rattle.dom_slots.proofs.slots.Slots.stirred_signals.Goals.{in-Some+in_ok-add_bare+in_ok-renew_moved, in_default}
+
+pub own_signals-requires-clause-own : goal.own_signals-requires-clause-own
+own_signals-requires-clause-own c = c.requires.own ∙
+    ap (λ k. slot_at (shadows c.args.forest.now c.args.self.now.hosts) (name_at c.args.forest.now.names k)) (sym c.node.ensures)
 
 pub returns-clause-renewed : goal.returns-clause-renewed
 returns-clause-renewed c =
