@@ -29,7 +29,8 @@ fn ended(command: Command, words: &WordReader) -> Result<Command, NotRead>
     Ok(command)
 }
 
-/// The command that begins with the keyword and goes on with the words.
+/// The command that begins with the keyword and goes on with the words. Each group of commands is read out of line, so that a command is
+/// put where the caller wants it, and not gathered from all groups.
 fn command_behind(
     alloc: Global,
     keyword: Keyword,

@@ -1,12 +1,11 @@
 //! The words with which commands begin: by what the commands are about, and sought among those with the same first byte.
 
-ghost use Rattle.std.specs.Prelude.{◌≡◌, bytes_eq, find, map, option_map};
+ghost use Rattle.std.specs.Prelude.{◌≡◌, option_map};
 ghost use Rattle.dom_text.specs.Commands.{keyword_word};
 ghost use Rattle.dom_text.specs.Decode.{keyword_of as spec_keyword_of};
-ghost use Rattle.dom_reader.specs.Keywords.{keywords_with, spelled};
+ghost use Rattle.dom_text.specs.Readers.{named};
+ghost use Rattle.dom_reader.specs.Keywords.{keyword_with, range_words, re_words};
 ghost use Rattle.dom_reader.specs.Views.{keyword_view};
-
-use dom_base::is_same;
 
 /// What makes nodes, and shadow roots.
 #[derive(Clone, Copy)]
@@ -115,135 +114,256 @@ pub enum Keyword {
     Observer(ObserverWord),
 }
 
-const WITH_DOT: [(&str, Keyword); 1] = [(".", Keyword::Event(EventWord::End))];
-
-const WITH_A: [(&str, Keyword); 5] = [
-    ("attach", Keyword::Making(MakingWord::Attach)),
-    ("append", Keyword::Tree(TreeWord::Append)),
-    ("adopt", Keyword::Tree(TreeWord::Adopt)),
-    ("attr", Keyword::Question(QuestionWord::Attr)),
-    ("assigned", Keyword::Question(QuestionWord::Assigned)),
-];
-
-const WITH_C: [(&str, Keyword); 3] = [
-    ("children", Keyword::Question(QuestionWord::Children)),
-    ("contains", Keyword::Question(QuestionWord::Contains)),
-    ("connected", Keyword::Question(QuestionWord::Connected)),
-];
-
-const WITH_D: [(&str, Keyword); 6] = [
-    ("document", Keyword::Making(MakingWord::Document)),
-    ("data", Keyword::Content(ContentWord::Data)),
-    ("docof", Keyword::Question(QuestionWord::Docof)),
-    ("delete", Keyword::Range(RangeWord::Delete)),
-    ("dispatch", Keyword::Event(EventWord::Dispatch)),
-    ("disconnect", Keyword::Observer(ObserverWord::Disconnect)),
-];
-
-const WITH_E: [(&str, Keyword); 1] = [("extract", Keyword::Range(RangeWord::Extract))];
-
-const WITH_I: [(&str, Keyword); 6] = [
-    ("insert", Keyword::Tree(TreeWord::Insert)),
-    ("insert-node", Keyword::Range(RangeWord::InsertNode)),
-    ("iter-new", Keyword::Cursor(CursorWord::IterNew)),
-    ("iter-next", Keyword::Cursor(CursorWord::IterNext)),
-    ("iter-prev", Keyword::Cursor(CursorWord::IterPrev)),
-    ("iter-at", Keyword::Cursor(CursorWord::IterAt)),
-];
-
-const WITH_L: [(&str, Keyword); 1] = [("listen", Keyword::Event(EventWord::Listen))];
-
-const WITH_M: [(&str, Keyword); 2] = [
-    ("matches", Keyword::Question(QuestionWord::Matches)),
-    ("micro", Keyword::Event(EventWord::Micro)),
-];
-
-const WITH_N: [(&str, Keyword); 2] = [
-    ("new", Keyword::Making(MakingWord::New)),
-    ("normalize", Keyword::Tree(TreeWord::Normalize)),
-];
-
-const WITH_O: [(&str, Keyword); 2] = [
-    ("observer", Keyword::Observer(ObserverWord::Observer)),
-    ("observe", Keyword::Observer(ObserverWord::Observe)),
-];
-
-const WITH_P: [(&str, Keyword); 1] = [("parent", Keyword::Question(QuestionWord::Parent))];
-
-const WITH_Q: [(&str, Keyword); 1] = [("query", Keyword::Question(QuestionWord::Query))];
-
-const WITH_R: [(&str, Keyword); 10] = [
-    ("replace", Keyword::Tree(TreeWord::Replace)),
-    ("remove", Keyword::Tree(TreeWord::Remove)),
-    ("replace-data", Keyword::Content(ContentWord::ReplaceData)),
-    ("range-new", Keyword::Range(RangeWord::New)),
-    ("range-start", Keyword::Range(RangeWord::Start)),
-    ("range-end", Keyword::Range(RangeWord::End)),
-    ("range-collapse", Keyword::Range(RangeWord::Collapse)),
-    ("range-drop", Keyword::Range(RangeWord::Drop)),
-    ("range-get", Keyword::Range(RangeWord::Get)),
-    ("range-text", Keyword::Range(RangeWord::Text)),
-];
-
-const WITH_S: [(&str, Keyword); 4] = [
-    ("set", Keyword::Content(ContentWord::Set)),
-    ("split", Keyword::Content(ContentWord::Split)),
-    ("shadow-root", Keyword::Question(QuestionWord::ShadowRoot)),
-    ("slot-of", Keyword::Question(QuestionWord::SlotOf)),
-];
-
-const WITH_T: [(&str, Keyword); 3] = [
-    ("text", Keyword::Content(ContentWord::Text)),
-    ("tree", Keyword::Question(QuestionWord::Tree)),
-    ("take", Keyword::Observer(ObserverWord::Take)),
-];
-
-const WITH_U: [(&str, Keyword); 2] = [
-    ("unset", Keyword::Content(ContentWord::Unset)),
-    ("unlisten", Keyword::Event(EventWord::Unlisten)),
-];
-
-const WITH_W: [(&str, Keyword); 4] = [
-    ("walk-new", Keyword::Cursor(CursorWord::WalkNew)),
-    ("walk", Keyword::Cursor(CursorWord::Walk)),
-    ("walk-at", Keyword::Cursor(CursorWord::WalkAt)),
-    ("walk-set", Keyword::Cursor(CursorWord::WalkSet)),
-];
-
-/// The commands' words that begin with this byte.
-fn beginning_with(first: u8) -> &'static [(&'static str, Keyword)]
-    ensures { map (λ x. (x.0.now, keyword_view x.1)) result.now ≡ map spelled (keywords_with first) }
+/// The command's word with `.` in front that this is.
+fn with_dot(word: &[u8]) -> Option<Keyword>
+    ensures { option_map keyword_view result ≡ keyword_with 46 word.now }
 {
-    match first {
-        b'.' => &WITH_DOT,
-        b'a' => &WITH_A,
-        b'c' => &WITH_C,
-        b'd' => &WITH_D,
-        b'e' => &WITH_E,
-        b'i' => &WITH_I,
-        b'l' => &WITH_L,
-        b'm' => &WITH_M,
-        b'n' => &WITH_N,
-        b'o' => &WITH_O,
-        b'p' => &WITH_P,
-        b'q' => &WITH_Q,
-        b'r' => &WITH_R,
-        b's' => &WITH_S,
-        b't' => &WITH_T,
-        b'u' => &WITH_U,
-        b'w' => &WITH_W,
-        _ => &[],
+    match word {
+        b"." => Some(Keyword::Event(EventWord::End)),
+        _ => None,
     }
 }
 
-/// The first of these words that the word is.
-fn among(keywords: &[(&'static str, Keyword)], word: &[u8]) -> Option<(&'static str, Keyword)>
-    ensures { result ≡ find (λ x. bytes_eq x.0.now word.now) keywords.now }
+/// The command's word with `a` in front that this is.
+fn with_a(word: &[u8]) -> Option<Keyword>
+    ensures { option_map keyword_view result ≡ keyword_with 97 word.now }
 {
-    keywords
-        .iter()
-        .copied()
-        .find(|(text, _)| is_same(text.as_bytes(), word))
+    match word {
+        b"attach" => Some(Keyword::Making(MakingWord::Attach)),
+        b"append" => Some(Keyword::Tree(TreeWord::Append)),
+        b"adopt" => Some(Keyword::Tree(TreeWord::Adopt)),
+        b"attr" => Some(Keyword::Question(QuestionWord::Attr)),
+        b"assigned" => Some(Keyword::Question(QuestionWord::Assigned)),
+        _ => None,
+    }
+}
+
+/// The command's word with `c` in front that this is.
+fn with_c(word: &[u8]) -> Option<Keyword>
+    ensures { option_map keyword_view result ≡ keyword_with 99 word.now }
+{
+    match word {
+        b"children" => Some(Keyword::Question(QuestionWord::Children)),
+        b"contains" => Some(Keyword::Question(QuestionWord::Contains)),
+        b"connected" => Some(Keyword::Question(QuestionWord::Connected)),
+        _ => None,
+    }
+}
+
+/// The command's word with `d` in front that this is.
+fn with_d(word: &[u8]) -> Option<Keyword>
+    ensures { option_map keyword_view result ≡ keyword_with 100 word.now }
+{
+    match word {
+        b"document" => Some(Keyword::Making(MakingWord::Document)),
+        b"data" => Some(Keyword::Content(ContentWord::Data)),
+        b"docof" => Some(Keyword::Question(QuestionWord::Docof)),
+        b"delete" => Some(Keyword::Range(RangeWord::Delete)),
+        b"dispatch" => Some(Keyword::Event(EventWord::Dispatch)),
+        b"disconnect" => Some(Keyword::Observer(ObserverWord::Disconnect)),
+        _ => None,
+    }
+}
+
+/// The command's word with `e` in front that this is.
+fn with_e(word: &[u8]) -> Option<Keyword>
+    ensures { option_map keyword_view result ≡ keyword_with 101 word.now }
+{
+    match word {
+        b"extract" => Some(Keyword::Range(RangeWord::Extract)),
+        _ => None,
+    }
+}
+
+/// The command's word with `i` in front that this is.
+fn with_i(word: &[u8]) -> Option<Keyword>
+    ensures { option_map keyword_view result ≡ keyword_with 105 word.now }
+{
+    match word {
+        b"insert" => Some(Keyword::Tree(TreeWord::Insert)),
+        b"insert-node" => Some(Keyword::Range(RangeWord::InsertNode)),
+        b"iter-new" => Some(Keyword::Cursor(CursorWord::IterNew)),
+        b"iter-next" => Some(Keyword::Cursor(CursorWord::IterNext)),
+        b"iter-prev" => Some(Keyword::Cursor(CursorWord::IterPrev)),
+        b"iter-at" => Some(Keyword::Cursor(CursorWord::IterAt)),
+        _ => None,
+    }
+}
+
+/// The command's word with `l` in front that this is.
+fn with_l(word: &[u8]) -> Option<Keyword>
+    ensures { option_map keyword_view result ≡ keyword_with 108 word.now }
+{
+    match word {
+        b"listen" => Some(Keyword::Event(EventWord::Listen)),
+        _ => None,
+    }
+}
+
+/// The command's word with `m` in front that this is.
+fn with_m(word: &[u8]) -> Option<Keyword>
+    ensures { option_map keyword_view result ≡ keyword_with 109 word.now }
+{
+    match word {
+        b"matches" => Some(Keyword::Question(QuestionWord::Matches)),
+        b"micro" => Some(Keyword::Event(EventWord::Micro)),
+        _ => None,
+    }
+}
+
+/// The command's word with `n` in front that this is.
+fn with_n(word: &[u8]) -> Option<Keyword>
+    ensures { option_map keyword_view result ≡ keyword_with 110 word.now }
+{
+    match word {
+        b"new" => Some(Keyword::Making(MakingWord::New)),
+        b"normalize" => Some(Keyword::Tree(TreeWord::Normalize)),
+        _ => None,
+    }
+}
+
+/// The command's word with `o` in front that this is.
+fn with_o(word: &[u8]) -> Option<Keyword>
+    ensures { option_map keyword_view result ≡ keyword_with 111 word.now }
+{
+    match word {
+        b"observer" => Some(Keyword::Observer(ObserverWord::Observer)),
+        b"observe" => Some(Keyword::Observer(ObserverWord::Observe)),
+        _ => None,
+    }
+}
+
+/// The command's word with `p` in front that this is.
+fn with_p(word: &[u8]) -> Option<Keyword>
+    ensures { option_map keyword_view result ≡ keyword_with 112 word.now }
+{
+    match word {
+        b"parent" => Some(Keyword::Question(QuestionWord::Parent)),
+        _ => None,
+    }
+}
+
+/// The command's word with `q` in front that this is.
+fn with_q(word: &[u8]) -> Option<Keyword>
+    ensures { option_map keyword_view result ≡ keyword_with 113 word.now }
+{
+    match word {
+        b"query" => Some(Keyword::Question(QuestionWord::Query)),
+        _ => None,
+    }
+}
+
+/// The word of a command on ranges with `range-` in front that this is.
+fn with_range(word: &[u8]) -> Option<Keyword>
+    ensures { option_map keyword_view result ≡ named keyword_word range_words word.now }
+{
+    match word {
+        b"range-new" => Some(Keyword::Range(RangeWord::New)),
+        b"range-start" => Some(Keyword::Range(RangeWord::Start)),
+        b"range-end" => Some(Keyword::Range(RangeWord::End)),
+        b"range-collapse" => Some(Keyword::Range(RangeWord::Collapse)),
+        b"range-drop" => Some(Keyword::Range(RangeWord::Drop)),
+        b"range-get" => Some(Keyword::Range(RangeWord::Get)),
+        b"range-text" => Some(Keyword::Range(RangeWord::Text)),
+        _ => None,
+    }
+}
+
+/// The command's word with `re` in front that this is.
+fn with_re(word: &[u8]) -> Option<Keyword>
+    ensures { option_map keyword_view result ≡ named keyword_word re_words word.now }
+{
+    match word {
+        b"replace" => Some(Keyword::Tree(TreeWord::Replace)),
+        b"remove" => Some(Keyword::Tree(TreeWord::Remove)),
+        b"replace-data" => Some(Keyword::Content(ContentWord::ReplaceData)),
+        _ => None,
+    }
+}
+
+/// The command's word with `r` in front that this is.
+fn with_r(word: &[u8]) -> Option<Keyword>
+    ensures { option_map keyword_view result ≡ keyword_with 114 word.now }
+{
+    match with_re(word) {
+        Some(keyword) => Some(keyword),
+        None => with_range(word),
+    }
+}
+
+/// The command's word with `s` in front that this is.
+fn with_s(word: &[u8]) -> Option<Keyword>
+    ensures { option_map keyword_view result ≡ keyword_with 115 word.now }
+{
+    match word {
+        b"set" => Some(Keyword::Content(ContentWord::Set)),
+        b"split" => Some(Keyword::Content(ContentWord::Split)),
+        b"shadow-root" => Some(Keyword::Question(QuestionWord::ShadowRoot)),
+        b"slot-of" => Some(Keyword::Question(QuestionWord::SlotOf)),
+        _ => None,
+    }
+}
+
+/// The command's word with `t` in front that this is.
+fn with_t(word: &[u8]) -> Option<Keyword>
+    ensures { option_map keyword_view result ≡ keyword_with 116 word.now }
+{
+    match word {
+        b"text" => Some(Keyword::Content(ContentWord::Text)),
+        b"tree" => Some(Keyword::Question(QuestionWord::Tree)),
+        b"take" => Some(Keyword::Observer(ObserverWord::Take)),
+        _ => None,
+    }
+}
+
+/// The command's word with `u` in front that this is.
+fn with_u(word: &[u8]) -> Option<Keyword>
+    ensures { option_map keyword_view result ≡ keyword_with 117 word.now }
+{
+    match word {
+        b"unset" => Some(Keyword::Content(ContentWord::Unset)),
+        b"unlisten" => Some(Keyword::Event(EventWord::Unlisten)),
+        _ => None,
+    }
+}
+
+/// The command's word with `w` in front that this is.
+fn with_w(word: &[u8]) -> Option<Keyword>
+    ensures { option_map keyword_view result ≡ keyword_with 119 word.now }
+{
+    match word {
+        b"walk-new" => Some(Keyword::Cursor(CursorWord::WalkNew)),
+        b"walk" => Some(Keyword::Cursor(CursorWord::Walk)),
+        b"walk-at" => Some(Keyword::Cursor(CursorWord::WalkAt)),
+        b"walk-set" => Some(Keyword::Cursor(CursorWord::WalkSet)),
+        _ => None,
+    }
+}
+
+/// The command's word that this is, of those with its first byte.
+fn beginning_with(first: u8, word: &[u8]) -> Option<Keyword>
+    ensures { option_map keyword_view result ≡ keyword_with first word.now }
+{
+    match first {
+        b'.' => with_dot(word),
+        b'a' => with_a(word),
+        b'c' => with_c(word),
+        b'd' => with_d(word),
+        b'e' => with_e(word),
+        b'i' => with_i(word),
+        b'l' => with_l(word),
+        b'm' => with_m(word),
+        b'n' => with_n(word),
+        b'o' => with_o(word),
+        b'p' => with_p(word),
+        b'q' => with_q(word),
+        b'r' => with_r(word),
+        b's' => with_s(word),
+        b't' => with_t(word),
+        b'u' => with_u(word),
+        b'w' => with_w(word),
+        _ => None,
+    }
 }
 
 /// The command's word that these bytes are.
@@ -252,9 +372,6 @@ pub fn keyword_of(word: &[u8]) -> Option<Keyword>
 {
     match word {
         [] => None,
-        [first, ..] => match among(beginning_with(*first), word) {
-            Some((_, keyword)) => Some(keyword),
-            None => None,
-        },
+        [first, ..] => beginning_with(*first, word),
     }
 }

@@ -49,6 +49,7 @@ fn walker_new(alloc: Global, owner: &Owner, words: &mut WordReader) -> Result<Co
 }
 
 /// The range's command that goes on with the words.
+#[inline(never)]
 pub fn range_command(
     word: RangeWord,
     owner: &Owner,
@@ -91,6 +92,7 @@ pub fn range_command(
 }
 
 /// The iterator's or walker's command that goes on with the words.
+#[inline(never)]
 pub fn cursor_command(
     alloc: Global,
     word: CursorWord,

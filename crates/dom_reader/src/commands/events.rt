@@ -83,6 +83,7 @@ fn observe(alloc: Global, owner: &Owner, words: &mut WordReader) -> Result<Comma
 }
 
 /// The command of listeners, events, microtasks or turns that goes on with the words.
+#[inline(never)]
 pub fn event_command(
     alloc: Global,
     word: EventWord,
@@ -101,6 +102,7 @@ pub fn event_command(
 }
 
 /// The observer's command that goes on with the words.
+#[inline(never)]
 pub fn observer_command(
     alloc: Global,
     word: ObserverWord,

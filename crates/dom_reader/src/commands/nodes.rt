@@ -57,6 +57,7 @@ fn assigned(owner: &Owner, words: &mut WordReader) -> Result<Command, NotRead>
 }
 
 /// The command that makes, and goes on with the words.
+#[inline(never)]
 pub fn making_command(
     alloc: Global,
     word: MakingWord,
@@ -73,6 +74,7 @@ pub fn making_command(
 }
 
 /// The command that changes where nodes stand, and goes on with the words.
+#[inline(never)]
 pub fn tree_command(
     word: TreeWord,
     owner: &Owner,
@@ -112,6 +114,7 @@ fn replace_data(alloc: Global, owner: &Owner, words: &mut WordReader) -> Result<
 }
 
 /// The command that changes attributes or data, and goes on with the words.
+#[inline(never)]
 pub fn content_command(
     alloc: Global,
     word: ContentWord,
@@ -170,6 +173,7 @@ fn matches(alloc: Global, owner: &Owner, words: &mut WordReader) -> Result<Comma
 }
 
 /// The command that asks about nodes, and goes on with the words.
+#[inline(never)]
 pub fn question_command(
     alloc: Global,
     word: QuestionWord,
