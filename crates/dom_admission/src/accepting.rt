@@ -10,7 +10,8 @@ use dom_base::{Fault, Owner};
 use dom_printer::{Value, put_reply};
 
 impl State {
-    /// Ends an accepted command: its owner's turn is open, and the reply is put.
+    /// Ends an accepted command: its owner's turn is open, and the reply is put. It is in line, since most lines end with it.
+    #[inline(always)]
     pub fn accept(
         &mut self,
         owner: Owner,

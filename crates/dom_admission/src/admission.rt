@@ -81,7 +81,9 @@ impl Operand {
 }
 
 impl State {
-    /// Lets a line of an owner pass that names these, or says why it is refused before the command's own tests.
+    /// Lets a line of an owner pass that names these, or says why it is refused before the command's own tests. It is in line, so
+    /// that each command makes the tests alone that its names need.
+    #[inline(always)]
     pub fn admit(&self, owner: Owner, named: &[Operand]) -> Result<(), Fault>
         ensures { result ≡ let_pass (early_refusal self.now.world owner named.now) }
     {

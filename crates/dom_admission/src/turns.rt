@@ -19,10 +19,10 @@ impl State {
     }
 
     /// Whether the open turn is another component's.
-    pub fn has_other_turn(&self, owner: Owner) -> bool
-        ensures { result ≡ has_other_turn self.now.world owner }
+    pub fn has_other_turn(&self, owner: &Owner) -> bool
+        ensures { result ≡ has_other_turn self.now.world owner.now }
     {
-        match self.turn {
+        match &self.turn {
             Some(Owner::Component(path)) => !is_component(owner, path),
             _ => false,
         }
@@ -38,11 +38,11 @@ impl State {
 
 /// Whether an owner is the component of this path. It is kept out of line, so that a line in the page's turn takes no owner apart.
 #[inline(never)]
-fn is_component(owner: Owner, path: OwnerPath) -> bool
-    ensures { result ≡ owner_eq (Owner.Component path) owner }
+fn is_component(owner: &Owner, path: &OwnerPath) -> bool
+    ensures { result ≡ owner_eq (Owner.Component path.now) owner.now }
 {
     match owner {
         Owner::Page => false,
-        Owner::Component(other) => path == other,
+        Owner::Component(other) => *path == *other,
     }
 }

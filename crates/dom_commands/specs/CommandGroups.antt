@@ -25,6 +25,28 @@ is_change (Command.set_text x s) = true
 is_change (Command.micro label) = true
 is_change _ = false
 
+-- the commands that ask by nodes and numbers alone
+abbrev pub is_short_question : Command → Bool
+is_short_question (Command.tree x) = true
+is_short_question (Command.parent x) = true
+is_short_question (Command.document_of x) = true
+is_short_question (Command.children x) = true
+is_short_question (Command.contains a x) = true
+is_short_question (Command.connected x) = true
+is_short_question (Command.shadow_root x) = true
+is_short_question (Command.slot_of x) = true
+is_short_question (Command.assigned x) = true
+is_short_question (Command.iterator_next k) = true
+is_short_question (Command.iterator_previous k) = true
+is_short_question (Command.iterator_at k) = true
+is_short_question (Command.walk k step) = true
+is_short_question (Command.walker_at k) = true
+is_short_question (Command.walker_set k x) = true
+is_short_question Command.observer = true
+is_short_question (Command.disconnect k) = true
+is_short_question (Command.take k) = true
+is_short_question _ = false
+
 -- the commands on live ranges
 abbrev pub is_range : Command → Bool
 is_range Command.range_new = true

@@ -28,7 +28,10 @@ impl Machine {
         ensures sound { OnOk result (IsAtRest self.new) }
     {
         match read {
-            Ok(line) => self.command(line.owner, line.command, out),
+            Ok(line) => {
+                let Line { owner, command } = line;
+                self.command(&owner, command, out)
+            }
             Err((owner, _)) => self.no_command(owner, out),
         }
     }
@@ -41,7 +44,7 @@ impl Machine {
         ensures listeners { OnOk result (AreAtNodes self.new) }
     {
         if let Some(owner) = owner {
-            self.close_other_turn(owner, out)?;
+            self.close_other_turn(&owner, out)?;
         }
         put_refusal(out, owner, Refusal::Syntax)
     }
@@ -49,13 +52,13 @@ impl Machine {
     /// A command of an owner: first the ending of another component's turn, and then what it does.
     fn command(
         &mut self,
-        owner: Owner,
+        owner: &Owner,
         command: Command,
         out: &mut Vec<u8>,
     ) -> Result<(), AllocError>
         requires { IsAtRest self.old }
-        ensures text { OnOk result (out.new.items ≡ out.old.items ++ output_text (step self.old.world (model_command owner (command_view command))).1) }
-        ensures world { OnOk result (self.new.world ≡ (step self.old.world (model_command owner (command_view command))).0) }
+        ensures text { OnOk result (out.new.items ≡ out.old.items ++ output_text (step self.old.world (model_command owner.now (command_view command))).1) }
+        ensures world { OnOk result (self.new.world ≡ (step self.old.world (model_command owner.now (command_view command))).0) }
         ensures listeners { OnOk result (AreAtNodes self.new) }
     {
         self.close_other_turn(owner, out)?;
@@ -63,34 +66,34 @@ impl Machine {
     }
 
     /// A command that may be made now: what it does, or its refusal.
-    fn run(&mut self, owner: Owner, command: Command, out: &mut Vec<u8>) -> Result<(), AllocError>
+    fn run(&mut self, owner: &Owner, command: Command, out: &mut Vec<u8>) -> Result<(), AllocError>
         requires sound { IsAtRest self.old }
-        ensures text { OnOk result (out.new.items ≡ out.old.items ++ output_text (run_command owner (command_view command) self.old.world).1) }
-        ensures world { OnOk result (self.new.world ≡ (run_command owner (command_view command) self.old.world).0) }
+        ensures text { OnOk result (out.new.items ≡ out.old.items ++ output_text (run_command owner.now (command_view command) self.old.world).1) }
+        ensures world { OnOk result (self.new.world ≡ (run_command owner.now (command_view command) self.old.world).0) }
         ensures listeners { OnOk result (AreAtNodes self.new) }
     {
         match self.perform(owner, command, out) {
             Ok(()) => Ok(()),
-            Err(Fault::Refused(refusal)) => put_refusal(out, Some(owner), refusal),
+            Err(Fault::Refused(refusal)) => put_refusal(out, Some(*owner), refusal),
             Err(Fault::Memory) => Err(AllocError),
         }
     }
 
     /// A command, by its handler.
-    fn perform(&mut self, owner: Owner, command: Command, out: &mut Vec<u8>) -> Result<(), Fault>
+    fn perform(&mut self, owner: &Owner, command: Command, out: &mut Vec<u8>) -> Result<(), Fault>
         requires sound { IsAtRest self.old }
-        ensures handled { IsHandled owner (command_view command) self.old.world self.new.world out.old.items out.new.items result }
+        ensures handled { IsHandled owner.now (command_view command) self.old.world self.new.world out.old.items out.new.items result }
         ensures listeners { KeepsListeners self.new result }
     {
         match command {
-            Command::Listen(node, words) => self.listen(owner, node, words, out),
+            Command::Listen(node, words) => self.listen(*owner, node, words, out),
             Command::Unlisten(node, event, label, capture) => {
-                self.unlisten(owner, node, &event, &label, capture, out)
+                self.unlisten(*owner, node, &event, &label, capture, out)
             }
             Command::Dispatch(target, event, related) => {
-                self.dispatch(owner, target, event, related, out)
+                self.dispatch(*owner, target, event, related, out)
             }
-            Command::EndTurn => self.end_turn(owner, out),
+            Command::EndTurn => self.end_turn(*owner, out),
             other => self.perform_plain(owner, other, out),
         }
     }
@@ -98,13 +101,13 @@ impl Machine {
     /// A command that neither reads listeners nor changes them: they stay as they are.
     fn perform_plain(
         &mut self,
-        owner: Owner,
+        owner: &Owner,
         command: Command,
         out: &mut Vec<u8>,
     ) -> Result<(), Fault>
         requires plain { is_plain (command_view command) ≡ true }
         requires sound { IsAtRest self.old }
-        ensures handled { IsHandled owner (command_view command) self.old.world self.new.world out.old.items out.new.items result }
+        ensures handled { IsHandled owner.now (command_view command) self.old.world self.new.world out.old.items out.new.items result }
         ensures listeners { KeepsListeners self.new result }
     {
         self.state.law_names_tell_nodes();

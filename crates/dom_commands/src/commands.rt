@@ -3,7 +3,7 @@ ghost use Rattle.std.specs.Prelude.{◌≡◌, true, false};
 ghost use Rattle.dom_reader.specs.Views.{command_view};
 ghost use Rattle.dom_admission.specs.Handled.{IsHandled, KeepsNames};
 ghost use Rattle.dom_commands.specs.RangeWorlds.{HasFirstNodes};
-ghost use Rattle.dom_commands.specs.CommandGroups.{is_plain, is_change};
+ghost use Rattle.dom_commands.specs.CommandGroups.{is_plain, is_change, is_short_question};
 
 use crate::ranging::perform_on_range;
 use dom_admission::State;
@@ -17,13 +17,13 @@ use dom_reader::Command;
 /// A command that neither reads listeners nor changes them, by its handler.
 pub(crate) fn perform(
     state: &mut State,
-    owner: Owner,
+    owner: &Owner,
     command: Command,
     out: &mut Vec<u8>,
 ) -> Result<(), Fault>
     requires plain { is_plain (command_view command) ≡ true }
     requires first { HasFirstNodes state.old.world }
-    ensures handled { IsHandled owner (command_view command) state.old.world state.new.world out.old.items out.new.items result }
+    ensures handled { IsHandled owner.now (command_view command) state.old.world state.new.world out.old.items out.new.items result }
     ensures names { KeepsNames state.old.names state.new.names result }
 {
     match command {
@@ -55,52 +55,74 @@ pub(crate) fn perform(
         Command::Split(node, offset) => data::split(state, owner, node, offset, out),
         Command::SetText(node, text) => data::set_text(state, owner, node, text, out),
         Command::Normalize(node) => data::normalize(state, owner, node, out),
-        Command::Micro(label) => microtasks::micro(state, owner, label, out),
+        Command::Micro(label) => microtasks::micro(state, *owner, label, out),
         other => ask(state, owner, other, out),
     }
 }
 
-/// A command that asks or is on live ranges, by its handler.
-fn ask(state: &mut State, owner: Owner, command: Command, out: &mut Vec<u8>) -> Result<(), Fault>
+/// A command that asks or is on live ranges, by its handler. It is in line, since most of them do little.
+#[inline(always)]
+fn ask(state: &mut State, owner: &Owner, command: Command, out: &mut Vec<u8>) -> Result<(), Fault>
     requires plain { is_plain (command_view command) ≡ true }
     requires unchanging { is_change (command_view command) ≡ false }
     requires first { HasFirstNodes state.old.world }
-    ensures handled { IsHandled owner (command_view command) state.old.world state.new.world out.old.items out.new.items result }
+    ensures handled { IsHandled owner.now (command_view command) state.old.world state.new.world out.old.items out.new.items result }
     ensures names { KeepsNames state.old.names state.new.names result }
 {
     match command {
-        Command::Tree(node) => reads::tree(state, owner, node, out),
-        Command::Attribute(element, name) => attributes::attribute(
-            state, owner, element, name, out,
-        ),
-        Command::Parent(node) => reads::parent(state, owner, node, out),
-        Command::DocumentOf(node) => reads::document_of(state, owner, node, out),
-        Command::Children(node) => reads::children(state, owner, node, out),
-        Command::Contains(above, node) => reads::contains(state, owner, above, node, out),
-        Command::Connected(node) => reads::connected(state, owner, node, out),
+        Command::Tree(node) => reads::tree(state, *owner, node, out),
+        Command::Parent(node) => reads::parent(state, *owner, node, out),
+        Command::DocumentOf(node) => reads::document_of(state, *owner, node, out),
+        Command::Children(node) => reads::children(state, *owner, node, out),
+        Command::Contains(above, node) => reads::contains(state, *owner, above, node, out),
+        Command::Connected(node) => reads::connected(state, *owner, node, out),
         Command::ShadowRoot(element) => shadows::shadow_root(state, owner, element, out),
         Command::SlotOf(node) => shadows::slot_of(state, owner, node, out),
         Command::Assigned(slot) => shadows::assigned(state, owner, slot, out),
-        Command::IteratorNew(root, filter) => {
-            cursors::new_cursor(state, owner, Cursor::Iterator, (root, filter), out)
-        }
-        Command::IteratorNext(i) => things::perform(state, owner, i, Request::Next, out),
-        Command::IteratorPrevious(i) => things::perform(state, owner, i, Request::Previous, out),
-        Command::IteratorAt(i) => things::perform(state, owner, i, Request::Reference, out),
-        Command::WalkerNew(root, filter) => {
-            cursors::new_cursor(state, owner, Cursor::Walker, (root, filter), out)
-        }
-        Command::Walk(w, step) => things::perform(state, owner, w, Request::Walk(step), out),
-        Command::WalkerAt(w) => things::perform(state, owner, w, Request::Current, out),
-        Command::WalkerSet(number, node) => cursors::set_walker(state, owner, number, node, out),
-        Command::Query(node, text) => selecting::query(state, owner, node, text, out),
-        Command::Matches(element, text) => selecting::matches(state, owner, element, text, out),
-        Command::Observer => observing::new_observer(state, owner, out),
-        Command::Observe(number, node, words) => observing::observe(
-            state, owner, number, node, words, out,
+        Command::IteratorNext(i) => things::perform(state, *owner, i, Request::Next, out),
+        Command::IteratorPrevious(i) => things::perform(state, *owner, i, Request::Previous, out),
+        Command::IteratorAt(i) => things::perform(state, *owner, i, Request::Reference, out),
+        Command::Walk(w, step) => things::perform(state, *owner, w, Request::Walk(step), out),
+        Command::WalkerAt(w) => things::perform(state, *owner, w, Request::Current, out),
+        Command::WalkerSet(number, node) => cursors::set_walker(state, *owner, number, node, out),
+        Command::Observer => observing::new_observer(state, *owner, out),
+        Command::Disconnect(o) => things::perform(state, *owner, o, Request::Disconnect, out),
+        Command::Take(number) => observing::take_records(state, *owner, number, out),
+        other => ask_in_words(state, owner, other, out),
+    }
+}
+
+/// A command that asks with a text, a filter or the words of `observe`, or is on live ranges, by its handler. It is kept out of line, so that
+/// no other command makes room for these.
+#[inline(never)]
+fn ask_in_words(
+    state: &mut State,
+    owner: &Owner,
+    command: Command,
+    out: &mut Vec<u8>,
+) -> Result<(), Fault>
+    requires plain { is_plain (command_view command) ≡ true }
+    requires unchanging { is_change (command_view command) ≡ false }
+    requires wordy { is_short_question (command_view command) ≡ false }
+    requires first { HasFirstNodes state.old.world }
+    ensures handled { IsHandled owner.now (command_view command) state.old.world state.new.world out.old.items out.new.items result }
+    ensures names { KeepsNames state.old.names state.new.names result }
+{
+    match command {
+        Command::Attribute(element, name) => attributes::attribute(
+            state, owner, element, name, out,
         ),
-        Command::Disconnect(o) => things::perform(state, owner, o, Request::Disconnect, out),
-        Command::Take(number) => observing::take_records(state, owner, number, out),
+        Command::IteratorNew(root, filter) => {
+            cursors::new_cursor(state, *owner, Cursor::Iterator, (root, filter), out)
+        }
+        Command::WalkerNew(root, filter) => {
+            cursors::new_cursor(state, *owner, Cursor::Walker, (root, filter), out)
+        }
+        Command::Query(node, text) => selecting::query(state, *owner, node, text, out),
+        Command::Matches(element, text) => selecting::matches(state, *owner, element, text, out),
+        Command::Observe(number, node, words) => observing::observe(
+            state, *owner, number, node, words, out,
+        ),
         other => perform_on_range(state, owner, other, out),
     }
 }

@@ -17,36 +17,36 @@ use dom_reader::{Command, NodeWord};
 /// A command on live ranges, by its handler.
 pub(crate) fn perform_on_range(
     state: &mut State,
-    owner: Owner,
+    owner: &Owner,
     command: Command,
     out: &mut Vec<u8>,
 ) -> Result<(), Fault>
     requires range { is_range (command_view command) ≡ true }
     requires first { HasFirstNodes state.old.world }
-    ensures handled { IsHandled owner (command_view command) state.old.world state.new.world out.old.items out.new.items result }
+    ensures handled { IsHandled owner.now (command_view command) state.old.world state.new.world out.old.items out.new.items result }
     ensures names { KeepsNames state.old.names state.new.names result }
 {
     match command {
-        Command::RangeNew => new_range(state, owner, out),
+        Command::RangeNew => new_range(state, *owner, out),
         Command::RangeStart(number, node, offset) => {
-            set_boundary(state, owner, number, true, (node, offset), out)
+            set_boundary(state, *owner, number, true, (node, offset), out)
         }
         Command::RangeEnd(number, node, offset) => {
-            set_boundary(state, owner, number, false, (node, offset), out)
+            set_boundary(state, *owner, number, false, (node, offset), out)
         }
         Command::RangeCollapse(number, to_start) => things::perform(
             state,
-            owner,
+            *owner,
             number,
             Request::Collapse(to_start),
             out,
         ),
-        Command::RangeDrop(number) => { things::perform(state, owner, number, Request::Drop, out) }
-        Command::RangeGet(number) => things::perform(state, owner, number, Request::Ends, out),
-        Command::RangeText(number) => text_of_range(state, owner, number, out),
-        Command::Extract(number) => extract(state, owner, number, out),
-        Command::Delete(number) => delete(state, owner, number, out),
-        Command::InsertNode(number, node) => insert_node(state, owner, number, node, out),
+        Command::RangeDrop(number) => { things::perform(state, *owner, number, Request::Drop, out) }
+        Command::RangeGet(number) => things::perform(state, *owner, number, Request::Ends, out),
+        Command::RangeText(number) => text_of_range(state, *owner, number, out),
+        Command::Extract(number) => extract(state, *owner, number, out),
+        Command::Delete(number) => delete(state, *owner, number, out),
+        Command::InsertNode(number, node) => insert_node(state, *owner, number, node, out),
         _ => unreachable!(),
     }
 }

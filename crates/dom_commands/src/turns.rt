@@ -26,12 +26,12 @@ impl Machine {
     /// Ends another component's turn, if it is open, before a line of an owner.
     pub(crate) fn close_other_turn(
         &mut self,
-        owner: Owner,
+        owner: &Owner,
         out: &mut Vec<u8>,
     ) -> Result<(), AllocError>
         requires { IsAtRest self.old }
-        ensures text { OnOk result (out.new.items ≡ out.old.items ++ output_text (ending_other_turn self.old.world owner).1) }
-        ensures world { OnOk result (self.new.world ≡ (ending_other_turn self.old.world owner).0) }
+        ensures text { OnOk result (out.new.items ≡ out.old.items ++ output_text (ending_other_turn self.old.world owner.now).1) }
+        ensures world { OnOk result (self.new.world ≡ (ending_other_turn self.old.world owner.now).0) }
         ensures sound { OnOk result (IsAtRest self.new) }
     {
         if self.state.has_other_turn(owner) {

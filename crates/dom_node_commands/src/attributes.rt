@@ -8,6 +8,7 @@ ghost use Rattle.dom_printer.specs.Replies.{value_view};
 ghost use Rattle.dom_reader.specs.Views.{word_view};
 ghost use Rattle.dom_admission.specs.Handled.{KeepsNames, IsHandled};
 
+use crate::NOTHING;
 use dom_admission::{Operand, State};
 use dom_base::{DomStr, Fault, Owner};
 use dom_printer::{Value, put_reply};
@@ -17,53 +18,53 @@ use node_arena::Key;
 /// `set E WORD STR`: an element's attribute gets a value; a new attribute goes last.
 pub fn set_attribute(
     state: &mut State,
-    owner: Owner,
+    owner: &Owner,
     element: NodeWord,
     name: String,
     value: DomStr,
     out: &mut Vec<u8>,
 ) -> Result<(), Fault>
-    ensures handled { IsHandled owner (set_attribute (word_view element) (string_bytes name) value.items) state.old.world state.new.world
+    ensures handled { IsHandled owner.now (set_attribute (word_view element) (string_bytes name) value.items) state.old.world state.new.world
         out.old.items out.new.items result }
     ensures names { KeepsNames state.old.names state.new.names result }
 {
-    let element = state.admit_one(owner, Operand::Element(element))?;
+    let element = state.admit_one(*owner, Operand::Element(element))?;
     state.doc.set_attr(element, &name, value)?;
-    state.accept(owner, &Value::Nothing, out)
+    state.accept(*owner, &NOTHING, out)
 }
 
 /// `unset E WORD`: an element's attribute goes; without it nothing changes.
 pub fn unset_attribute(
     state: &mut State,
-    owner: Owner,
+    owner: &Owner,
     element: NodeWord,
     name: String,
     out: &mut Vec<u8>,
 ) -> Result<(), Fault>
-    ensures handled { IsHandled owner (unset_attribute (word_view element) (string_bytes name)) state.old.world state.new.world out.old.items
+    ensures handled { IsHandled owner.now (unset_attribute (word_view element) (string_bytes name)) state.old.world state.new.world out.old.items
         out.new.items result }
     ensures names { KeepsNames state.old.names state.new.names result }
 {
-    let element = state.admit_one(owner, Operand::Element(element))?;
+    let element = state.admit_one(*owner, Operand::Element(element))?;
     state.doc.remove_attr(element, &name)?;
-    state.accept(owner, &Value::Nothing, out)
+    state.accept(*owner, &NOTHING, out)
 }
 
 /// `attr E WORD`: the value of an element's attribute, or `null`.
 pub fn attribute(
     state: &mut State,
-    owner: Owner,
+    owner: &Owner,
     element: NodeWord,
     name: String,
     out: &mut Vec<u8>,
 ) -> Result<(), Fault>
-    ensures handled { IsHandled owner (attribute (word_view element) (string_bytes name)) state.old.world state.new.world out.old.items
+    ensures handled { IsHandled owner.now (attribute (word_view element) (string_bytes name)) state.old.world state.new.world out.old.items
         out.new.items result }
     ensures names { KeepsNames state.old.names state.new.names result }
 {
-    let element = state.admit_one(owner, Operand::Element(element))?;
-    put_reply(out, owner, &attribute_value(state, element, &name))?;
-    state.open_turn(owner);
+    let element = state.admit_one(*owner, Operand::Element(element))?;
+    put_reply(out, *owner, &attribute_value(state, element, &name))?;
+    state.open_turn(*owner);
     Ok(())
 }
 

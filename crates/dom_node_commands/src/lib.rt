@@ -7,3 +7,8 @@ pub mod data;
 pub mod making;
 pub mod moving;
 pub mod shadows;
+
+use dom_printer::Value;
+
+/// The value of a reply that has none. It stands once, so that no line makes it anew.
+pub(crate) static NOTHING: Value<'static> = Value::Nothing;

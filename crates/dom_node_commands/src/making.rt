@@ -20,11 +20,11 @@ use node_arena::Key;
 /// `new element WORD`: a new element.
 pub fn new_element(
     state: &mut State,
-    owner: Owner,
+    owner: &Owner,
     name: String,
     out: &mut Vec<u8>,
 ) -> Result<(), Fault>
-    ensures handled { IsHandled owner (new_element (string_bytes name)) state.old.world state.new.world out.old.items out.new.items result }
+    ensures handled { IsHandled owner.now (new_element (string_bytes name)) state.old.world state.new.world out.old.items out.new.items result }
     ensures names { KeepsNames state.old.names state.new.names result }
 {
     let text = Vec::new(state.alloc);
@@ -34,11 +34,11 @@ pub fn new_element(
 /// `new text STR`: a new Text.
 pub fn new_text(
     state: &mut State,
-    owner: Owner,
+    owner: &Owner,
     text: DomStr,
     out: &mut Vec<u8>,
 ) -> Result<(), Fault>
-    ensures handled { IsHandled owner (new_text text.items) state.old.world state.new.world out.old.items out.new.items result }
+    ensures handled { IsHandled owner.now (new_text text.items) state.old.world state.new.world out.old.items out.new.items result }
     ensures names { KeepsNames state.old.names state.new.names result }
 {
     let element = String::new(state.alloc);
@@ -48,11 +48,11 @@ pub fn new_text(
 /// `new comment STR`: a new Comment.
 pub fn new_comment(
     state: &mut State,
-    owner: Owner,
+    owner: &Owner,
     text: DomStr,
     out: &mut Vec<u8>,
 ) -> Result<(), Fault>
-    ensures handled { IsHandled owner (new_comment text.items) state.old.world state.new.world out.old.items out.new.items result }
+    ensures handled { IsHandled owner.now (new_comment text.items) state.old.world state.new.world out.old.items out.new.items result }
     ensures names { KeepsNames state.old.names state.new.names result }
 {
     let element = String::new(state.alloc);
@@ -60,8 +60,8 @@ pub fn new_comment(
 }
 
 /// `new fragment`: a new document fragment.
-pub fn new_fragment(state: &mut State, owner: Owner, out: &mut Vec<u8>) -> Result<(), Fault>
-    ensures handled { IsHandled owner new_fragment state.old.world state.new.world out.old.items out.new.items result }
+pub fn new_fragment(state: &mut State, owner: &Owner, out: &mut Vec<u8>) -> Result<(), Fault>
+    ensures handled { IsHandled owner.now new_fragment state.old.world state.new.world out.old.items out.new.items result }
     ensures names { KeepsNames state.old.names state.new.names result }
 {
     let (element, text) = (String::new(state.alloc), Vec::new(state.alloc));
@@ -69,8 +69,8 @@ pub fn new_fragment(state: &mut State, owner: Owner, out: &mut Vec<u8>) -> Resul
 }
 
 /// `document`: a new document.
-pub fn new_document(state: &mut State, owner: Owner, out: &mut Vec<u8>) -> Result<(), Fault>
-    ensures handled { IsHandled owner new_document state.old.world state.new.world out.old.items out.new.items result }
+pub fn new_document(state: &mut State, owner: &Owner, out: &mut Vec<u8>) -> Result<(), Fault>
+    ensures handled { IsHandled owner.now new_document state.old.world state.new.world out.old.items out.new.items result }
     ensures names { KeepsNames state.old.names state.new.names result }
 {
     let (element, text) = (String::new(state.alloc), Vec::new(state.alloc));
@@ -79,9 +79,10 @@ pub fn new_document(state: &mut State, owner: Owner, out: &mut Vec<u8>) -> Resul
 
 /// Does the command that makes a node of this kind, with this local name if it is an element and with this text if it is a Text or
 /// a Comment, and replies with the node.
+#[inline(always)]
 fn make(
     state: &mut State,
-    owner: Owner,
+    owner: &Owner,
     kind: Kind,
     element: String,
     text: DomStr,
@@ -90,10 +91,10 @@ fn make(
     requires no_shadow { is_shadow kind ≡ false }
     requires nameless { is_element kind ≡ false → string_bytes element ≡ [] }
     requires textless { has_data kind ≡ false → text.items ≡ [] }
-    ensures handled { IsHandled owner (making kind (string_bytes element) text.items) state.old.world state.new.world out.old.items out.new.items result }
+    ensures handled { IsHandled owner.now (making kind (string_bytes element) text.items) state.old.world state.new.world out.old.items out.new.items result }
     ensures names { KeepsNames state.old.names state.new.names result }
 {
-    state.admit(owner, &[])?;
+    state.admit(*owner, &[])?;
     let node = NodeData {
         kind,
         element,
@@ -101,15 +102,15 @@ fn make(
         text,
         document: document_for(state, owner, kind),
     };
-    let key = state.doc.add(owner, node)?;
+    let key = state.doc.add(*owner, node)?;
     let made = state.doc.forest().name(key);
-    state.accept(owner, &Value::Node(made), out)
+    state.accept(*owner, &Value::Node(made), out)
 }
 
 /// The node document of an owner's new node: the page's first document, or that of a component's shadow root; a
 /// document has none.
-fn document_for(state: &State, owner: Owner, kind: Kind) -> Option<Key>
-    ensures value { option_map (name_in state.now) result ≡ document_for kind (part_of state.now.world owner) }
+fn document_for(state: &State, owner: &Owner, kind: Kind) -> Option<Key>
+    ensures value { option_map (name_in state.now) result ≡ document_for kind (part_of state.now.world owner.now) }
     ensures node { ForSome result (HoldsNode state.now) }
 {
     if is_document(kind) {
@@ -120,11 +121,11 @@ fn document_for(state: &State, owner: Owner, kind: Kind) -> Option<Key>
 }
 
 /// An owner's first node where that is a document, or else the first node's document.
-fn first_document(state: &State, owner: Owner) -> Option<Key>
-    ensures value { option_map (name_in state.now) result ≡ new_document_of (part_of state.now.world owner) }
+fn first_document(state: &State, owner: &Owner) -> Option<Key>
+    ensures value { option_map (name_in state.now) result ≡ new_document_of (part_of state.now.world owner.now) }
     ensures node { ForSome result (HoldsNode state.now) }
 {
-    let first = state.find(owner, NodeWord::Own(0))?;
+    let first = state.find(*owner, NodeWord::Own(0))?;
     if is_document(state.kind(first)) {
         Some(first)
     } else {

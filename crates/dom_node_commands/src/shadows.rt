@@ -19,63 +19,63 @@ use std::alloc::AllocError;
 /// root; own rule for the component).
 pub fn attach(
     state: &mut State,
-    owner: Owner,
+    owner: &Owner,
     host: NodeWord,
     out: &mut Vec<u8>,
 ) -> Result<(), Fault>
-    ensures handled { IsHandled owner (attach (word_view host)) state.old.world state.new.world out.old.items out.new.items result }
+    ensures handled { IsHandled owner.now (attach (word_view host)) state.old.world state.new.world out.old.items out.new.items result }
     ensures names { KeepsNames state.old.names state.new.names result }
 {
-    let host = state.admit_one(owner, Operand::Element(host))?;
+    let host = state.admit_one(*owner, Operand::Element(host))?;
     let root = state.doc.attach(host)?;
     let component = state.doc.forest().name(root).owner;
-    state.accept(owner, &Value::Component(component), out)
+    state.accept(*owner, &Value::Component(component), out)
 }
 
 /// `shadow-root E`: always `null`, since all shadow roots are closed (DOM Standard, the shadowRoot getter).
 pub fn shadow_root(
     state: &mut State,
-    owner: Owner,
+    owner: &Owner,
     element: NodeWord,
     out: &mut Vec<u8>,
 ) -> Result<(), Fault>
-    ensures handled { IsHandled owner (shadow_root (word_view element)) state.old.world state.new.world out.old.items out.new.items result }
+    ensures handled { IsHandled owner.now (shadow_root (word_view element)) state.old.world state.new.world out.old.items out.new.items result }
     ensures names { KeepsNames state.old.names state.new.names result }
 {
-    state.admit(owner, &[Operand::Element(element)])?;
-    state.accept(owner, &Value::Null, out)
+    state.admit(*owner, &[Operand::Element(element)])?;
+    state.accept(*owner, &Value::Null, out)
 }
 
 /// `slot-of N`: always `null`, since all shadow trees are closed (DOM Standard, the assignedSlot getter).
 pub fn slot_of(
     state: &mut State,
-    owner: Owner,
+    owner: &Owner,
     node: NodeWord,
     out: &mut Vec<u8>,
 ) -> Result<(), Fault>
-    ensures handled { IsHandled owner (slot_of (word_view node)) state.old.world state.new.world out.old.items out.new.items result }
+    ensures handled { IsHandled owner.now (slot_of (word_view node)) state.old.world state.new.world out.old.items out.new.items result }
     ensures names { KeepsNames state.old.names state.new.names result }
 {
-    state.admit(owner, &[Operand::Slottable(node)])?;
-    state.accept(owner, &Value::Null, out)
+    state.admit(*owner, &[Operand::Slottable(node)])?;
+    state.accept(*owner, &Value::Null, out)
 }
 
 /// `assigned E`: the nodes assigned to a slot; components' alone (DOM Standard, concept: assigned nodes).
 pub fn assigned(
     state: &mut State,
-    owner: Owner,
+    owner: &Owner,
     slot: NodeWord,
     out: &mut Vec<u8>,
 ) -> Result<(), Fault>
-    ensures handled { IsHandled owner (assigned_command (word_view slot)) state.old.world state.new.world out.old.items out.new.items result }
+    ensures handled { IsHandled owner.now (assigned_command (word_view slot)) state.old.world state.new.world out.old.items out.new.items result }
     ensures names { KeepsNames state.old.names state.new.names result }
 {
-    if is_page(owner) {
+    if is_page(*owner) {
         return Err(Fault::Refused(Refusal::Syntax));
     }
-    let slot = state.admit_one(owner, Operand::Slot(slot))?;
+    let slot = state.admit_one(*owner, Operand::Slot(slot))?;
     let nodes = assigned_to(state, slot)?;
-    state.accept(owner, &Value::List(&nodes), out)
+    state.accept(*owner, &Value::List(&nodes), out)
 }
 
 /// The names of the nodes assigned to a slot.

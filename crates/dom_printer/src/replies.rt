@@ -55,13 +55,14 @@ pub enum Value<'a> {
 /// buffer is as before.
 ///
 /// Own rule.
+#[inline(always)]
 pub fn put_reply(out: &mut Vec<u8>, owner: Owner, value: &Value<'_>) -> Result<(), AllocError>
     ensures ok { OnOk result (out.new.items
         ≡ out.old.items ++ output_text (says owner (replied (value_view value.now)) ∷ [])) }
     ensures err { OnErr result (out.new.items ≡ out.old.items) }
 {
     match (owner, value) {
-        (Owner::Page, Value::Nothing) => out.extend_from_slice(b"p ok\n"),
+        (Owner::Page, Value::Nothing) => put_page_done(out),
         (Owner::Page, Value::Null) => out.extend_from_slice(b"p ok null\n"),
         (Owner::Page, Value::Truth(true)) => out.extend_from_slice(b"p ok true\n"),
         (Owner::Page, Value::Truth(false)) => out.extend_from_slice(b"p ok false\n"),
@@ -74,8 +75,17 @@ pub fn put_reply(out: &mut Vec<u8>, owner: Owner, value: &Value<'_>) -> Result<(
                 },
             ),
         ) => put_page_node(out, *number),
-        _ => put_value(out, owner, value),
+        _ => put_value(out, &owner, value),
     }
+}
+
+/// Puts the page's reply that has no value. It is kept out of line, so that its few bytes are copied at once.
+#[inline(never)]
+fn put_page_done(out: &mut Vec<u8>) -> Result<(), AllocError>
+    ensures ok { OnOk result (out.new.items ≡ out.old.items ++ output_text (says Page (replied nothing) ∷ [])) }
+    ensures err { OnErr result (out.new.items ≡ out.old.items) }
+{
+    out.extend_from_slice(b"p ok\n")
 }
 
 /// Puts the page's reply that has a node of its own, and asks once for the room of all of it.
@@ -133,14 +143,14 @@ fn put_found_parts(out: &mut Vec<u8>, owner: &Owner, node: NodeName) -> Result<(
 }
 
 /// Puts a reply with its end, whatever its value.
-fn put_value(out: &mut Vec<u8>, owner: Owner, value: &Value<'_>) -> Result<(), AllocError>
+fn put_value(out: &mut Vec<u8>, owner: &Owner, value: &Value<'_>) -> Result<(), AllocError>
     ensures ok { OnOk result (out.new.items
-        ≡ out.old.items ++ output_text (says owner (replied (value_view value.now)) ∷ [])) }
+        ≡ out.old.items ++ output_text (says owner.now (replied (value_view value.now)) ∷ [])) }
     ensures err { OnErr result (out.new.items ≡ out.old.items) }
 {
     let piece = match value {
-        Value::Nothing => return put_done(out, &owner),
-        Value::Node(node) => return put_found(out, &owner, *node),
+        Value::Nothing => return put_done(out, owner),
+        Value::Node(node) => return put_found(out, owner, *node),
         Value::Null => Piece::Text(b"ok null"),
         Value::List(nodes) => Piece::Nodes(b"ok ", nodes),
         Value::Component(component) => Piece::Owner(b"ok ", *component),
@@ -152,10 +162,10 @@ fn put_value(out: &mut Vec<u8>, owner: Owner, value: &Value<'_>) -> Result<(), A
         Value::Truth(true) => Piece::Text(b"ok true"),
         Value::Truth(false) => Piece::Text(b"ok false"),
         Value::Count(count) => Piece::Number(b"ok ", *count),
-        Value::Boundaries { start, end } => return put_boundaries(out, owner, *start, *end),
-        Value::Reference { node, before } => return put_reference(out, owner, *node, *before),
+        Value::Boundaries { start, end } => return put_boundaries(out, *owner, *start, *end),
+        Value::Reference { node, before } => return put_reference(out, *owner, *node, *before),
     };
-    put_line(out, owner, &[piece])
+    put_line(out, *owner, &[piece])
 }
 
 /// Puts the reply that has an iterator's reference, and whether its pointer is before that.

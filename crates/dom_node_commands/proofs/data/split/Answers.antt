@@ -17,7 +17,7 @@ returns-clause-handled c =
     let d = c.state.inside.doc in
     let node = key_of _ d _ c.state.view_is _ _ _ c.in_ok-node.ensures.key.name in
     let e = c.in_ok-tail.ensures in
-    let p = part_of d.world c.args.owner in
+    let p = part_of d.world c.args.owner.now in
     let names = c.forest.ensures.names ∙ e.names ∙ told_one (λ q x. d.names ++ next_name q ∷ []) node in
     makes (λ x. splitting x c.args.offset) _ d _ c.state.view_is
     (may_act _ _ _ (Text c.args.node ∷ []) (search namings) c.in_ok-node.ensures.passed refl) _ _ _ _ _ _ c.in_ok-node.ensures.key.name

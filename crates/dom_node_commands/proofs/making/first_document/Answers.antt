@@ -4,7 +4,7 @@ use Rattle.dom_node_commands.proofs.making.first_document.Goals as goal
 
 pub returns-in_err-first-clause-value : goal.returns-in_err-first-clause-value
 returns-in_err-first-clause-value c =
-    let p = part_of c.args.state.now.world c.args.owner in
+    let p = part_of c.args.state.now.world c.args.owner.now in
     let x = node_of p.owner 0 in
     ap (option_map (name_in c.args.state.now)) c.from_residual.ensures ∙ ap (λ (n : Node). if is_document n.kind then Some x else n.document)
     (no_node-absent p.trees x (sym c.find.ensures.presence ∙ ap is_some c.in_err-first.was))

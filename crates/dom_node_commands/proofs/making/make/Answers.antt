@@ -20,7 +20,7 @@ returns-clause-handled c =
     let is = making_is _ _ _ c.requires.no_shadow c.requires.nameless c.requires.textless in
     let d = c.state.inside.doc in
     let e = c.in_ok-key.ensures in
-    let own = part_of d.world c.args.owner in
+    let own = part_of d.world c.args.owner.now in
     let k = c.args.kind in
     let build : List Attribute → Option NodeName → Node = λ bs x. record {
       name = next_name own;
@@ -31,11 +31,11 @@ returns-clause-handled c =
       document = x;
     } in
     let document : option_map (name_at d.names) c.document_for.result ≡ document_for k own =
-    subst (λ (s : DocState). option_map (name_at s.names) c.document_for.result ≡ document_for k (part_of s.world c.args.owner)) (sym c.state.view_is)
+    subst (λ (s : DocState). option_map (name_at s.names) c.document_for.result ≡ document_for k (part_of s.world c.args.owner.now)) (sym c.state.view_is)
     c.document_for.ensures.value in
     let made_last = name-last d.names (next_name own) (c.forest.ensures.names ∙ e.names) e.key c.name-made.ensures.at in
     plans _ d _ c.state.view_is (may_act _ _ _ [] (is.names_nothing _) c.admit.ensures c.in_ok-admit.was) _ _ _ _
-    (none_refused (is.refused _) c.in_ok-key.key e.refused) (is.runs (with_turn c.state.inside.turn d.world) c.args.owner)
+    (none_refused (is.refused _) c.in_ok-key.key e.refused) (is.runs (with_turn c.state.inside.turn d.world) c.args.owner.now)
     (ap (λ x. changes (make (build [] (document_for k own)) ∷ []) (a_node x)) made_last ∙ is.does own)
-    (e.world ∙ (λ j. world_after c.args.owner d.world (make (build (attributes_from (c.new.ensures.empty j)) (document j)) ∷ [])))
+    (e.world ∙ (λ j. world_after c.args.owner.now d.world (make (build (attributes_from (c.new.ensures.empty j)) (document j)) ∷ [])))
     c.accept.ensures.done

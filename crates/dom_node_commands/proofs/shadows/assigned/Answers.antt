@@ -10,7 +10,7 @@ returns-in_err-slot-clause-handled c =
 pub returns-clause-handled : goal.returns-clause-handled
 returns-clause-handled c =
     let w = c.args.state.now.world in
-    let opens = opened-same (λ u. assigned_nodes u (named (part_of u c.args.owner) (word_view c.args.slot))) w c.args.owner (λ t. refl) in
+    let opens = opened-same (λ u. assigned_nodes u (named (part_of u c.args.owner.now) (word_view c.args.slot))) w c.args.owner.now (λ t. refl) in
     asks (may_act _ _ _ (Slot c.args.slot ∷ []) (naming-assigned _ (sym c.is_page.ensures ∙ c.if-is_page.false) _) c.in_ok-slot.ensures.passed
     refl) _ _ _ _ refl refl
     (ap a_list (c.deref.ensures.value ∙ c.in_ok-nodes.ensures ∙ ap (assigned_nodes w) c.in_ok-slot.ensures.key.name ∙ opens)) c.accept.ensures.done

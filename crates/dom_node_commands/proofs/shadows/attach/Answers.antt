@@ -21,7 +21,7 @@ returns-clause-handled c =
     let d = c.state.inside.doc in
     let host = key_of _ d _ c.state.view_is _ _ _ c.in_ok-host.ensures.key.name in
     let e = c.in_ok-root.ensures in
-    let component = component_made c.args.owner (length (part_of d.world c.args.owner).attached) in
+    let component = component_made c.args.owner.now (length (part_of d.world c.args.owner.now).attached) in
     let names = c.forest.ensures.names ∙ e.names
     ∙ (λ j. d.names ++ shadow_root_of (component_made (host.mine j) (length (part_of d.world (host.mine j)).attached)) ∷ []) in
     let made_last = name-last d.names (shadow_root_of component) names e.key c.name-component.ensures.at in
