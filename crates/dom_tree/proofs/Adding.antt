@@ -1,8 +1,9 @@
 -- What a new node does to a `Forest`.
-use Rattle.dom_base.proofs.Std.{◌≡◌, ◌⊎◌, inl, inr, ℕ, zero, suc, ◌+◌, ◌^◌, ◌<◌, ◌≤◌, true, false, cond, List, [], ◌∷◌, ◌++◌, length, Some, None, refl, sym, ap}
+use Rattle.dom_base.proofs.Std.{◌≡◌, ◌⊎◌, inl, inr, ℕ, suc, ◌+◌, ◌^◌, ◌<◌, ◌≤◌, true, false, cond, List, [], ◌∷◌, ◌++◌, length, Some, None, refl, sym, ap}
 use Rattle.dom_base.proofs.Std.{subst, ◌∙◌, arith, zero-add, slice_get, option_map, cases_Bool, length-map, length_push, map-append, get_or_append_left}
-use Rattle.dom_base.proofs.Std.{sum_by-append, same_Some, none-some}
+use Rattle.dom_base.proofs.Std.{sum_by-append}
 use Rattle.dom_model.proofs.Model.{Owner, NodeName, owner_eq, Node, with_node, owner_eq-true, owner_eq-same}
+use Rattle.node_arena.proofs.Numbers.{slice_get-push as pushed}
 use Rattle.node_arena.specs.Nodes.{Nodes, IsSound}
 use Rattle.node_arena.proofs.Forests.{cases_Option}
 use Rattle.dom_tree.specs.Definitions.{Contents, Stored, trees_of, IsKept, stored_names, nodes_with, nodes_of, name_at, node_with, count_of, next_name}
@@ -27,13 +28,7 @@ IsKept-keys ps lists keys more kept same = record {
 
 -- an element of a list with one more
 pub push_cases : {X : Type 0} (xs : List X) (x y : X) (k : ℕ) → slice_get (xs ++ x ∷ []) k ≡ Some y → (slice_get xs k ≡ Some y) ⊎ ((k ≡ length xs) × (x ≡ y))
-push_cases [] x y zero e = inr (refl, same_Some x y e)
-push_cases [] x y (suc k) e = absurd (none-some y e)
-push_cases (z ∷ xs) x y zero e = inl e
-push_cases (z ∷ xs) x y (suc k) e = elim (push_cases xs x y k e) [
-  | inl h ↦ inl h
-  | inr h ↦ inr (ap suc h.0, h.1)
-]
+push_cases xs x y k e = elim (pushed xs k x y e) [ inl h ↦ inr (h.0, sym h.1) | inr h ↦ inl h ]
 
 -- the names with one node more
 stored_names-push : (ps : List Stored) (s : Stored) → stored_names (ps ++ s ∷ []) ≡ stored_names ps ++ s.name ∷ []

@@ -98,9 +98,7 @@ contains-insert_before xs c None k = contains-append xs (c ∷ []) k ∙ turned 
   where
     turned : (x y : Bool) → (x || (y || false)) ≡ (y || x)
     turned true true = refl
-    turned true false = refl
-    turned false true = refl
-    turned false false = refl
+    turned x y = refl
 contains-insert_before xs c (Some b) k = contains-put_before xs c b k
 
 abbrev pub linked : List (List ℕ) → ℕ → ℕ → Option ℕ → List (List ℕ)

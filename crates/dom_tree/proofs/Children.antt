@@ -20,20 +20,14 @@ abbrev pub suffix_from : List ℕ → ℕ → List ℕ
 suffix_from [] k = []
 suffix_from (x ∷ xs) k = cond (eqb x k) (x ∷ xs) (suffix_from xs k)
 
-pub rest_of : List ℕ → Option ℕ → List ℕ
+abbrev pub rest_of : List ℕ → Option ℕ → List ℕ
 rest_of xs at = option_map_or (suffix_from xs) at []
 
-pub rest_of-none : (xs : List ℕ) → rest_of xs None ≡ []
-unfolding rest_of
-rest_of-none xs = refl
-
 pub rest_of-head : (xs : List ℕ) (r : Option ℕ) → r ≡ head_of xs → rest_of xs r ≡ xs
-unfolding rest_of
 rest_of-head [] r is = rw is refl
 rest_of-head (x ∷ xs) r is = rw (is, eq-eqb x x refl) refl
 
 rest_of-step : (xs : List ℕ) (k : ℕ) → IsOnce xs → contains xs k ≡ true → rest_of xs (Some k) ≡ k ∷ rest_of xs (next_in xs k)
-unfolding rest_of
 rest_of-step [] k once found = absurd (true≢false (sym found))
 rest_of-step (x ∷ xs) k once found = elim (cases_Bool (eqb x k)) [
   | inl h ↦ rw h (by xs once (eqb-true x k h))
@@ -61,26 +55,18 @@ rest_of-next {lists} forest p among k is step =
     ap (λ o. k ∷ rest_of (children_of lists p) o) (sym (next_child forest p among k is step))
 
 -- what is counted of a list of keys
-pub tally : (ℕ → Bool) → List ℕ → ℕ
+abbrev pub tally : (ℕ → Bool) → List ℕ → ℕ
 tally p [] = 0
 tally p (k ∷ ks) = cond (p k) 1 0 + tally p ks
 
-pub tally-nil : (p : ℕ → Bool) → tally p [] ≡ 0
-unfolding tally
-tally-nil p = refl
-
-pub tally-cons : (p : ℕ → Bool) (k : ℕ) (ks : List ℕ) → tally p (k ∷ ks) ≡ cond (p k) 1 0 + tally p ks
-unfolding tally
-tally-cons p k ks = refl
-
 pub tally-yes : (p : ℕ → Bool) (k : ℕ) (ks : List ℕ) → p k ≡ true → tally p (k ∷ ks) ≡ 1 + tally p ks
-tally-yes p k ks e = rw (tally-cons p k ks, e) refl
+tally-yes p k ks e = rw e refl
 
 pub tally-no : (p : ℕ → Bool) (k : ℕ) (ks : List ℕ) → p k ≡ false → tally p (k ∷ ks) ≡ tally p ks
-tally-no p k ks e = rw (tally-cons p k ks, e) (omega arith)
+tally-no p k ks e = rw e (omega arith)
 
 pub tally-length : (p : ℕ → Bool) (ks : List ℕ) → tally p ks < suc (length ks)
-tally-length p [] = omega (arith, tally-nil p)
+tally-length p [] = omega arith
 tally-length p (k ∷ ks) = elim (cases_Bool (p k)) [
   | inl h ↦ omega (arith, tally-yes p k ks h, tally-length p ks)
   | inr h ↦ omega (arith, tally-no p k ks h, tally-length p ks)
@@ -93,20 +79,9 @@ is_counted nodes apart k = is_element (node_at nodes k).kind && not (is_given (o
 pub is_text_key : List Node → ℕ → Bool
 is_text_key nodes k = is_text (node_at nodes k).kind
 
-pub any_of : (ℕ → Bool) → List ℕ → Bool
-any_of p ks = list_any p ks
-
-pub any_of-nil : (p : ℕ → Bool) → any_of p [] ≡ false
-unfolding any_of
-any_of-nil p = refl
-
-pub any_of-cons : (p : ℕ → Bool) (k : ℕ) (ks : List ℕ) → any_of p (k ∷ ks) ≡ (p k || any_of p ks)
-unfolding any_of
-any_of-cons p k ks = refl
-
 element_count-map : (nodes : List Node) (apart : Option ℕ) (ks : List ℕ) →
     element_count (without_given (option_map (name_of_key nodes) apart) (map (node_at nodes) ks)) ≡ tally (is_counted nodes apart) ks
-unfolding tally is_counted
+unfolding is_counted
 element_count-map nodes apart [] = refl
 element_count-map nodes apart (k ∷ ks) =
     let rest = element_count-map nodes apart ks in
@@ -126,8 +101,8 @@ element_count-map nodes apart (k ∷ ks) =
     kept true n = omega arith
     kept false n = omega arith
 
-has_text-map : (nodes : List Node) (ks : List ℕ) → has_text (map (node_at nodes) ks) ≡ any_of (is_text_key nodes) ks
-unfolding any_of is_text_key
+has_text-map : (nodes : List Node) (ks : List ℕ) → has_text (map (node_at nodes) ks) ≡ list_any (is_text_key nodes) ks
+unfolding is_text_key
 has_text-map nodes [] = refl
 has_text-map nodes (k ∷ ks) = ap (λ b. is_text (node_at nodes k).kind || b) (has_text-map nodes ks)
 
@@ -153,10 +128,10 @@ shows_element_count {f = f} {ps = ps} {lists = lists} {keys = keys} is kept x ap
     (sym (name_at-same (stored_names ps) ps x)))))
 
 pub shows_has_text : {f : NamedTrees} {ps : List Stored} {lists : List (List ℕ)} {keys : Owner → List ℕ} → seen ps lists ≡ f → IsKept ps lists keys
-    → (x : ℕ) → x < length f.names → any_of (is_text_key (nodes_of ps)) (children_of lists x) ≡ has_text (child_nodes f.trees (name_at f.names x))
+    → (x : ℕ) → x < length f.names → list_any (is_text_key (nodes_of ps)) (children_of lists x) ≡ has_text (child_nodes f.trees (name_at f.names x))
 shows_has_text {f = f} {ps = ps} {lists = lists} {keys = keys} is kept x node =
     let inside = within is kept x node in
-    subst (λ (g : NamedTrees). any_of (is_text_key (nodes_of ps)) (children_of lists x) ≡ has_text (child_nodes g.trees (name_at g.names x))) is
+    subst (λ (g : NamedTrees). list_any (is_text_key (nodes_of ps)) (children_of lists x) ≡ has_text (child_nodes g.trees (name_at g.names x))) is
     (sym (has_text-map (nodes_of ps) (children_of lists x))
     ∙ (ap has_text (sym (child_nodes-at (nodes_of ps) lists (IsWhole-kept kept) x (omega (arith, kept.paired))))
     ∙ ap (λ y. has_text (child_nodes (trees_of (nodes_of ps) lists) y)) (sym (name_at-same (stored_names ps) ps x))))

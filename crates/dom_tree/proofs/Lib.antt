@@ -12,7 +12,6 @@ mod Setting
 mod Walks
 mod Children
 mod Placing
-mod Unchanged
 pub mod AttributeValues
 mod Noted
 pub mod Once
@@ -30,4 +29,5 @@ mod ChildLists
 mod Holds
 pub mod Standing
 pub mod Searching
+pub mod Inside
 mod Steps

@@ -155,9 +155,8 @@ module _ (a : Word) (s : Stored) (own : HaveOwnNames s.node.attributes) where
 -- ---- who has an ID, as a forest is seen
 
 pub may_bear : (b : Option Bearer) (k : ℕ) → MayHave b k → MayBear (only_bearer b) k
-may_bear None k may = may
-may_bear (Some (Only j)) k may = may
 may_bear (Some Several) k may = may
+may_bear b k may = may
 
 pub is_only : (b : Option Bearer) (k : ℕ) → only_bearer b ≡ Some (Some k) → b ≡ Some (Only k)
 is_only None k e = absurd (none-some k (same_Some None (Some k) e))

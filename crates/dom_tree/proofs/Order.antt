@@ -1,7 +1,7 @@
 -- Tree order among the keys for which trees stand.
-use Rattle.dom_base.proofs.Std.{◌≡◌, inl, inr, ℕ, zero, suc, ◌≤◌, true, false, cond, eqb, List, [], ◌∷◌, ◌++◌, map, Option, Some, None, refl, sym, ap, ◌∙◌}
+use Rattle.dom_base.proofs.Std.{◌≡◌, inl, inr, ℕ, ◌≤◌, true, false, cond, eqb, List, [], ◌∷◌, ◌++◌, map, Option, Some, None, refl, sym, ap, ◌∙◌}
 use Rattle.dom_base.proofs.Std.{arith, true≢false, slice_get, eq-eqb, ne_eqb, eqb-true, both_ways, or_cases, or_left, or_right, cases_Bool, false_from_ne_true}
-use Rattle.dom_base.proofs.Std.{map-append, none-some, same_Some}
+use Rattle.dom_base.proofs.Std.{map-append, get_or_from_slice_get}
 use Rattle.dom_model.proofs.Model.{Trees, none, tree, Node, nodes as nodes_in, names_of, times_in}
 use Rattle.node_arena.specs.Nodes.{children_of, contains, IsOnce}
 use Rattle.node_arena.proofs.Lists.{contains-append, contains-head, IsOnce-append_left, IsOnce-append_right, IsOnce-apart, head_or, head_or-append}
@@ -17,9 +17,7 @@ in_trees lists (tree n c r) [] = []
 in_trees lists (tree n c r) (k ∷ ks) = k ∷ (in_trees lists c (children_of lists k) ++ in_trees lists r ks)
 
 pub name_here : (nodes : List Node) (k : ℕ) (n : Node) → slice_get nodes k ≡ Some n → n.name ≡ name_of_key nodes k
-name_here [] k n e = absurd (none-some n e)
-name_here (m ∷ nodes) zero n e = ap (λ (y : Node). y.name) (sym (same_Some m n e))
-name_here (m ∷ nodes) (suc k) n e = name_here nodes k n e
+name_here nodes k n e = ap (λ (y : Node). y.name) (sym (get_or_from_slice_get nodes k n _ e))
 
 -- trees that stand for keys, with this key among them or below
 pub record StandsWith (nodes : List Node) (lists : List (List ℕ)) (ts : Trees) (ks : List ℕ) (p : ℕ) : Type 0 where

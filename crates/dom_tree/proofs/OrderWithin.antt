@@ -193,10 +193,6 @@ pub behind_in-here : {nodes : List Node} {lists : List (List ℕ)} → IsWhole n
 behind_in-here whole {r = None} node other above e here = absurd (true≢false here)
 behind_in-here whole {r = Some y} node other above e here = sym (behind_in-next whole node other above (sym e))
 
-pub lacks : (r : Option ℕ) → false ≡ is_some r → r ≡ None
-lacks None e = refl
-lacks (Some y) e = absurd (true≢false (sym e))
-
 -- what the test whether two keys differ says
 pub told_apart : (x y : ℕ) → true ≡ not (eqb x y) → x ≡ y → ⊥
 told_apart x y e same = true≢false (e ∙ ap not (eq-eqb x y same))

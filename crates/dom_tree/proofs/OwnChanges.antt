@@ -184,14 +184,6 @@ AreOf-without o x (tree n c r) of = elim (cases_Bool (name_eq n.name x)) [
   | inr e ↦ rw e (of.0, AreOf-without o x c of.1, AreOf-without o x r of.2)
 ]
 
--- trees of all owners without a node
-HaveOwners-without : (x : NodeName) (ts : Trees) → HaveOwners ts → HaveOwners (without x ts)
-HaveOwners-without x none have = tt
-HaveOwners-without x (tree n c r) have = elim (cases_Bool (name_eq n.name x)) [
-  | inl e ↦ rw e (HaveOwners-without x r have.1)
-  | inr e ↦ rw e (AreOf-without n.name.owner x c have.0, HaveOwners-without x r have.1)
-]
-
 NoneBefore-without : (y x : NodeName) (ts : Trees) → NoneBefore y ts → NoneBefore y (without x ts)
 NoneBefore-without y x none off = tt
 NoneBefore-without y x (tree n c r) off = elim (cases_Bool (name_eq n.name x)) [
@@ -199,16 +191,18 @@ NoneBefore-without y x (tree n c r) off = elim (cases_Bool (name_eq n.name x)) [
   | inr e ↦ rw e (off.0, NoneBefore-without y x r off.1)
 ]
 
--- roots in order without one
-AreInOrder-without : (x : NodeName) (ts : Trees) → AreInOrder ts → AreInOrder (without x ts)
-AreInOrder-without x none order = tt
-AreInOrder-without x (tree n c r) order = elim (cases_Bool (name_eq n.name x)) [
-  | inl e ↦ rw e (AreInOrder-without x r order.1)
-  | inr e ↦ rw e (NoneBefore-without n.name x r order.0, AreInOrder-without x r order.1)
-]
-
+-- trees of all owners without a node
 pub owned-without : (x : NodeName) (ts : Trees) → AreOwned ts → AreOwned (without x ts)
-owned-without x ts owned = record { owners = HaveOwners-without x ts owned.owners; order = AreInOrder-without x ts owned.order }
+owned-without x none owned = record { owners = tt; order = tt }
+owned-without x (tree n c r) owned =
+    let rest = owned-without x r (record { owners = owned.owners.1; order = owned.order.1 }) in
+    elim (cases_Bool (name_eq n.name x)) [
+      | inl e ↦ rw e rest
+      | inr e ↦ rw e (record {
+        owners = (AreOf-without n.name.owner x c owned.owners.0, rest.owners);
+        order = (NoneBefore-without n.name x r owned.order.0, rest.order);
+      })
+    ]
 
 -- a node taken from all trees is taken from an owner's own
 pub own-without : (o : Owner) (x : NodeName) (ts : Trees) → trees_of_owner o (without x ts) ≡ without x (trees_of_owner o ts)

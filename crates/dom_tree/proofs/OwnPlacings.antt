@@ -80,21 +80,19 @@ AreOf-map : (o : Owner) (f : Node → Node) → ((n : Node) → (f n).name ≡ n
 AreOf-map o f keeps none of = tt
 AreOf-map o f keeps (tree n c r) of = (ap (λ (x : NodeName). x.owner) (keeps n) ∙ of.0, AreOf-map o f keeps c of.1, AreOf-map o f keeps r of.2)
 
--- trees of all owners with other contents
-HaveOwners-map : (f : Node → Node) → ((n : Node) → (f n).name ≡ n.name) → (ts : Trees) → HaveOwners ts → HaveOwners (map_nodes f ts)
-HaveOwners-map f keeps none have = tt
-HaveOwners-map f keeps (tree n c r) have =
-    (subst (λ (x : NodeName). AreOf x.owner (map_nodes f c)) (sym (keeps n)) (AreOf-map n.name.owner f keeps c have.0), HaveOwners-map f keeps r have.1)
-
 NoneBefore-map : (y : NodeName) (f : Node → Node) → ((n : Node) → (f n).name ≡ n.name) → (ts : Trees) → NoneBefore y ts → NoneBefore y (map_nodes f ts)
 NoneBefore-map y f keeps none off = tt
 NoneBefore-map y f keeps (tree n c r) off = (ap (λ z. name_before z y) (keeps n) ∙ off.0, NoneBefore-map y f keeps r off.1)
 
--- roots in order with other contents
-AreInOrder-map : (f : Node → Node) → ((n : Node) → (f n).name ≡ n.name) → (ts : Trees) → AreInOrder ts → AreInOrder (map_nodes f ts)
-AreInOrder-map f keeps none order = tt
-AreInOrder-map f keeps (tree n c r) order =
-    (subst (λ z. NoneBefore z (map_nodes f r)) (sym (keeps n)) (NoneBefore-map n.name f keeps r order.0), AreInOrder-map f keeps r order.1)
+-- trees of all owners with other contents
+owned-map : (f : Node → Node) → ((n : Node) → (f n).name ≡ n.name) → (ts : Trees) → AreOwned ts → AreOwned (map_nodes f ts)
+owned-map f keeps none owned = record { owners = tt; order = tt }
+owned-map f keeps (tree n c r) owned =
+    let rest = owned-map f keeps r (record { owners = owned.owners.1; order = owned.order.1 }) in
+    record {
+      owners = (subst (λ (x : NodeName). AreOf x.owner (map_nodes f c)) (sym (keeps n)) (AreOf-map n.name.owner f keeps c owned.owners.0), rest.owners);
+      order = (subst (λ z. NoneBefore z (map_nodes f r)) (sym (keeps n)) (NoneBefore-map n.name f keeps r owned.order.0), rest.order);
+    }
 
 -- other contents of all trees are other contents of an owner's own
 own-map : (o : Owner) (f : Node → Node) → ((n : Node) → (f n).name ≡ n.name) → (ts : Trees) →
@@ -116,7 +114,7 @@ map-apart p f off (tree n c r) of = rw (off n of.0, map-apart p f off c of.1) (a
 mapped : (o : Owner) (f : Node → Node) (ts : Trees) → AreOwned ts → ((n : Node) → (f n).name ≡ n.name)
     → ((p : Owner) → owner_eq p o ≡ false → (n : Node) → n.name.owner ≡ p → f n ≡ n) → IsOwnChange o (map_nodes f) ts
 mapped o f ts owned keeps off = record {
-  owned = record { owners = HaveOwners-map f keeps ts owned.owners; order = AreInOrder-map f keeps ts owned.order };
+  owned = owned-map f keeps ts owned;
   own = own-map o f keeps ts;
   others = λ p apart. own-map p f keeps ts ∙ map-apart p f (off p (ne-owner_eq p o apart)) (trees_of_owner p ts) (AreOf-own p ts owned.owners);
 }

@@ -7,7 +7,7 @@ use Rattle.dom_model.proofs.Model.{roots, names_of, node_in, no_node, kind_of, a
 use Rattle.dom_model.proofs.Model.{is_inclusive_ancestor, inclusive_descendants, child_nodes, children_of, parent_of, siblings, has_data, first_refusal}
 use Rattle.dom_model.proofs.Model.{placing_tests, has_parent, without_given, breaks_document, pre_insert_refusal, replace_refusal, owner_eq-true, name_eq-true}
 use Rattle.dom_tree.specs.Definitions.{trees_of_owner, AreOf, HaveOwners, NoneBefore, AreInOrder, AreOwned, IsReadOwn, StaysOwn}
-use Rattle.dom_tree.proofs.Reach.{reaches, has_node-reaches, subtree-none, inclusive_ancestors-none, find-none}
+use Rattle.dom_tree.proofs.Reach.{reaches, has_node-reaches, none_reached}
 
 -- ---- the trees
 
@@ -60,45 +60,28 @@ module _ (o p : Owner) (apart : owner_eq p o ≡ false) where
       or_from (name_eq n.name x) _ (name_apart x n.name is of.0)
       (or_from (reaches c x) _ (reaches-apart x is c of.1) (reaches-apart x is r of.2))
 
--- the tree of an owner's node, alone
-subtree-own : (o : Owner) (x : NodeName) → x.owner ≡ o → (ts : Trees) → HaveOwners ts → subtree ts x ≡ subtree (trees_of_owner o ts) x
-subtree-own o x is none have = refl
-subtree-own o x is (tree n c r) have = elim (cases_Bool (owner_eq n.name.owner o)) [
-  | inl e ↦ rw e (ap (λ t. cond (name_eq n.name x) (tree n c none) (or_else (subtree c x) t)) (subtree-own o x is r have.1))
-  | inr e ↦ rw (e, name_apart o n.name.owner e x n.name is refl, subtree-none c x (reaches-apart o n.name.owner e x is c have.0)) (subtree-own o x is r have.1)
-]
-
--- the nodes above an owner's node
-path-own : (o : Owner) (x : NodeName) → x.owner ≡ o → (ts : Trees) → HaveOwners ts → inclusive_ancestors ts x ≡ inclusive_ancestors (trees_of_owner o ts) x
-path-own o x is none have = refl
-path-own o x is (tree n c r) have = elim (cases_Bool (owner_eq n.name.owner o)) [
-  | inl e ↦ rw e (ap (λ t. cond (name_eq n.name x) (x ∷ []) (on_top (inclusive_ancestors c x) n.name t)) (path-own o x is r have.1))
-  | inr e ↦ rw (e, name_apart o n.name.owner e x n.name is refl, inclusive_ancestors-none c x (reaches-apart o n.name.owner e x is c have.0))
-      (path-own o x is r have.1)
-]
-
--- the node of a name
-find-own : (o : Owner) (x : NodeName) → x.owner ≡ o → (ts : Trees) → HaveOwners ts
-    → find (λ n. name_eq n.name x) (nodes ts) ≡ find (λ n. name_eq n.name x) (nodes (trees_of_owner o ts))
-find-own o x is none have = refl
-find-own o x is (tree n c r) have =
+-- an owner's node: its tree alone, the nodes above it, the node of its name, and whether there is one
+reads-own : (o : Owner) (x : NodeName) → x.owner ≡ o → (ts : Trees) → HaveOwners ts → let us = trees_of_owner o ts in
+    (subtree ts x ≡ subtree us x) × (inclusive_ancestors ts x ≡ inclusive_ancestors us x)
+    × (find (λ n. name_eq n.name x) (nodes ts) ≡ find (λ n. name_eq n.name x) (nodes us)) × (reaches ts x ≡ reaches us x)
+reads-own o x is none have = (refl, refl, refl, refl)
+reads-own o x is (tree n c r) have =
+    let rest = reads-own o x is r have.1 in
     let p : Node → Bool = λ y. name_eq y.name x in
     let split = find-append p (nodes c) in
     elim (cases_Bool (owner_eq n.name.owner o)) [
-      | inl e ↦ rw e (ap (λ t. cond (p n) (Some n) t)
-          (split (nodes r) ∙ (ap (option_or (find p (nodes c))) (find-own o x is r have.1) ∙ sym (split (nodes (trees_of_owner o r))))))
-      | inr e ↦ rw (e, name_apart o n.name.owner e x n.name is refl)
-          (split (nodes r) ∙ (ap (λ t. option_or t (find p (nodes r))) (find-none c x (reaches-apart o n.name.owner e x is c have.0)) ∙
-          find-own o x is r have.1))
+      | inl e ↦ rw e (
+        ap (λ t. cond (name_eq n.name x) (tree n c none) (or_else (subtree c x) t)) rest.0,
+        ap (λ t. cond (name_eq n.name x) (x ∷ []) (on_top (inclusive_ancestors c x) n.name t)) rest.1,
+        ap (λ t. cond (p n) (Some n) t) (split (nodes r) ∙ (ap (option_or (find p (nodes c))) rest.2 ∙ sym (split (nodes (trees_of_owner o r))))),
+        ap (λ b. name_eq n.name x || (reaches c x || b)) rest.3,
+      )
+      | inr e ↦
+          let lost = reaches-apart o n.name.owner e x is c have.0 in
+          let off = none_reached c x lost in
+          rw (e, name_apart o n.name.owner e x n.name is refl, lost, off.0, off.1)
+          (rest.0, rest.1, split (nodes r) ∙ (ap (λ t. option_or t (find p (nodes r))) off.2 ∙ rest.2), rest.3)
     ]
-
--- whether a name has a node
-reaches-own : (o : Owner) (x : NodeName) → x.owner ≡ o → (ts : Trees) → HaveOwners ts → reaches ts x ≡ reaches (trees_of_owner o ts) x
-reaches-own o x is none have = refl
-reaches-own o x is (tree n c r) have = elim (cases_Bool (owner_eq n.name.owner o)) [
-  | inl e ↦ rw e (ap (λ b. name_eq n.name x || (reaches c x || b)) (reaches-own o x is r have.1))
-  | inr e ↦ rw (e, name_apart o n.name.owner e x n.name is refl, reaches-apart o n.name.owner e x is c have.0) (reaches-own o x is r have.1)
-]
 
 -- ---- what is read of an owner's trees is the owner's
 
@@ -179,13 +162,13 @@ AllOf-path o x is (tree n c r) of = elim (cases_Bool (name_eq n.name x)) [
 
 -- the tree of an owner's node is the owner's
 pub AreOf-alone : (o : Owner) (x : NodeName) → x.owner ≡ o → (ts : Trees) → HaveOwners ts → AreOf o (subtree ts x)
-AreOf-alone o x is ts have = subst (AreOf o) (sym (subtree-own o x is ts have)) (AreOf-subtree o x (trees_of_owner o ts) (AreOf-own o ts have))
+AreOf-alone o x is ts have = subst (AreOf o) (sym (reads-own o x is ts have).0) (AreOf-subtree o x (trees_of_owner o ts) (AreOf-own o ts have))
 
 -- what is around an owner's node is the owner's
 pub stays_own : (ts : Trees) → AreOwned ts → (o : Owner) (x : NodeName) → x.owner ≡ o → StaysOwn o ts x
 stays_own ts owned o x is =
     let above : AllOf o (inclusive_ancestors ts x) =
-    subst (AllOf o) (sym (path-own o x is ts owned.owners)) (AllOf-path o x is (trees_of_owner o ts) (AreOf-own o ts owned.owners)) in
+    subst (AllOf o) (sym (reads-own o x is ts owned.owners).1) (AllOf-path o x is (trees_of_owner o ts) (AreOf-own o ts owned.owners)) in
     let alone = AreOf-alone o x is ts owned.owners in
     record {
       path = AllOf-in o (inclusive_ancestors ts x) above;
@@ -201,13 +184,13 @@ stays_own ts owned o x is =
 siblings-own : (o : Owner) (ts : Trees) → HaveOwners ts → (x : NodeName) (q : Option NodeName) → ForSome q (λ y. y.owner ≡ o)
     → option_map_or (children_of ts) q (x ∷ []) ≡ option_map_or (children_of (trees_of_owner o ts)) q (x ∷ [])
 siblings-own o ts have x None of = refl
-siblings-own o ts have x (Some p) of = ap (λ us. names_of (roots (trees_below us))) (subtree-own o p (of p refl) ts have)
+siblings-own o ts have x (Some p) of = ap (λ us. names_of (roots (trees_below us))) (reads-own o p (of p refl) ts have).0
 
 -- each read of an owner's node is that of the owner's own trees
 pub read_own : (ts : Trees) → AreOwned ts → (o : Owner) (x : NodeName) → x.owner ≡ o → IsReadOwn o ts x
 read_own ts owned o x is = record {
   node = node;
-  presence = has_node-reaches ts x ∙ (reaches-own o x is ts owned.owners ∙ sym (has_node-reaches us x));
+  presence = has_node-reaches ts x ∙ ((reads-own o x is ts owned.owners).3 ∙ sym (has_node-reaches us x));
   alone = alone;
   path = path;
   parent = parent;
@@ -228,13 +211,13 @@ read_own ts owned o x is = record {
     us = trees_of_owner o ts
 
     node : node_in ts x ≡ node_in us x
-    node = ap (λ q. unwrap_or q (no_node x)) (find-own o x is ts owned.owners)
+    node = ap (λ q. unwrap_or q (no_node x)) (reads-own o x is ts owned.owners).2
 
     alone : subtree ts x ≡ subtree us x
-    alone = subtree-own o x is ts owned.owners
+    alone = (reads-own o x is ts owned.owners).0
 
     path : inclusive_ancestors ts x ≡ inclusive_ancestors us x
-    path = path-own o x is ts owned.owners
+    path = (reads-own o x is ts owned.owners).1
 
     parent : parent_of ts x ≡ parent_of us x
     parent = ap (λ ys. first_of (drop 1 ys)) path

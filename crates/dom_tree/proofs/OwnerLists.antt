@@ -1,8 +1,12 @@
 -- The list that a component has in a map of lists, after a list was written for one component.
-use Rattle.dom_base.proofs.Std.{◌≡◌, Bool, true, false, cond, List, [], Option, Some, None, refl, sym, ap, ◌∙◌, true≢false, is_some, Result, Ok, Err}
+use Rattle.dom_base.proofs.Std.{◌≡◌, Bool, true, false, cond, List, [], Option, Some, None, refl, sym, ap, ◌∙◌, true≢false, is_some, Result, Ok, Err, OnErr}
 use Rattle.dom_base.proofs.Std.{option_map_or, IsOk, is_ok}
 use Rattle.dom_model.proofs.Model.{Owner, owner_eq, owner_eq-true, same_owner}
 use Rattle.dom_base.specs.contracts.OwnerPartialEq.TheImpl as OwnerImpl
+
+-- owners that the map's test finds the same are one
+pub one_owner : (a b : Owner) → OwnerImpl.ghosts.eq a b ≡ true → a ≡ b
+one_owner a b e = owner_eq-true a b (sym (same_owner a b) ∙ e)
 
 -- what an owner has, by what a look-up finds
 abbrev pub had : {V X : Type 0} → (V → List X) → (Owner → Option V) → Owner → List X
@@ -46,3 +50,8 @@ none_from (Some x) e = absurd (true≢false e)
 pub of_ok : {T E X : Type 0} (r : Result T E) (xs ys zs : List X) → IsOk r → zs ≡ cond (is_ok r) xs ys → zs ≡ xs
 of_ok (Ok x) xs ys zs done e = e
 of_ok (Err x) xs ys zs done e = absurd (true≢false (sym done))
+
+-- what holds whatever a call answers holds where it fails
+pub on_err : {T E P : Type 0} (r : Result T E) → P → OnErr r P
+on_err (Ok x) p = tt
+on_err (Err e) p = p

@@ -1,7 +1,7 @@
 -- Each node of a forest is found in the trees, with what is above and below it.
 use Rattle.dom_base.proofs.Std.{◌≡◌, inl, inr, ℕ, zero, suc, ◌<◌, ◌≤◌, Bool, true, false, ◌||◌, eqb, List, [], ◌∷◌, ◌++◌, map, length, Some, None, refl, sym}
-use Rattle.dom_base.proofs.Std.{ap, subst, ◌∙◌, arith, true≢false, append_assoc, slice_get, find, both_ways, or_cases, or_parts, or_left, or_right, cases_Bool}
-use Rattle.dom_base.proofs.Std.{eqb_tells, list_any, map-append, list_any-append, slice_get-get_or, get_or_from_slice_get, none-some}
+use Rattle.dom_base.proofs.Std.{ap, subst, ◌∙◌, arith, true≢false, append_assoc, slice_get, find, find-append, both_ways, or_cases, or_parts, or_left}
+use Rattle.dom_base.proofs.Std.{or_right, cases_Bool, eqb_tells, list_any, map-append, list_any-append, slice_get-get_or, get_or_from_slice_get}
 use Rattle.dom_model.proofs.Model.{NodeName, name_eq, Trees, none, tree, Node, nodes as nodes_in, names_of, has_node, subtree, or_else, inclusive_ancestors}
 use Rattle.dom_model.proofs.Model.{roots, trees_below, name_eq-turned}
 use Rattle.node_arena.specs.Nodes.{children_of, contains, parent_of, ancestors_of, IsForest}
@@ -87,44 +87,20 @@ module _ (nodes : List Node) (lists : List (List ℕ)) (named : IsNamed nodes) (
   reaches-all x node =
       reaches-within (length (ancestors_of lists x)) x (omega arith) node
 
-pub subtree-none : (ts : Trees) (x : NodeName) → reaches ts x ≡ false → subtree ts x ≡ none
-subtree-none none x lost = refl
-subtree-none (tree n c r) x lost =
+-- what is read of a name that is not reached
+pub none_reached : (ts : Trees) (x : NodeName) → reaches ts x ≡ false →
+    (subtree ts x ≡ none) × (inclusive_ancestors ts x ≡ []) × (find (λ n. name_eq n.name x) (nodes_in ts) ≡ None)
+none_reached none x lost = (refl, refl, refl)
+none_reached (tree n c r) x lost =
     let parts = or_parts (name_eq n.name x) _ lost in
     let more = or_parts (reaches c x) (reaches r x) parts.1 in
-    rw (parts.0, subtree-none c x more.0) (subtree-none r x more.1)
+    let below = none_reached c x more.0 in
+    let rest = none_reached r x more.1 in
+    (rw (parts.0, below.0) rest.0, rw (parts.0, below.1) rest.1, rw (parts.0, find-append (λ y. name_eq y.name x) (nodes_in c) (nodes_in r), below.2) rest.2)
 
 -- a list that begins with a name, and what follows it, with the names of some keys behind that
 abbrev pub LeadsTo : List Node → List NodeName → NodeName → List ℕ → List ℕ → Type 0
 LeadsTo nodes found x up above = (path : List NodeName) × (found ≡ x ∷ path) × (path ++ map (name_of_key nodes) up ≡ map (name_of_key nodes) above)
-
-pub inclusive_ancestors-none : (ts : Trees) (x : NodeName) → reaches ts x ≡ false → inclusive_ancestors ts x ≡ []
-inclusive_ancestors-none none x lost = refl
-inclusive_ancestors-none (tree n c r) x lost =
-    let parts = or_parts (name_eq n.name x) _ lost in
-    let more = or_parts (reaches c x) (reaches r x) parts.1 in
-    rw (parts.0, inclusive_ancestors-none c x more.0) (inclusive_ancestors-none r x more.1)
-
-find-append_some : (p : Node → Bool) (xs ys : List Node) (n : Node) → find p xs ≡ Some n → find p (xs ++ ys) ≡ Some n
-find-append_some p [] ys n e = absurd (none-some n e)
-find-append_some p (x ∷ xs) ys n e = elim (cases_Bool (p x)) [
-  | inl h ↦ rw h (rw h at e)
-  | inr h ↦ rw h (find-append_some p xs ys n (rw h at e))
-]
-
-find-append_none : (p : Node → Bool) (xs ys : List Node) → find p xs ≡ None → find p (xs ++ ys) ≡ find p ys
-find-append_none p [] ys e = refl
-find-append_none p (x ∷ xs) ys e = elim (cases_Bool (p x)) [
-  | inl h ↦ absurd (none-some x (sym (rw h at e)))
-  | inr h ↦ rw h (find-append_none p xs ys (rw h at e))
-]
-
-pub find-none : (ts : Trees) (x : NodeName) → reaches ts x ≡ false → find (λ n. name_eq n.name x) (nodes_in ts) ≡ None
-find-none none x lost = refl
-find-none (tree n c r) x lost =
-    let parts = or_parts (name_eq n.name x) _ lost in
-    let more = or_parts (reaches c x) (reaches r x) parts.1 in
-    rw parts.0 (find-append_none (λ y. name_eq y.name x) (nodes_in c) (nodes_in r) (find-none c x more.0) ∙ find-none r x more.1)
 
 module _ (nodes : List Node) (lists : List (List ℕ)) (named : IsNamed nodes) (x : ℕ) (m : Node) (at : slice_get nodes x ≡ Some m) where
   -- the tree of a node that is reached, alone
@@ -139,7 +115,7 @@ module _ (nodes : List Node) (lists : List (List ℕ)) (named : IsNamed nodes) (
             let off : name_eq n.name m.name ≡ false = tells ∙ e.0 in
             rw off (elim (cases_Bool (reaches c m.name)) [
               | inl h ↦ or_else_first (subtree c m.name) (subtree r m.name) (Stands-subtree c (children_of lists k) s.1 h)
-              | inr h ↦ rw (subtree-none c m.name h) (Stands-subtree r ks s.2 (rw (off, h) at found))
+              | inr h ↦ rw (none_reached c m.name h).0 (Stands-subtree r ks s.2 (rw (off, h) at found))
             ])
       ]
     where
@@ -171,7 +147,7 @@ module _ (nodes : List Node) (lists : List (List ℕ)) (named : IsNamed nodes) (
                     append_assoc below.0 (n.name ∷ []) (map (name_of_key nodes) up) ∙
                         (ap (λ z. below.0 ++ z ∷ map (name_of_key nodes) up) (sym is) ∙ below.2),
                   )
-              | inr h ↦ rw (inclusive_ancestors-none c m.name h)
+              | inr h ↦ rw (none_reached c m.name h).1
                   (inclusive_ancestors-from forest r ks s.2
                   (λ j found_j. above j (or_right (eqb k j) (contains ks j) found_j)) (rw (off, h) at found))
             ])
@@ -187,11 +163,9 @@ module _ (nodes : List Node) (lists : List (List ℕ)) (named : IsNamed nodes) (
         | inl e ↦ rw (tells, e.0) (sym s.0 ∙ (ap (slice_get nodes) e.1 ∙ at))
         | inr e ↦
             let off : name_eq n.name m.name ≡ false = tells ∙ e.0 in
-            rw off (elim (cases_Bool (reaches c m.name)) [
-              | inl h ↦ find-append_some (λ y. name_eq y.name m.name) (nodes_in c) (nodes_in r) m
-                  (find-reached c (children_of lists k) s.1 h)
-              | inr h ↦ find-append_none (λ y. name_eq y.name m.name) (nodes_in c) (nodes_in r) (find-none c m.name h) ∙
-                  find-reached r ks s.2 (rw (off, h) at found)
+            rw (off, find-append (λ y. name_eq y.name m.name) (nodes_in c) (nodes_in r)) (elim (cases_Bool (reaches c m.name)) [
+              | inl h ↦ rw (find-reached c (children_of lists k) s.1 h) refl
+              | inr h ↦ rw (none_reached c m.name h).2 (find-reached r ks s.2 (rw (off, h) at found))
             ])
       ]
 

@@ -13,9 +13,7 @@ use Rattle.dom_tree.proofs.Rows.{IsNamed, Each, name_of_key}
 
 pub or_turned : (x y z : Bool) → (x || (y || z)) ≡ (y || (x || z))
 or_turned true true z = refl
-or_turned true false z = refl
-or_turned false true z = refl
-or_turned false false z = refl
+or_turned x y z = refl
 
 pub contains-put_key : (nodes : List Node) (c : ℕ) (ks : List ℕ) (k : ℕ) → contains (put_key nodes c ks) k ≡ (eqb c k || contains ks k)
 contains-put_key nodes c [] k = refl

@@ -1,8 +1,10 @@
 -- What a change of one node's contents does to a `Forest`.
-use Rattle.dom_base.proofs.Std.{◌≡◌, ◌≢◌, ◌⊎◌, inl, inr, ℕ, zero, suc, ◌<◌, true, false, cond, eqb, List, [], ◌∷◌, length, set, Some, refl, sym, ap, subst, ◌∙◌}
+use Rattle.dom_base.proofs.Std.{◌≡◌, ◌≢◌, inl, inr, ℕ, zero, suc, ◌<◌, true, false, cond, List, [], ◌∷◌, length, set, Some, refl, sym, ap, subst, ◌∙◌}
 use Rattle.dom_base.proofs.Std.{arith, slice_get, option_map, cases_Bool, eqb_tells, length-map, length-set, same_Some, none-some, slice_get-map}
 use Rattle.dom_base.proofs.Std.{get_or_from_slice_get}
+use Rattle.std.proofs.lemmas.List.{set-get_or}
 use Rattle.dom_model.proofs.Model.{Owner, name_eq, Node, change_node, name_eq-same}
+use Rattle.node_arena.proofs.Numbers.{slice_get-set}
 use Rattle.dom_tree.specs.Definitions.{Stored, trees_of, NamedTrees, IsKept, stored_names, nodes_with, nodes_of, name_at, node_with, count_of}
 use Rattle.dom_tree.proofs.Rows.{same_name}
 use Rattle.dom_tree.proofs.Changes.{IsWhole, trees_of-map}
@@ -22,6 +24,10 @@ slice_get-set_other (z ∷ xs) zero (suc k) y other = refl
 slice_get-set_other (z ∷ xs) (suc i) zero y other = refl
 slice_get-set_other (z ∷ xs) (suc i) (suc k) y other = slice_get-set_other xs i k y (λ e. other (ap suc e))
 
+-- a list that is set at an index to what stands there
+pub set_back : {X : Type 0} (xs : List X) (k : ℕ) (x y : X) → slice_get xs k ≡ Some x → y ≡ x → set xs k y ≡ xs
+set_back xs k x y at same = ap (set xs k) (same ∙ sym (get_or_from_slice_get xs k x x at)) ∙ set-get_or xs k x
+
 -- a node that is stored anew under its name
 pub stored_names-set : (ps : List Stored) (x : ℕ) (s t : Stored) → slice_get ps x ≡ Some s → t.name ≡ s.name → stored_names (set ps x t) ≡ stored_names ps
 stored_names-set [] x s t at same = refl
@@ -40,18 +46,14 @@ IsKept-set {ps = ps} kept x {s} t at same document = record {
   kept = λ y k e. kept.kept y k (ap (λ ns. slice_get ns k) (sym names) ∙ e);
   counted = λ o. kept.counted o ∙ ap (count_of o) (sym names);
   limited = λ o. let few = kept.limited o in let same_count = ap (count_of o) names in omega arith;
-  documents = λ u k d at_k e. documents_at u k d at_k e (eqb_tells k x);
+  documents = λ u k d at_k e. elim (slice_get-set ps x k t u at_k) [
+    | inl h ↦ omega (arith, document d (ap (λ (v : Stored). v.node.document) (sym h.1) ∙ e), length-set ps x t)
+    | inr h ↦ omega (arith, kept.documents u k d h e, length-set ps x t)
+  ];
 }
   where
     names : stored_names (set ps x t) ≡ stored_names ps
     names = stored_names-set ps x s t at same
-
-    documents_at : (u : Stored) (k d : ℕ) → slice_get (set ps x t) k ≡ Some u → u.node.document ≡ Some d → ((eqb k x ≡ true) × (k ≡ x)) ⊎
-        ((eqb k x ≡ false) × (k ≢ x)) → d < length (set ps x t)
-    documents_at u k d at_k e (inl h) =
-        let is : t ≡ u = same_Some t u (sym (slice_get-set_same ps x s t at) ∙ (ap (slice_get (set ps x t)) (sym h.1) ∙ at_k)) in
-        omega (arith, document d (ap (λ (v : Stored). v.node.document) is ∙ e), length-set ps x t)
-    documents_at u k d at_k e (inr h) = omega (arith, kept.documents u k d (sym (slice_get-set_other ps x k t h.1) ∙ at_k) e, length-set ps x t)
 
 -- the invariant stays where a node is set under the node document that it had
 pub IsKept-set_same : {ps : List Stored} {lists : List (List ℕ)} {keys : Owner → List ℕ} → IsKept ps lists keys → (x : ℕ) {s : Stored} (t : Stored) →

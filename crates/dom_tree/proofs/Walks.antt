@@ -1,12 +1,12 @@
 -- Walks up a tree.
 use Rattle.dom_base.proofs.Std.{◌≡◌, ◌⊎◌, inl, inr, ℕ, suc, ◌+◌, ◌-◌, ◌^◌, ◌<◌, ◌≤◌, true, false, eqb, List, [], ◌∷◌, map, length, Option, Some, None, refl}
-use Rattle.dom_base.proofs.Std.{sym, ap, subst, ◌∙◌, arith, true≢false, unwrap_or, option_map, option_map_or, option_and_then, ForSome, eq-eqb, ne_eqb}
-use Rattle.dom_base.proofs.Std.{eqb-true, cases_Bool, or_cases, or_right, or_parts, both_ways, false_from_ne_true}
+use Rattle.dom_base.proofs.Std.{sym, ap, subst, ◌∙◌, arith, unwrap_or, option_map, option_and_then, ForSome, eq-eqb, none-some, same_Some}
+use Rattle.dom_base.proofs.Std.{eqb-true, cases_Bool, or_cases, or_right, both_ways, false_from_ne_true}
 use Rattle.dom_model.proofs.Model.{Owner, NodeName, last_of, name_eq, items_before, Node, root_of, is_inclusive_ancestor, index_of, children_of as children_in}
 use Rattle.dom_model.proofs.Model.{name_eq-same}
-use Rattle.node_arena.specs.Nodes.{Nodes, contains, parent_of, children_of, ancestors_of, IsForest, IsOnce, last_from, head_of, next_in, next_of}
+use Rattle.node_arena.specs.Nodes.{Nodes, contains, parent_of, children_of, ancestors_of, IsForest, IsOnce, last_from, next_in, next_of, last_of as last_key}
 use Rattle.node_arena.specs.Nodes.{place_in, place_of}
-use Rattle.node_arena.proofs.Lists.{contains-head, length-IsOnce, contains-next_in}
+use Rattle.node_arena.proofs.Lists.{contains-head, length-IsOnce, contains-next_in, contains-last_of}
 use Rattle.node_arena.proofs.Indexes.{place_in-within, place_of-root, place_of-child}
 use Rattle.node_arena.proofs.Forests.{cases_Option, contains-parent, parent_within, parent_of_is, ancestors_of-child, ancestors_of-root}
 use Rattle.dom_tree.specs.Definitions.{Stored, trees_of, NamedTrees, IsKept, stored_names, nodes_of, name_at}
@@ -149,6 +149,15 @@ place-within lists forest k node = elim (place-below lists forest k) [ inl first
 pub place-fits : (lists : List (List ℕ)) → IsForest lists → length lists ≤ 2 ^ 64 → (k : ℕ) → 2 ^ 64 - 1 ≤ place_of lists k → ⊥
 place-fits lists forest few k far = elim (place-below lists forest k) [ inl first ↦ omega arith | inr below ↦ omega arith ]
 
+-- before the last of a list stand all others
+pub place_in-last : (xs : List ℕ) (k : ℕ) → IsOnce xs → Some k ≡ last_key xs → suc (place_in xs k) ≡ length xs
+place_in-last [] k once e = absurd (none-some k (sym e))
+place_in-last (x ∷ []) k once e = rw (eq-eqb x k (same_Some x k (sym e))) refl
+place_in-last (x ∷ y ∷ ys) k once e =
+    let apart : eqb x k ≡ false = false_from_ne_true _
+    (λ same. both_ways _ once.0 (ap (contains (y ∷ ys)) (eqb-true x k same) ∙ contains-last_of (y ∷ ys) k (sym e))) in
+    rw apart (ap suc (place_in-last (y ∷ ys) k once.1 e))
+
 pub length-items_before : (f : ℕ → NodeName) (x : ℕ) (ks : List ℕ) → Tells f x ks → contains ks x ≡ true →
     length (items_before name_eq (f x) (map f ks)) ≡ place_in ks x
 length-items_before f x [] tells found = refl
@@ -179,57 +188,13 @@ shows_index {f = f} {ps = ps} {lists = lists} {keys = keys} is kept x node =
     (sym (index_of-at (nodes_of ps) lists (IsWhole-kept kept) x (omega (arith, kept.paired)))
     ∙ ap (index_of (trees_of (nodes_of ps) lists)) (sym (name_at-same (stored_names ps) ps x)))
 
--- ---- counting the children of a node
-
--- the number of children from the one given on
-pub children_left : List ℕ → Option ℕ → ℕ
-children_left xs at = option_map_or (λ k. length xs - place_in xs k) at 0
-
-pub children_left-none : (xs : List ℕ) → children_left xs None ≡ 0
-unfolding children_left
-children_left-none xs = refl
-
-pub children_left-head : (xs : List ℕ) (r : Option ℕ) → r ≡ head_of xs → children_left xs r ≡ length xs
-unfolding children_left
-children_left-head [] r is = rw is refl
-children_left-head (x ∷ xs) r is = rw (is, eq-eqb x x refl) (omega arith)
-
-next_place : (xs : List ℕ) (k : ℕ) → IsOnce xs → contains xs k ≡ true → suc (children_left xs (next_in xs k)) ≡ length xs - place_in xs k
-unfolding children_left
-next_place [] k once found = absurd (true≢false (sym found))
-next_place (x ∷ xs) k once found = elim (cases_Bool (eqb x k)) [
-  | inl h ↦ rw h (by xs once)
-  | inr h ↦ rw h (more (next_in xs k) refl (next_place xs k once.1 (rw h at found)))
-]
-  where
-    by : (ys : List ℕ) → IsOnce (x ∷ ys) → suc (option_map_or (λ j. suc (length ys) - place_in (x ∷ ys) j) (head_of ys) 0) ≡ suc (length ys) - 0
-    by [] once' = omega arith
-    by (y ∷ ys) once' =
-        let parts = or_parts (eqb y x) (contains ys x) once'.0 in
-        let apart : eqb x y ≡ false = ne_eqb x y (λ e. both_ways _ parts.0 (eq-eqb y x (sym e))) in
-        rw (apart, eq-eqb y y refl) (omega arith)
-
-    more : (o : Option ℕ) → next_in xs k ≡ o → suc (option_map_or (λ j. length xs - place_in xs j) o 0) ≡ length xs - place_in xs k
-        → suc (option_map_or (λ j. suc (length xs) - place_in (x ∷ xs) j) o 0) ≡ suc (length xs) - suc (place_in xs k)
-    more None e ih = omega arith
-    more (Some s) e ih =
-        let apart : eqb x s ≡ false = false_from_ne_true _ (λ same. both_ways _ once.0 (ap (contains xs) (eqb-true x s same) ∙ contains-next_in xs k s e)) in
-        rw apart (omega arith)
+-- ---- the children of a node
 
 -- a step to the next sibling, in a walk over the children of p
 module _ {lists : List (List ℕ)} (forest : IsForest lists) (p : ℕ) {at : Option ℕ} (among : ForSome at (λ k. contains (children_of lists p) k ≡ true))
     (k : ℕ) (is : at ≡ Some k) where
   pub next_child : {next : Option ℕ} → next ≡ next_of lists k → next ≡ next_in (children_of lists p) k
   next_child step = step ∙ ap (option_and_then (λ q. next_in (children_of lists q) k)) (parent_of_is lists forest.one_list p k (among k is))
-
-  pub children_left-next : {next : Option ℕ} → next ≡ next_of lists k → suc (children_left (children_of lists p) next) ≡ children_left (children_of lists p) at
-  unfolding children_left
-  children_left-next step =
-      ap (λ o. suc (option_map_or (λ j. length (children_of lists p) - place_in (children_of lists p) j) o 0)) (next_child step) ∙
-      next_place (children_of lists p) k (forest.once p) (among k is) ∙ sym (ap (children_left (children_of lists p)) is)
-
-  pub children_left-fewer : {next : Option ℕ} → next ≡ next_of lists k → children_left (children_of lists p) next < children_left (children_of lists p) at
-  children_left-fewer step = omega (arith, children_left-next step)
 
   pub among-next : {next : Option ℕ} → next ≡ next_of lists k → ForSome next (λ s. contains (children_of lists p) s ≡ true)
   among-next step s e = contains-next_in (children_of lists p) k s (sym (next_child step) ∙ e)

@@ -1,7 +1,7 @@
 -- The nodes in the tree of a node are those that it is above.
 use Rattle.dom_base.proofs.Std.{◌≡◌, inl, inr, ℕ, zero, suc, ◌<◌, ◌≤◌, true, false, eqb, List, [], ◌∷◌, length, Option, Some, None, sym, ap, subst, ◌∙◌, arith}
 use Rattle.dom_base.proofs.Std.{true≢false, slice_get, option_map, ForSome, last_or, eqb-true, or_cases, or_left, or_right, cases_Bool, false_from_ne_true}
-use Rattle.dom_base.proofs.Std.{both_ways, same_Some, none-some}
+use Rattle.dom_base.proofs.Std.{both_ways, same_Some, none-some, nil_from_length}
 use Rattle.dom_model.proofs.Model.{Owner, NodeName, name_eq, is_in, first_of, last_of, items_after, items_before, Trees, none, tree, Node, subtree}
 use Rattle.dom_model.proofs.Model.{inclusive_descendants, is_inclusive_ancestor, name_eq-same}
 use Rattle.node_arena.specs.Nodes.{children_of, contains, parent_of, ancestors_of}
@@ -16,11 +16,6 @@ use Rattle.dom_tree.proofs.Kept.{seen, IsWhole-kept, name_at-same, above-at, wit
 -- a root above a node
 HasRoot : List (List ℕ) → List ℕ → ℕ → Type 0
 HasRoot lists ks y = (k : ℕ) × (contains ks k ≡ true) × (contains (y ∷ ancestors_of lists y) k ≡ true)
-
--- an empty list holds no key
-none_above : (ys : List ℕ) (k : ℕ) → length ys ≤ 0 → contains ys k ≡ true → ⊥
-none_above [] k few found = true≢false (sym found)
-none_above (y ∷ ys) k few found = omega arith
 
 module _ {nodes : List Node} {lists : List (List ℕ)} (whole : IsWhole nodes lists) where
   -- what is in trees is below one of their roots
@@ -57,7 +52,7 @@ module _ {nodes : List Node} {lists : List (List ℕ)} (whole : IsWhole nodes li
 
         up : (d z : ℕ) → z < length lists → length (ancestors_of lists z) ≤ d → contains (ancestors_of lists z) top ≡ true →
             reaches ts (name_of_key nodes z) ≡ true
-        up zero z at_z deep h = absurd (none_above (ancestors_of lists z) top deep h)
+        up zero z at_z deep h = absurd (true≢false (sym h ∙ ap (λ ys. contains ys top) (nil_from_length (ancestors_of lists z) (omega arith))))
         up (suc d) z at_z deep h = elim (cases_Option (parent_of lists z)) [
           | inl e ↦ absurd (true≢false (sym h ∙ ap (λ ys. contains ys top) (ancestors_of-root lists z e)))
           | inr w ↦

@@ -1,11 +1,13 @@
 -- The keys of each owner's nodes, as their table holds them.
-use Rattle.std.specs.Prelude.{ℕ, ◌<◌, List, [], MatchOption}
-use Rattle.std.specs.HashMap.{get}
+use Rattle.std.specs.Prelude.{◌≡◌, ℕ, ◌<◌, List, [], Option, None, Some, Vec, slice_get, MatchOption}
+use Rattle.std.specs.Global.{Global}
+use Rattle.indexmap.specs.IndexMap.{get}
 use Rattle.std.specs.Vec.{vec_len, vec_capacity}
-use Rattle.std.specs.Option.{option_map_or, IsSome}
+use Rattle.std.specs.Option.{option_map_or}
 use Rattle.dom_base.specs.declared.Owner.{Owner}
 use Rattle.dom_base.specs.declared.Owner.TheVariants.{Page, Component}
 use Rattle.dom_base.specs.contracts.OwnerPartialEq.TheImpl as OwnerImpl
+use Rattle.node_arena.specs.declared.key.Key.{Key}
 use Rattle.dom_tree.specs.declared.table.KeyTable.{KeyTable}
 
 -- an owner's keys, in the order of their nodes' numbers
@@ -18,6 +20,7 @@ abbrev pub HasRoom : KeyTable → Owner → Type 0
 HasRoom t Page = vec_len t.page < vec_capacity t.page
 HasRoom t (Component k) = MatchOption (get OwnerImpl.ghosts.eq t.components (Component k)) ⊥ (λ v. vec_len v < vec_capacity v)
 
--- an owner has a list of keys
-abbrev pub HasList : KeyTable → Owner → Type 0
-HasList t o = IsSome (get OwnerImpl.ghosts.eq t.components o)
+-- an owner's list stands at this place among those of the components, or the owner has none
+abbrev pub StandsAt : KeyTable → Owner → Option ℕ → Type 0
+StandsAt t o None = get OwnerImpl.ghosts.eq t.components o ≡ None
+StandsAt t o (Some i) = (v : Vec Key Global) × (slice_get t.components.entries i ≡ Some (o, v)) × (get OwnerImpl.ghosts.eq t.components o ≡ Some v)

@@ -125,11 +125,11 @@ impl Forest {
         ensures value { name_of self.now result ≡ root_of self.now.trees (name_of self.now key) }
         ensures node { IsNode self.now result }
     {
-        let mut top = key;
-        while let Some(parent) = self.arena.parent(top) {
+        let mut top = self.arena.at(key);
+        while let Some(parent) = top.parent() {
             top = parent;
         }
-        top
+        top.key()
     }
 
     /// Whether a node is another one or stands above it (DOM Standard, concept: inclusive ancestor). Of a node

@@ -125,17 +125,14 @@ impl Forest {
         }
     }
 
-    /// How many children a node has.
+    /// How many children a node has: the siblings before the last of them, and this one.
     fn child_count(&self, key: Key) -> usize
         requires { IsNode self.now key }
         ensures { result ≡ length (children_of self.now.trees (name_of self.now key)) }
     {
-        let mut count = 0;
-        let mut at = self.arena.first(key);
-        while let Some(child) = at {
-            count += 1;
-            at = self.arena.next(child);
+        match self.arena.last(key) {
+            Some(last) => self.index(last) + 1,
+            None => 0,
         }
-        count
     }
 }

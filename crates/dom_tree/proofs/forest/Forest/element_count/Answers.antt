@@ -1,10 +1,10 @@
-use Rattle.dom_base.proofs.Std.{◌≡◌, ◌+◌, ap, sym, ◌∙◌, arith, refl, true, false, not, and_left, and_right, and_from}
+use Rattle.dom_base.proofs.Std.{◌≡◌, ℕ, ◌+◌, length, ap, sym, ◌∙◌, arith, refl, true, false, not, and_left, and_right, and_from}
 use Rattle.node_arena.specs.Nodes.{children_of, next_of}
 use Rattle.node_arena.proofs.Lists.{contains-head_of}
 use Rattle.dom_tree.specs.Definitions.{nodes_of}
-use Rattle.dom_tree.proofs.Walks.{children_left-fewer, among-next, few_children, none_left}
+use Rattle.dom_tree.proofs.Walks.{among-next, few_children, none_left}
 use Rattle.dom_tree.proofs.Kept.{within}
-use Rattle.dom_tree.proofs.Children.{rest_of, rest_of-none, rest_of-head, rest_of-next, tally, tally-nil, tally-yes, tally-no, tally-length}
+use Rattle.dom_tree.proofs.Children.{rest_of, rest_of-head, rest_of-next, tally, tally-yes, tally-no, tally-length}
 use Rattle.dom_tree.proofs.Children.{is_counted, is_counted-split, apart_test, shows_element_count}
 use Rattle.dom_tree.proofs.forest.Forest.element_count.Goals as goal
 use Rattle.dom_tree.proofs.forest.Forest.element_count.Goals.{then-is_element+then-ne, else-is_element, else-is_element-via-then-is_element+else-ne}
@@ -42,7 +42,11 @@ overflow_add-count c =
 
 pub loop-at-smaller : goal.loop-at-smaller
 loop-at-smaller c =
-    children_left-fewer c.self.invariant.kept.forest c.args.key c.loop-at.invariant.1 c.in-Some.child c.in-Some.is c.next-at.ensures.value
+    omega (
+      arith,
+      ap (length {A = ℕ})
+          (rest_of-next c.self.invariant.kept.forest c.args.key c.loop-at.invariant.1 c.in-Some.child c.in-Some.is c.next-at.ensures.value),
+    )
 
 pub loop-at-preserved : goal.loop-at-preserved
 loop-at-preserved c =
@@ -71,9 +75,7 @@ loop-at-preserved c =
 pub returns : goal.returns
 returns c =
     let ends = ap (tally (is_counted (nodes_of c.self.inside.arena.payloads) c.args.apart))
-    (ap (rest_of (children_of c.self.inside.arena.children c.args.key)) (none_left c.loop-at.at c.in_default.not-Some) ∙
-    rest_of-none (children_of c.self.inside.arena.children c.args.key)) ∙
-    tally-nil (is_counted (nodes_of c.self.inside.arena.payloads) c.args.apart) in
+    (ap (rest_of (children_of c.self.inside.arena.children c.args.key)) (none_left c.loop-at.at c.in_default.not-Some)) in
     let counted = c.loop-at.invariant.2 in
     let count : c.loop-at.count ≡ tally (is_counted (nodes_of c.self.inside.arena.payloads) c.args.apart)
     (children_of c.self.inside.arena.children c.args.key) = omega arith in

@@ -1,12 +1,11 @@
-use Rattle.dom_base.proofs.Std.{◌≡◌, ap, set, refl, Some, Result, Ok, Err, OnErr}
+use Rattle.dom_base.proofs.Std.{◌≡◌, ap, set, refl, Some, ◌∙◌}
 use Rattle.dom_model.proofs.Model.{inclusive_ancestors, children_of, node_in, with_attribute}
 use Rattle.dom_tree.specs.Definitions.{Stored, name_at, node_with}
-use Rattle.dom_tree.proofs.Setting.{IsKept-set_same, set_names}
-use Rattle.dom_tree.specs.Ids.{code_in}
+use Rattle.dom_tree.proofs.Setting.{IsKept-set_same, set_back}
 use Rattle.dom_tree.proofs.Kept.{seen, within}
-use Rattle.dom_tree.proofs.Noted.{noted-anew, noted-more, noted-set_same, set_in}
-use Rattle.dom_tree.proofs.Unchanged.{set_same}
+use Rattle.dom_tree.proofs.Noted.{noted-anew, noted-more, set_in}
 use Rattle.dom_tree.proofs.Holds.{IsChangedAt-stored}
+use Rattle.dom_tree.proofs.OwnerLists.{on_err}
 use Rattle.dom_tree.proofs.forest.Forest.set_attr.Goals as goal
 use Rattle.dom_tree.proofs.forest.Forest.set_attr.Goals.{After-from_residual-in_err-set_attribute}
 
@@ -17,12 +16,11 @@ invariant_of-self c = record {
 }
 
 pub invariant_of-self-in_err-set_attribute : goal.invariant_of-self-in_err-set_attribute
-invariant_of-self-in_err-set_attribute c = record {
-  kept = IsKept-set_same c.self.invariant.kept c.args.key _ c.payload_mut.ensures.value
-      (ap (λ (s : Stored). s.name) c.in_err-set_attribute.ensures.err) (ap (λ (s : Stored). s.node.document) c.in_err-set_attribute.ensures.err);
-  ids = noted-set_same c.args.key _ (noted-more c.self.invariant.ids c.note_value.ensures.widens
-      (within c.self.view_is c.self.invariant.kept c.args.key c.requires)) c.payload_mut.ensures.value (ap code_in c.in_err-set_attribute.ensures.err);
-}
+invariant_of-self-in_err-set_attribute c = rw (set_back c.self.inside.arena.payloads c.args.key _ c.set_attribute.new.self
+    c.payload_mut.ensures.value c.in_err-set_attribute.ensures.err) (record {
+      kept = c.self.invariant.kept;
+      ids = noted-more c.self.invariant.ids c.note_value.ensures.widens (within c.self.view_is c.self.invariant.kept c.args.key c.requires);
+    })
 
 pub invariant_of-self-2 : goal.invariant_of-self-2
 invariant_of-self-2 c = record {
@@ -32,17 +30,14 @@ invariant_of-self-2 c = record {
       (set_in c.args.name.now c.args.value.items) c.in_ok-set_attribute.ensures.ok c.in_ok-left.ensures.noted;
 }
 
-pub returns-in_err-set_attribute-clause-names : goal.returns-in_err-set_attribute-clause-names
-returns-in_err-set_attribute-clause-names c = set_names c.self.view_is c.self.invariant.kept c.args.key _ c.payload_mut.ensures.value
-    (ap (λ (s : Stored). s.name) c.in_err-set_attribute.ensures.err)
-
 -- a refused call leaves the forest
 left : (c : After-from_residual-in_err-set_attribute) →
     seen (set c.self.inside.arena.payloads c.args.key c.set_attribute.new.self) c.self.inside.arena.children ≡ c.args.self.now
-left c =
-    set_same c.self.view_is c.self.invariant.kept
-    (record { at = c.payload_mut.ensures.value; name_kept = ap (λ (s : Stored). s.name) c.in_err-set_attribute.ensures.err })
-    (ap (λ (s : Stored). node_with c.args.self.now.names s.name s.node) c.in_err-set_attribute.ensures.err)
+left c = ap (λ ps. seen ps c.self.inside.arena.children) (set_back c.self.inside.arena.payloads c.args.key _ c.set_attribute.new.self
+    c.payload_mut.ensures.value c.in_err-set_attribute.ensures.err) ∙ c.self.view_is
+
+pub returns-in_err-set_attribute-clause-names : goal.returns-in_err-set_attribute-clause-names
+returns-in_err-set_attribute-clause-names c = ap (λ g. g.names) (left c)
 
 pub returns-in_err-set_attribute-clause-above : goal.returns-in_err-set_attribute-clause-above
 returns-in_err-set_attribute-clause-above c = λ x. ap (λ g. inclusive_ancestors g.trees x) (left c)
@@ -54,11 +49,7 @@ pub returns-in_err-set_attribute-clause-held : goal.returns-in_err-set_attribute
 returns-in_err-set_attribute-clause-held c = λ k node other. let f = c.args.self.now in ap (λ g. node_in g.trees (name_at f.names k)) (left c)
 
 pub returns-in_err-set_attribute-clause-err : goal.returns-in_err-set_attribute-clause-err
-returns-in_err-set_attribute-clause-err c = on_any c.from_residual-in_err-set_attribute.result (left c)
-  where
-    on_any : {T E P : Type 0} (r : Result T E) → P → OnErr r P
-    on_any (Ok x) p = tt
-    on_any (Err e) p = p
+returns-in_err-set_attribute-clause-err c = on_err c.from_residual-in_err-set_attribute.result (left c)
 
 pub returns : goal.returns
 returns c =
