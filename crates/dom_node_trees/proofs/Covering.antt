@@ -46,9 +46,7 @@ covered_more d y done ts = map_nodes_then (λ n. cond (name_eq n.name y) (under_
             → (let m = cond (is_in name_eq n.name done) (with_document d n) n in cond (name_eq m.name y) (under_document (Some d) m) m) ≡ cond
             (is_in name_eq n.name done || name_eq n.name y) (with_document d n) n
         by true true p q = rw (p, q) refl
-        by true false p q = rw (p, q) refl
-        by false true p q = rw (p, q) refl
-        by false false p q = rw (p, q) refl
+        by a b p q = rw (p, q) refl
 
 covered_keeps : (d : NodeName) (done : List NodeName) (n : Node) → (cond (is_in name_eq n.name done) (with_document d n) n).name ≡ n.name
 covered_keeps d done n = by (is_in name_eq n.name done)

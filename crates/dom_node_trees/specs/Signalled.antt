@@ -1,5 +1,5 @@
 -- What is held after a step has signalled slots.
-use Rattle.std.specs.Prelude.{◌≡◌, ℕ, true, List, [], fold, All, Option, option_map}
+use Rattle.std.specs.Prelude.{◌≡◌, ℕ, true, List, [], fold, All, Option, None, option_map}
 use Rattle.dom_base.specs.declared.NodeName.{NodeName}
 use Rattle.dom_model.specs.Names.{name_eq, is_in, append_once}
 use Rattle.dom_model.specs.Tree.{Trees, none}
@@ -15,7 +15,7 @@ use Rattle.dom_node_trees.specs.declared.steps.NodeTrees.{NodeTrees}
 abbrev pub no_trees : NodeTrees
 no_trees = record {
   forest = record { names = []; trees = none };
-  slots = record { hosts = []; table = []; bare = []; alone = [] };
+  slots = record { hosts = []; table = []; bare = []; index = []; parked = None };
   signalled = [];
   queue = [];
 }

@@ -1,5 +1,5 @@
 -- An owner's tables as a `Doc` holds them, with keys in place of names.
-use Rattle.std.specs.Prelude.{◌≡◌, ℕ, ◌≤◌, List, [], length, map, Result, OnOk, OnErr}
+use Rattle.std.specs.Prelude.{◌≡◌, ℕ, ◌≤◌, List, [], length, map, None, Result, OnOk, OnErr}
 use Rattle.dom_base.specs.declared.Owner.{Owner}
 use Rattle.dom_base.specs.declared.NodeName.{NodeName}
 use Rattle.dom_model.specs.Tree.{Trees, none}
@@ -72,7 +72,7 @@ with_signals tables t = record tables { tasks = t.queue; slots = t.slots; signal
 
 -- no hosts
 abbrev pub no_slots : SlotsNow
-no_slots = record { hosts = []; table = []; bare = []; alone = [] }
+no_slots = record { hosts = []; table = []; bare = []; index = []; parked = None }
 
 -- where the page alone is there, and has none
 abbrev pub first_tables : AllTables

@@ -2,15 +2,17 @@
 use Rattle.dom_base.proofs.Std.{◌≡◌, ◌⊎◌, inl, inr, ℕ, ◌+◌, ◌<◌, ◌≤◌, Bool, true, false, List, [], ◌∷◌, ◌++◌, All, map, filter, drop, length, Option, Some}
 use Rattle.dom_base.proofs.Std.{None, refl, sym, ap, subst, ◌∙◌, arith, nat_eq, find, if◌then◌else◌, option_to_list, unwrap_or, option_map, option_map_or}
 use Rattle.dom_base.proofs.Std.{option_and_then, option_or, cases_Bool, cond-false, eqb-true, length_push, All-head, All-tail, find-append, get_or-append}
-use Rattle.dom_base.proofs.Std.{eq-or-lt_of_le, get_or-append_seam}
+use Rattle.dom_base.proofs.Std.{eq-or-lt_of_le, get_or-append_seam, cases_lt, none-some}
 use Rattle.dom_model.proofs.Model.{NodeName, Page, name_eq, name_before, node_of, is_in, first_of, last_of, Trees, none, tree, Node, nodes, roots, names_of}
 use Rattle.dom_model.proofs.Model.{no_node, node_in, or_else, subtree, inclusive_ancestors, parent_of, root_of, trees_below, children_of, with_node, put_root}
-use Rattle.dom_model.proofs.Model.{is_slot_element, has_slot_name, slot_name, slots_among, slot_in, name_eq-other}
+use Rattle.dom_model.proofs.Model.{is_slot_element, slot_name, slots_among, slot_in, name_eq-other}
 use Rattle.dom_tree.specs.Definitions.{NamedTrees, name_at}
-use Rattle.dom_tree.proofs.Standing.{Once-forest}
-use Rattle.dom_laws.proofs.Laws.{name_eq-from, same_or_not, above-put_others, once_apart, Has, above-absent, subtree-absent, Once}
+use Rattle.dom_tree.proofs.Standing.{Once-forest, Has-forest}
+use Rattle.dom_laws.proofs.Laws.{name_eq-from, same_or_not, above-put_others, once_apart, Has, above-absent, subtree-absent, Once, In, filter-same}
+use Rattle.dom_laws.proofs.Laws.{parent-of_child}
 use Rattle.dom_slots.specs.Definitions.{ShadowHost, HostsAreNodes, host_named, root_named, host_of_root, SlotsNow, HasOneMore, AreSlotsOf, IsBare, ShadowTrees}
-use Rattle.dom_slots.specs.Definitions.{shadow_trees, slot_at, assigned_at, assigned_under, list_of, IsAlone}
+use Rattle.dom_slots.specs.Definitions.{shadow_trees, slot_at, assigned_at, assigned_under, list_of, bearer_at, MayHave, name_code}
+use Rattle.dom_slots.specs.Definitions.{IsParked, ParkedNow, looks_for}
 use Rattle.dom_slots.proofs.Hosted.{host-key, root-key}
 
 -- ---- a tree of one node among others
@@ -221,6 +223,22 @@ module _ (names : List NodeName) (ts : Trees) (hosts : List ShadowHost) (n : Nod
       (path_alone n n.name ts off)
       ∙ ap (λ o. option_map_or (assigned_under now n.name) o []) (host_kept names n.name hosts nodes n.name ∙ not_hosted names n.name new hosts nodes)
 
+-- a key that was no node yet has no host
+pub unhosted-beyond : (names : List NodeName) (hosts : List ShadowHost) → HostsAreNodes names hosts → (k : ℕ) → length names ≤ k → host_of_root hosts k ≡ None
+unhosted-beyond names [] nodes k far = refl
+unhosted-beyond names (h ∷ hosts) nodes k far = elim (cases_Bool (nat_eq k h.root)) [
+  | inl e ↦ let same = eqb-true k h.root e in let within = nodes.1 in absurd (omega arith)
+  | inr e ↦ rw e (unhosted-beyond names hosts nodes.2 k far)
+]
+
+-- so a shadow root is a node
+pub hosted-within : (names : List NodeName) (hosts : List ShadowHost) → HostsAreNodes names hosts → (r h : ℕ) → host_of_root hosts r ≡ Some h →
+    r < length names
+hosted-within names hosts nodes r h e = elim (cases_lt r (length names)) [
+  | inl l ↦ l
+  | inr far ↦ absurd (none-some h (sym (unhosted-beyond names hosts nodes r far) ∙ e))
+]
+
 -- ---- the slots of a forest with one node more
 
 module _ (f g : NamedTrees) (n : Node) (one : HasOneMore f g n) where
@@ -259,7 +277,13 @@ module _ (f g : NamedTrees) (n : Node) (one : HasOneMore f g n) where
               slots = λ k within. bare_still r old k
                   (let at : k ≤ length f.names = omega (arith, within, length_push f.names n.name) in eq-or-lt_of_le at);
             };
-        alone = λ r a e. alone_still r a (slots.alone r a e);
+        index = record {
+          covered = λ r k h root within hosted at slot.
+              covered k (hosted-within f.names s.hosts slots.hosts r h hosted)
+              (let below : k ≤ length f.names = omega (arith, within, length_push f.names n.name) in eq-or-lt_of_le below) hosted at slot;
+          inside = λ h k only. longer f.names n.name k (slots.index.inside h k only);
+        };
+        parked = λ p is. parked_still p (slots.parked p is);
       }
     where
       -- the new node is its own root, and others have the roots that they had and are the same
@@ -292,22 +316,43 @@ module _ (f g : NamedTrees) (n : Node) (one : HasOneMore f g n) where
       bare_still r old k (inl e) at = absurd (apart r old.node e at)
       bare_still r old k (inr within) at = ap is_slot_element (node_still k within) ∙ old.slots k within (root_still r k old.node within at)
 
-      alone_still : (r a : ℕ) → IsAlone f s.hosts r a → IsAlone record { names = f.names ++ n.name ∷ []; trees = with_node n f.trees } s.hosts r a
-      alone_still r a old = record {
-        hosted = old.hosted;
-        root = longer f.names n.name r old.root;
-        node = longer f.names n.name a old.node;
-        slots = λ at slot k within at_k named.
-            elim (let below : k ≤ length f.names = omega (arith, within, length_push f.names n.name) in eq-or-lt_of_le below) [
-              | inl e ↦ absurd (apart r old.root e at_k)
-              | inr there ↦
-                  let same = node_still a old.node in
-                  name_kept f.names n.name k there
-                  ∙ (old.slots (root_still r a old.root old.node at) (sym (ap is_slot_element same) ∙ slot) k there (root_still r k old.root there at_k)
-                  ((λ j. has_slot_name (slot_name (sym same j)) (sym (node_still k there) j)) ∙ named)
-                  ∙ sym (name_kept f.names n.name a old.node))
-            ];
-      }
+      covered : {r h : ℕ} (k : ℕ) → r < length f.names → (k ≡ length f.names) ⊎ (k < length f.names) → host_of_root s.hosts r ≡ Some h →
+          root_of (with_node n f.trees) (name_at (f.names ++ n.name ∷ []) k) ≡ name_at (f.names ++ n.name ∷ []) r →
+          is_slot_element (node_in (with_node n f.trees) (name_at (f.names ++ n.name ∷ []) k)) ≡ true →
+          MayHave (bearer_at s.index (name_code r (slot_name (node_in (with_node n f.trees) (name_at (f.names ++ n.name ∷ []) k))))) k
+      covered {r} k root (inl e) hosted at slot = absurd (apart r root e at)
+      covered {r} {h} k root (inr there) hosted at slot =
+          subst (λ (m : Node). MayHave (bearer_at s.index (name_code r (slot_name m))) k) (sym (node_still k there))
+          (slots.index.covered r k h root there hosted (root_still r k root there at) (sym (ap is_slot_element (node_still k there)) ∙ slot))
+
+      parked_still : (p : ParkedNow) → IsParked f s.hosts p → IsParked record { names = f.names ++ n.name ∷ []; trees = with_node n f.trees } s.hosts p
+      parked_still p old =
+          let top = name_at f.names p.host in
+          let wants : Node → NodeName → Bool = λ m y. looks_for (slot_name m) (node_in f.trees y) in
+          let wants_now : Node → NodeName → Bool = λ m y. looks_for (slot_name m) (node_in (with_node n f.trees) y) in
+          let slot = node_in f.trees (name_at f.names p.slot) in
+          let same : children_of (with_node n f.trees) top ≡ children_of f.trees top =
+          ap (λ t. names_of (roots (trees_below t)))
+          (tree_other f.names f.trees s.hosts n slots.hosts new_name new_node top (λ e. new_name p.host old.host (sym e))) in
+          let there : Has (with_node n f.trees) top = subst (λ ts. Has ts top) trees (subst (Has g.trees) (ap (λ ns. name_at ns p.host) names ∙
+          name_kept f.names n.name p.host old.host) (Has-forest g stands.once p.host (subst (λ ns. p.host < length ns) (sym names)
+          (longer f.names n.name p.host old.host)))) in
+          let other : (y : NodeName) → In y (children_of f.trees top) → n.name ≡ y → ⊥ = λ y i e.
+          none-some top (sym (ap (λ path. first_of (drop 1 path)) (path_alone n n.name f.trees new_node))
+          ∙ (parent-of_child (with_node n f.trees) top n.name (subst Once trees (Once-forest g stands.once stands.only)) there
+          (subst (In n.name) (sym same) (subst (λ z. In z (children_of f.trees top)) (sym e) i))).0) in
+          record {
+            hosted = old.hosted;
+            slot = longer f.names n.name p.slot old.slot;
+            host = longer f.names n.name p.host old.host;
+            nodes = all_longer f.names n.name p.list old.nodes;
+            list = names_kept f.names n.name p.list old.nodes ∙ (old.list
+                ∙ (filter-same (wants slot) (wants_now slot) (children_of f.trees top)
+                (λ y i. ap (looks_for (slot_name slot)) (sym (node_other f.names f.trees s.hosts n slots.hosts new_name new_node y (other y i))))
+                ∙ sym (ap (λ m. filter (wants_now m) (children_of (with_node n f.trees) (name_at (f.names ++ n.name ∷ []) p.host)))
+                (node_still p.slot old.slot)
+                ∙ ap (filter (wants_now slot)) (ap (children_of (with_node n f.trees)) (name_kept f.names n.name p.host old.host) ∙ same))));
+          }
 
       by : (k : ℕ) → (k ≡ length f.names) ⊎ (k < length f.names)
           → map (name_at (f.names ++ n.name ∷ [])) (list_of s.table k) ≡ assigned_at
@@ -333,11 +378,3 @@ module _ (f g : NamedTrees) (n : Node) (one : HasOneMore f g n) where
       ap (λ x. slots_among (subtree g.trees x)) name
       ∙ (ap (λ ts. slots_among (subtree ts n.name)) trees
       ∙ (ap slots_among (subtree_alone n n.name f.trees new_node) ∙ ap (λ (b : Bool). names_of (if b then n ∷ [] else [])) no_slot))
-
--- a key that was no node yet has no host
-pub unhosted-beyond : (names : List NodeName) (hosts : List ShadowHost) → HostsAreNodes names hosts → (k : ℕ) → length names ≤ k → host_of_root hosts k ≡ None
-unhosted-beyond names [] nodes k far = refl
-unhosted-beyond names (h ∷ hosts) nodes k far = elim (cases_Bool (nat_eq k h.root)) [
-  | inl e ↦ let same = eqb-true k h.root e in let within = nodes.1 in absurd (omega arith)
-  | inr e ↦ rw e (unhosted-beyond names hosts nodes.2 k far)
-]

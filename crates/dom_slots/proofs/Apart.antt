@@ -15,9 +15,10 @@ use Rattle.dom_slots.specs.declared.step.Step.{Step}
 use Rattle.dom_slots.specs.declared.step.Step.TheVariants.{Place, Removal, Attribute}
 use Rattle.dom_slots.proofs.Attributed.{parent-changed, changed-keeps, changed-stays}
 use Rattle.dom_slots.proofs.Choices.{third-fails}
-use Rattle.dom_slots.proofs.Ended.{told-signals, there-was, there-now, both-stand, not-own, none-own, but-for, others-among, renewed-table}
+use Rattle.dom_slots.proofs.Ended.{told-signals, node-within, there-was, there-now, both-stand, not-own, none-own, but-for, others-among, renewed-table}
 use Rattle.dom_slots.proofs.Moved.{IsAside, Outside, root-aside, moved-keeps}
 use Rattle.dom_slots.proofs.OwnSignals.{own-signalled}
+use Rattle.dom_slots.proofs.Rooted.{root-alone, root-parent}
 use Rattle.dom_slots.proofs.Settled.{KeepsAssigned, assigned-kept}
 use Rattle.dom_slots.proofs.Signalled.{fold-distinct}
 use Rattle.dom_slots.proofs.Stepping.{removal-unparented, removal-so, place-so, place-root, attribute-name}
@@ -66,6 +67,9 @@ module _ (was : Trees) (f : NamedTrees) (s : SlotsNow) (b : SlotChange) (ended :
     (apart : is_apart (shadows f s.hosts) (name_at f.names (step_node b.step)) (option_map (name_at f.names) b.left) ≡ true) where
   abbrev x : NodeName
   x = name_at f.names (step_node b.step)
+
+  here : Has f.trees x
+  here = there-now was f s b ended stands (step_node b.step) (node-within f.names b.step ended.nodes)
 
   tests : (host_named f.names s.hosts x ≡ None) × Outside f.names s.hosts f.trees (option_map (name_at f.names) b.left) ×
       Outside f.names s.hosts f.trees (parent_of f.trees x)
@@ -149,6 +153,14 @@ module _ (was : Trees) (f : NamedTrees) (s : SlotsNow) (b : SlotChange) (ended :
                 (subst (λ (ts : Trees). Has ts z) is.2 (there-now was f s b ended stands y nodes)) v h i
                 (ap (λ o. is_in name_eq v (option_to_list o)) same)),
           )
+
+  -- the root of the node is no shadow root
+  pub apart-root : host_named f.names s.hosts (root_of f.trees x) ≡ None
+  apart-root = by (parent_of f.trees x) refl
+    where
+      by : (o : Option NodeName) → parent_of f.trees x ≡ o → host_named f.names s.hosts (root_of f.trees x) ≡ None
+      by None e = ap (host_named f.names s.hosts) (root-alone f.trees x here e) ∙ tests.0
+      by (Some p) e = ap (host_named f.names s.hosts) (root-parent f.trees (both-stand was f s b ended stands).once_now x p here e) ∙ tests.2 p e
 
   abbrev own : List NodeName
   own = own_slots f s.hosts b.slot b.step

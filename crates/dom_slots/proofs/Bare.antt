@@ -6,9 +6,12 @@ use Rattle.dom_model.proofs.Model.{NodeName, Page, node_of, is_empty, first_of, 
 use Rattle.dom_model.proofs.Model.{roots, names_of, node_in, subtree, parent_of, root_of, children_of, trees_below, inclusive_descendants, with_attribute}
 use Rattle.dom_tree.specs.Definitions.{NamedTrees, name_at, TellApart}
 use Rattle.dom_laws.proofs.Laws.{In, is_in-from, Has, Has-names, In-names, Has-subtree, Once}
-use Rattle.dom_slots.specs.Definitions.{ShadowHost, MovesNone, SlotsNow, StandsOnce, IsEndOf, IsBare, AreBare, is_marked, StepHasNodes, step_node, is_move}
+use Rattle.dom_slots.specs.Definitions.{ShadowHost, IsMoved, is_nothing, MovesNone, SlotsNow, StandsOnce, IsEndOf, IsBare, AreBare, is_marked}
+use Rattle.dom_slots.specs.Definitions.{StepHasNodes, step_node, is_move}
 use Rattle.dom_slots.specs.Definitions.{left_by, IsStepFrom}
 use Rattle.dom_slots.specs.Steps.{is_light}
+use Rattle.dom_slots.specs.declared.slots.bare.Moved.{Moved}
+use Rattle.dom_slots.specs.declared.slots.bare.Moved.TheVariants.{NoSlot, Apart, Slots}
 use Rattle.dom_slots.specs.declared.step.SlotChange.{SlotChange}
 use Rattle.dom_slots.specs.declared.step.Step.{Step}
 use Rattle.dom_slots.specs.declared.step.Step.TheVariants.{Place, Removal, Attribute}
@@ -20,10 +23,15 @@ use Rattle.dom_slots.proofs.Looks.{changed-slot}
 use Rattle.dom_slots.proofs.Moved as Moved
 use Rattle.dom_slots.proofs.Moved.{AreBoth, node-of_tree, not-below}
 use Rattle.dom_slots.proofs.NamesOfNodes.{named-filter}
-use Rattle.dom_slots.proofs.PlacedTrees.{Spot, grafted}
+use Rattle.dom_slots.proofs.PlacedTrees.{Spot, grafted, others}
 use Rattle.dom_slots.proofs.Recast.{path_recast}
 use Rattle.dom_slots.proofs.Rooted.{root-alone, root-parent, root-below, in-tree_of_root}
 use Rattle.dom_slots.proofs.Stepping.{removal-so, place-so, attribute-name}
+
+-- a list with no item
+pub no_items : (ys : List NodeName) → ((y : NodeName) → In y ys → ⊥) → ys ≡ []
+no_items [] nobody = refl
+no_items (y ∷ ys) nobody = absurd (nobody y (inl refl))
 
 -- ---- a tree without slots
 
@@ -54,11 +62,12 @@ some_host h (g ∷ hosts) e = true≢false (sym (ap is_empty e))
 
 -- ---- a tree that is moved
 
--- its own nodes stay below it, other nodes have the roots that they had, and each node is the same
-record IsCarried (x : NodeName) (was now : Trees) : Type 0 where
-  own : subtree was x ≡ subtree now x
-  roots : (y : NodeName) → (Has (subtree now x) y → ⊥) → root_of was y ≡ root_of now y
-  nodes : (y : NodeName) → Has was y → Has now y → node_in was y ≡ node_in now y
+-- its own nodes stay below it, other nodes have the roots and the children that they had, and each node is the same
+pub record IsCarried (x : NodeName) (was now : Trees) : Type 0 where
+  pub children : (h : NodeName) → others x (children_of was h) ≡ others x (children_of now h)
+  pub own : subtree was x ≡ subtree now x
+  pub roots : (y : NodeName) → (Has (subtree now x) y → ⊥) → root_of was y ≡ root_of now y
+  pub nodes : (y : NodeName) → Has was y → Has now y → node_in was y ≡ node_in now y
 
 module _ (names : List NodeName) (hosts : List ShadowHost) (m : Node) (d us : Trees) (p q : Spot)
     (apart : (y : NodeName) → Has us y → Has (tree m d none) y → ⊥)
@@ -67,12 +76,19 @@ module _ (names : List NodeName) (hosts : List ShadowHost) (m : Node) (d us : Tr
   carried =
       let own = Moved.own_tree names hosts m d us p q apart both in
       record {
+        children = Moved.children_same names hosts m d us p q apart both;
         own = own p ∙ sym (own q);
         roots = λ y off. Moved.root_same names hosts m d us p q apart both y (λ i. off (subst (λ (ts : Trees). Has ts y) (sym (own q)) i));
         nodes = Moved.contents_same names hosts m d us p q apart both;
       }
 
 -- ---- a step
+
+-- where it is known that no slot was moved, none was
+pub none_known : (f : NamedTrees) (hosts : List ShadowHost) (b : SlotChange) (m : Moved) → is_nothing m ≡ true → IsMoved f hosts b m → MovesNone f hosts b.step
+none_known f hosts b NoSlot e still = still
+none_known f hosts b Apart e is = absurd (true≢false (sym e))
+none_known f hosts b (Slots v) e is = absurd (true≢false (sym e))
 
 module _ (was : Trees) (f : NamedTrees) (s : SlotsNow) (b : SlotChange) (ended : IsEndOf was f s b) (stands : StandsOnce f) where
   abbrev x : NodeName
@@ -81,13 +97,13 @@ module _ (was : Trees) (f : NamedTrees) (s : SlotsNow) (b : SlotChange) (ended :
   pub both : AreBoth f.names s.hosts was f.trees
   both = both-stand was f s b ended stands
 
-  here-was : Has was x
+  pub here-was : Has was x
   here-was = there-was was f s b ended stands (step_node b.step) (node-within f.names b.step ended.nodes)
 
   pub here-now : Has f.trees x
   here-now = there-now was f s b ended stands (step_node b.step) (node-within f.names b.step ended.nodes)
 
-  carries : is_move b.step ≡ true → IsCarried x was f.trees
+  pub carries : is_move b.step ≡ true → IsCarried x was f.trees
   carries = by b.step ended.nodes ended.step
     where
       by : (step : Step) → StepHasNodes f.names step → IsStepFrom f.names was f.trees step → is_move step ≡ true →
@@ -150,16 +166,20 @@ module _ (was : Trees) (f : NamedTrees) (s : SlotsNow) (b : SlotChange) (ended :
   pub bare-unmoved : is_move b.step ≡ false → AreBare f s.hosts s.bare
   bare-unmoved no_move r e = bare-kept r (ended.slots.bare r e) (λ k within slot at moves. absurd (true≢false (sym moves ∙ no_move)))
 
-  -- the root of the tree in which the node stood
-  root-was : (top : ℕ) → is_move b.step ≡ true
-      → name_at f.names top ≡ option_map_or (λ k. root_of f.trees (name_at f.names k)) b.left x → root_of was x ≡ name_at f.names top
-  root-was top moves is = by b.left (ended.begun.left ∙ left_of b.step moves) is
+  -- the parent that the node had
+  pub left-parent : is_move b.step ≡ true → option_map (name_at f.names) b.left ≡ parent_of was x
+  left-parent moves = ended.begun.left ∙ left_of b.step moves
     where
       left_of : (step : Step) → is_move step ≡ true → left_by f.names was step ≡ parent_of was (name_at f.names (step_node step))
       left_of (Place z parent next) e = refl
       left_of (Removal z) e = refl
       left_of (Attribute z) e = absurd (true≢false (sym e))
 
+  -- the root of the tree in which the node stood
+  pub root-was : (top : ℕ) → is_move b.step ≡ true
+      → name_at f.names top ≡ option_map_or (λ k. root_of f.trees (name_at f.names k)) b.left x → root_of was x ≡ name_at f.names top
+  root-was top moves is = by b.left (left-parent moves) is
+    where
       by : (o : Option ℕ) → option_map (name_at f.names) o ≡ parent_of was x →
           name_at f.names top ≡ option_map_or (λ k. root_of f.trees (name_at f.names k)) o x → root_of was x ≡ name_at f.names top
       by None e named = root-alone was x here-was (sym e) ∙ sym named
@@ -174,10 +194,6 @@ module _ (was : Trees) (f : NamedTrees) (s : SlotsNow) (b : SlotChange) (ended :
       → name_at f.names top ≡ option_map_or (λ k. root_of f.trees (name_at f.names k)) b.left x → MovesNone f s.hosts b.step
   bare-moved top moves mark is = inl (no_items (slots_among (subtree f.trees x)) off)
     where
-      no_items : (ys : List NodeName) → ((y : NodeName) → In y ys → ⊥) → ys ≡ []
-      no_items [] nobody = refl
-      no_items (y ∷ ys) nobody = absurd (nobody y (inl refl))
-
       off : (y : NodeName) → In y (slots_among (subtree f.trees x)) → ⊥
       off y i =
           let d = in_filter (λ z. is_slot_element (node_in f.trees z)) y (inclusive_descendants f.trees x)

@@ -17,7 +17,7 @@ use Rattle.dom_slots.proofs.Hosted.{named-key, host-key}
 use Rattle.dom_slots.proofs.Moved.{AreBoth}
 use Rattle.dom_slots.proofs.Settled.{KeepsBut}
 use Rattle.dom_slots.proofs.Signalled.{list_eq-self}
-use Rattle.dom_slots.proofs.Within.{slots-within}
+use Rattle.dom_slots.proofs.TreeSlots.{slot-stands}
 
 -- the node of a step is a node
 pub node-within : (names : List NodeName) (step : Step) → StepHasNodes names step → step_node step < length names
@@ -153,7 +153,7 @@ module _ (was : Trees) (f : NamedTrees) (s : SlotsNow) (b : SlotChange) (ended :
         ∙ ap not (list_eq-self (assigned_at after (name_at f.names found.0)))))))
 
     pub others-among : (top y : NodeName) → In y (slots_among (subtree f.trees top)) → is-other y ≡ true → is_in name_eq y slots ≡ true
-    others-among top y i = slots-within (λ u. is-other u ≡ true → is_in name_eq u slots ≡ true) f.trees other-among top y i
+    others-among top y i = other-among y (slot-stands f both-stand.once_now top y i)
 
     -- where the lists of these are renewed the table is that of the trees now
     pub renewed-table : (told : List NodeName) (table : SlotTable) (keys : List ℕ) → AreRenewed f s.hosts is-other s.table slots told table keys →

@@ -1,10 +1,10 @@
 -- Where there are no hosts, nothing is assigned and no slot is signalled.
 use Rattle.dom_base.proofs.Std.{◌≡◌, Bool, false, ◌&&◌, List, [], ◌∷◌, ◌++◌, Option, None, Some, filter, refl, sym, ap, ◌∙◌, ℕ, if◌then◌else◌, is_some}
-use Rattle.dom_base.proofs.Std.{option_to_list, option_map_or}
-use Rattle.dom_tree.specs.Definitions.{name_at}
+use Rattle.dom_base.proofs.Std.{option_to_list, option_map_or, none-some}
+use Rattle.dom_tree.specs.Definitions.{NamedTrees, name_at}
 use Rattle.dom_model.proofs.Model.{NodeName, name_eq, distinct, is_empty, is_slot_element, slots_among, Trees, node_in, root_of, subtree}
 use Rattle.dom_slots.specs.Definitions.{ShadowTrees, shadow_trees, slot_at, assigned_at, is_changed_at, is_bare_at, signals_at, step_node, around_of, is_move}
-use Rattle.dom_slots.specs.Definitions.{step_signals}
+use Rattle.dom_slots.specs.Definitions.{step_signals, SlotsNow, AreSlotsOf, host_of_root}
 use Rattle.dom_slots.specs.declared.step.Step.{Step}
 use Rattle.dom_slots.proofs.Choices.{third-fails}
 
@@ -38,3 +38,21 @@ hostless-signals names was now step left = by (around_of step left)
         (is_move step)) o []
     by None = refl
     by (Some around) = hostless-around names was now (name_at names (step_node step)) (name_at names around) (is_move step)
+
+-- and they stay the slots of the trees
+pub hostless-slots : {was : Trees} {f : NamedTrees} {s : SlotsNow} → s.hosts ≡ [] → AreSlotsOf record { names = f.names; trees = was } s → AreSlotsOf f s
+hostless-slots {was} {f} {s} none slots = record {
+  hosts = slots.hosts;
+  table = record {
+    nodes = slots.table.nodes;
+    lists = λ k within. slots.table.lists k within ∙ (ap (λ hs. assigned_at (shadow_trees f.names was hs) (name_at f.names k)) none
+        ∙ sym (ap (λ hs. assigned_at (shadow_trees f.names f.trees hs) (name_at f.names k)) none));
+    beyond = slots.table.beyond;
+  };
+  bare = λ r e. absurd ((slots.bare r e).hosted none);
+  index = record {
+    covered = λ r k h root within hosted. absurd (none-some h (sym (ap (λ hs. host_of_root hs r) none) ∙ hosted));
+    inside = slots.index.inside;
+  };
+  parked = λ p is. absurd ((slots.parked p is).hosted none);
+}

@@ -11,7 +11,6 @@ mod Signalled
 mod Entering
 mod Ended
 mod OwnSignals
-mod Within
 mod Renewing
 mod Hostless
 mod Attaching
@@ -41,4 +40,5 @@ mod Serving
 mod TreeSlots
 mod Waited
 mod Bare
-mod Alone
+mod Indexed
+mod Parked

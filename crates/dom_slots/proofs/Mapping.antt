@@ -20,8 +20,7 @@ in-without n k (x ∷ xs) = by (nat_eq x n) refl (nat_eq k x) refl (in-without n
   where
     gone : (b m : Bool) → (m && not b) ≡ ((b || m) && not b)
     gone true true = refl
-    gone true false = refl
-    gone false m = refl
+    gone b m = refl
 
     by : (d : Bool) → nat_eq x n ≡ d → (e : Bool) → nat_eq k x ≡ e → is_in nat_eq k (without n xs) ≡ (is_in nat_eq k xs && not (nat_eq n k))
         → is_in nat_eq k (if not d then x ∷ without n xs else without n xs) ≡ ((e || is_in nat_eq k xs) && not (nat_eq n k))
@@ -42,21 +41,17 @@ taken-member n k false xs = sym (and_true (is_in nat_eq k xs))
     and_true false = refl
 
 or_last : (m d : Bool) → (m || (d || false)) ≡ (m || d)
-or_last true d = refl
 or_last false true = refl
-or_last false false = refl
+or_last m d = refl
 
 in-put : (n b k : ℕ) (xs : List ℕ) → is_in nat_eq k (put_before xs n b) ≡ (is_in nat_eq k xs || nat_eq n k)
 in-put n b k [] = or_last false (nat_eq k n) ∙ nat_eq-turned k n
 in-put n b k (x ∷ xs) = by (nat_eq x b) (in-put n b k xs)
   where
     turned : (d e m : Bool) → (d || (e || m)) ≡ ((e || m) || d)
-    turned true true m = refl
     turned true false true = refl
-    turned true false false = refl
-    turned false true m = refl
     turned false false true = refl
-    turned false false false = refl
+    turned d e m = refl
 
     along : (e m d : Bool) → (e || (m || d)) ≡ ((e || m) || d)
     along true m d = refl
@@ -95,9 +90,8 @@ no-member (x ∷ xs) k e = absurd (none-some x (sym e))
 
 and_turned : (c d : Bool) → (c && d) ≡ (d && c)
 and_turned true true = refl
-and_turned true false = refl
 and_turned false true = refl
-and_turned false false = refl
+and_turned c d = refl
 
 -- a node has just the slots in whose lists it stands
 abbrev pub Agree : (ℕ → List ℕ) → (ℕ → List ℕ) → Type 0
@@ -135,8 +129,7 @@ AreGiven was slot nodes now = (k s : ℕ) → is_in nat_eq s (now k) ≡ (is_in 
 -- from no nodes it is taken from none
 pub none_taken : (a d : Bool) → a ≡ (a && not (d && false))
 none_taken true true = refl
-none_taken true false = refl
-none_taken false d = refl
+none_taken a d = refl
 
 -- a number that stands at a place of a list is among its members
 pub listed-at : (n : ℕ) (nodes : List ℕ) (i : ℕ) → n ≡ get_or nodes i n → i < length nodes → is_in nat_eq n nodes ≡ true
@@ -145,7 +138,7 @@ listed-at n (x ∷ xs) zero at within = or_left (nat_eq n x) (is_in nat_eq n xs)
 listed-at n (x ∷ xs) (suc i) at within = or_right (nat_eq n x) (is_in nat_eq n xs) (listed-at n xs i at (omega (arith, within)))
 
 -- members of the first items and one more
-in-more : (k : ℕ) (nodes : List ℕ) (i n : ℕ) → n ≡ get_or nodes i n → i < length nodes →
+pub in-more : (k : ℕ) (nodes : List ℕ) (i n : ℕ) → n ≡ get_or nodes i n → i < length nodes →
     is_in nat_eq k (take (i + 1) nodes) ≡ (is_in nat_eq k (take i nodes) || nat_eq n k)
 in-more k nodes i n at within =
     ap (is_in nat_eq k) (take_more nodes i n within ∙ ap (λ j. take i nodes ++ j ∷ []) (sym at))
@@ -163,12 +156,9 @@ module _ (was : ℕ → List ℕ) (slot : ℕ) (nodes : List ℕ) (i n : ℕ) (a
       ap (λ m. is_in nat_eq s (was k) && not (nat_eq slot s && m)) (sym (in-more k nodes i n at within)))))
     where
       both : (a d m e : Bool) → ((a && not (d && m)) && not (e && d)) ≡ (a && not (d && (m || e)))
-      both false d m e = refl
       both true false m true = refl
-      both true false m false = refl
-      both true true true e = refl
       both true true false true = refl
-      both true true false false = refl
+      both a d m e = refl
 
   pub given-more : ((k : ℕ) → next k ≡ (if nat_eq n k then insert_before (now k) slot None else now k)) → AreGiven was slot (take i nodes) now →
       AreGiven was slot (take (i + 1) nodes) next
@@ -180,12 +170,9 @@ module _ (was : ℕ → List ℕ) (slot : ℕ) (nodes : List ℕ) (i n : ℕ) (a
       ap (λ m. is_in nat_eq s (was k) || (nat_eq slot s && m)) (sym (in-more k nodes i n at within)))))
     where
       both : (a d m e : Bool) → ((a || (d && m)) || (e && d)) ≡ (a || (d && (m || e)))
-      both true d m e = refl
       both false false m true = refl
-      both false false m false = refl
-      both false true true e = refl
       both false true false true = refl
-      both false true false false = refl
+      both a d m e = refl
 
 -- a slot is given another list: it is taken from the nodes of its old list, and given to those of the new one
 pub record IsRelisted (slot : ℕ) (list : List ℕ) (lists new_lists slots after : ℕ → List ℕ) : Type 0 where

@@ -83,7 +83,7 @@ module _ (names : List NodeName) (hosts : List ShadowHost) (m : Node) (d us : Tr
   alike_children (tree n c r) none alike = absurd alike
   alike_children (tree n c r) (tree k b s) alike = alike.1
 
-  children_same : (h : NodeName) → others x (children_of was h) ≡ others x (children_of now h)
+  pub children_same : (h : NodeName) → others x (children_of was h) ≡ others x (children_of now h)
   children_same h = elim (has_or_not (tree m d none) h) [
     | inl i ↦ let off : Has us h → ⊥ = λ j. apart h j i in ap (λ (ts : Trees). others x (names_of (roots (trees_below ts))))
         (tree-own m d p us h off ∙ sym (tree-own m d q us h off))

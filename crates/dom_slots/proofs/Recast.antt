@@ -1,11 +1,12 @@
 -- Nodes with other documents or data leave all that is assigned: slots are read from names, kinds and attributes.
-use Rattle.dom_base.proofs.Std.{◌≡◌, Bool, true, false, List, [], ◌∷◌, map, filter, drop, Option, Some, None, refl, sym, ap, ◌∙◌, find, if◌then◌else◌}
+use Rattle.dom_base.proofs.Std.{◌≡◌, Bool, true, false, List, [], ◌∷◌, map, filter, drop, Option, Some, None, refl, sym, ap, subst, ◌∙◌, find, if◌then◌else◌}
 use Rattle.dom_base.proofs.Std.{option_to_list, unwrap_or, option_map, option_map_or, option_and_then, map-append}
-use Rattle.dom_model.proofs.Model.{NodeName, DomString, name_eq, is_in, first_of, Trees, none, tree, Node, nodes, roots, names_of, no_node, node_in, or_else}
-use Rattle.dom_model.proofs.Model.{subtree, inclusive_ancestors, trees_below, children_of, root_of, map_nodes, has_slot_name, slot_name, slottable_name}
-use Rattle.dom_model.proofs.Model.{is_slot_element}
+use Rattle.dom_model.proofs.Model.{NodeName, DomString, text_eq, name_eq, is_in, first_of, Trees, none, tree, Node, nodes, roots, names_of, no_node, node_in}
+use Rattle.dom_model.proofs.Model.{or_else, subtree, inclusive_ancestors, trees_below, children_of, root_of, map_nodes, has_slot_name, slot_name}
+use Rattle.dom_model.proofs.Model.{slottable_name, is_slot_element}
 use Rattle.dom_tree.specs.Definitions.{NamedTrees, name_at}
 use Rattle.dom_slots.specs.Definitions.{ShadowHost, host_named, root_named, ShadowTrees, shadow_trees, slot_at, assigned_at, SlotsNow, AreSlotsOf}
+use Rattle.dom_slots.specs.Definitions.{bearer_at, MayHave, name_code}
 
 -- a change of nodes that no slot sees
 pub record KeepsSlots (h : Node → Node) : Type 0 where
@@ -144,7 +145,7 @@ slots-recast {s} {h} f g keeps names trees slots =
     let up : (y : NodeName) → root_of f.trees y ≡ root_of (map_nodes h f.trees) y = λ y.
     ap (λ path. unwrap_or (Rattle.dom_model.specs.Names.last_of path) y) (sym (path_recast h keeps.name f.trees y)) in
     let there : record { names = f.names; trees = map_nodes h f.trees } ≡ g = λ j. record { names = sym names j; trees = sym trees j } in
-    Rattle.std.proofs.Common.subst (λ (k : NamedTrees). AreSlotsOf k s) there record {
+    subst (λ (k : NamedTrees). AreSlotsOf k s) there record {
       hosts = slots.hosts;
       table = record {
         nodes = slots.table.nodes;
@@ -161,19 +162,25 @@ slots-recast {s} {h} f g keeps names trees slots =
                 read_recast h keeps.name is_slot_element (element_recast h keeps) f.trees y
                 ∙ old.slots k within (up y ∙ at);
           };
-      alone = λ r a e.
-          let old = slots.alone r a e in
-          let x = name_at f.names a in
+      index = record {
+        covered = λ r k host root within hosted at slot.
+            let y = name_at f.names k in
+            subst (λ a. MayHave (bearer_at s.index (name_code r a)) k) (sym (read_recast h keeps.name slot_name (name_recast h keeps) f.trees y))
+            (slots.index.covered r k host root within hosted (up y ∙ at)
+            (sym (read_recast h keeps.name is_slot_element (element_recast h keeps) f.trees y) ∙ slot));
+        inside = slots.index.inside;
+      };
+      parked = λ p is.
+          let old = slots.parked p is in
           record {
             hosted = old.hosted;
-            root = old.root;
-            node = old.node;
-            slots = λ at slot k within at_k named.
-                let y = name_at f.names k in
-                let name = slot_name (node_in (map_nodes h f.trees) x) in
-                let same : slot_name (node_in f.trees x) ≡ name = sym (read_recast h keeps.name slot_name (name_recast h keeps) f.trees x) in
-                old.slots (up x ∙ at) (sym (read_recast h keeps.name is_slot_element (element_recast h keeps) f.trees x) ∙ slot) k within (up y ∙ at_k)
-                (ap (λ a. has_slot_name a (node_in f.trees y)) same
-                ∙ (sym (read_recast h keeps.name (has_slot_name name) (slot_recast h keeps name) f.trees y) ∙ named));
+            slot = old.slot;
+            host = old.host;
+            nodes = old.nodes;
+            list = old.list
+                ∙ sym (λ j. filter
+                (λ y. option_map_or (λ a. text_eq a (read_recast h keeps.name slot_name (name_recast h keeps) f.trees (name_at f.names p.slot) j))
+                (read_recast h keeps.name slottable_name (slottable_recast h keeps) f.trees y j) false)
+                (children_recast h keeps.name f.trees (name_at f.names p.host) j));
           };
     }

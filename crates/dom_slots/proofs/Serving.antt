@@ -15,7 +15,7 @@ use Rattle.dom_slots.proofs.NamesOfNodes.{named-filter, named-first}
 use Rattle.dom_slots.proofs.Walks.{filter-twice}
 
 -- of names that stand once those that pass stand once
-single-filter : (p : NodeName → Bool) (xs : List NodeName) → Single xs → Single (filter p xs)
+pub single-filter : (p : NodeName → Bool) (xs : List NodeName) → Single xs → Single (filter p xs)
 single-filter p [] s = s
 single-filter p (x ∷ xs) s = by (p x) (single-filter p xs s.1)
   where

@@ -19,13 +19,13 @@ some_if-dropped None b e = refl
 some_if-dropped (Some x) b e = ap (λ c. some_if c x) e
 
 module _ (s : ShadowTrees) (w : World) (shown : IsShownBy s w) where
-  parent-shown : (x : NodeName) → parent_at w x ≡ parent_of s.trees x
+  pub parent-shown : (x : NodeName) → parent_at w x ≡ parent_of s.trees x
   parent-shown x = ap (λ (ts : Trees). parent_of ts x) (shown.trees x.owner) ∙ sym (read_own s.trees shown.owned x.owner x refl).parent
 
-  node-shown : (x : NodeName) → node_at w x ≡ node_in s.trees x
+  pub node-shown : (x : NodeName) → node_at w x ≡ node_in s.trees x
   node-shown x = ap (λ (ts : Trees). node_in ts x) (shown.trees x.owner) ∙ sym (read_own s.trees shown.owned x.owner x refl).node
 
-  root-shown : (x : NodeName) → root_at w x ≡ root_of s.trees x
+  pub root-shown : (x : NodeName) → root_at w x ≡ root_of s.trees x
   root-shown x = ap (λ (ts : Trees). root_of ts x) (shown.trees x.owner) ∙ sym (read_own s.trees shown.owned x.owner x refl).root
 
   children-shown : (x : NodeName) → children_of (trees_with w x) x ≡ children_of s.trees x
@@ -54,7 +54,7 @@ module _ (s : ShadowTrees) (w : World) (shown : IsShownBy s w) where
       ∙ from_parent (node_at w x) (node_in s.trees x) (node-shown x) (parent_of s.trees x)
 
   -- the host of a node's root
-  host-shown : (x : NodeName) → host_above w x ≡ s.host_of (root_of s.trees x)
+  pub host-shown : (x : NodeName) → host_above w x ≡ s.host_of (root_of s.trees x)
   host-shown x =
       let r = root_of s.trees x in
       let o = Rattle.dom_model.specs.World.host_of w x.owner in

@@ -38,9 +38,8 @@ there_is_old done x there y = by (name_eq x y) refl
 
 new_with : (a b : Bool) → (not a && not b) ≡ not (b || (a || false))
 new_with true true = refl
-new_with true false = refl
 new_with false true = refl
-new_with false false = refl
+new_with a b = refl
 
 new_beside : (done : List NodeName) (x y : NodeName) → (not (name_eq x y) && is_new done y) ≡ is_new (done ++ x ∷ []) y
 new_beside done x y =

@@ -6,10 +6,9 @@ use Rattle.dom_slots.proofs.Firsts.{text_true}
 
 -- texts that are compared one by one
 same-text : (xs ys : List ℕ) → pointwise nat_eq xs ys ≡ text_eq xs ys
-same-text [] [] = refl
-same-text [] (y ∷ ys) = refl
-same-text (x ∷ xs) [] = refl
 same-text (x ∷ xs) (y ∷ ys) = ap (λ b. nat_eq x y && b) (same-text xs ys)
+same-text [] (y ∷ ys) = refl
+same-text xs ys = refl
 
 -- those in a list, if there is one
 abbrev pub listed : Option (Vec ℕ Global) → List ℕ
@@ -24,13 +23,20 @@ taken-away name other was now e = ap listed (e ∙ ap (λ b. cond b None was) (s
     by true = refl
     by false = refl
 
--- a list with one more is put in the place of one that was taken away
-module _ (name other : List ℕ) (was : List ℕ → List ℕ) (mid now : Option (Vec ℕ Global)) (list : Vec ℕ Global) (child : ℕ) where
-  pub put-back : list.items ≡ was name ++ child ∷ [] → listed mid ≡ (if text_eq name other then [] else was other) →
-      now ≡ cond (pointwise nat_eq name other) (Some list) mid → listed now ≡ (if text_eq name other then was other ++ child ∷ [] else was other)
-  put-back longer rest e = ap listed (e ∙ ap (λ b. cond b (Some list) mid) (same-text name other)) ∙ by (text_eq name other) refl rest
+-- a list is put in the place of another one
+module _ (name other : List ℕ) (mid now : Option (Vec ℕ Global)) (list : Vec ℕ Global) (e : now ≡ cond (pointwise nat_eq name other) (Some list) mid) where
+  pub put-in : {rest : List ℕ} → listed mid ≡ rest → listed now ≡ (if text_eq name other then list.items else rest)
+  put-in {rest} same = ap listed (e ∙ ap (λ b. cond b (Some list) mid) (same-text name other)) ∙ by (text_eq name other)
     where
-      by : (b : Bool) → text_eq name other ≡ b → listed mid ≡ (if b then [] else was other) →
-          listed (cond b (Some list) mid) ≡ (if b then was other ++ child ∷ [] else was other)
-      by true same more = longer ∙ ap (λ a. was a ++ child ∷ []) (text_true name other same)
-      by false same more = more
+      by : (b : Bool) → listed (cond b (Some list) mid) ≡ (if b then list.items else rest)
+      by true = refl
+      by false = same
+
+  -- one with one more in the place of one that was taken away
+  pub put-back : (was : List ℕ → List ℕ) (child : ℕ) → list.items ≡ was name ++ child ∷ [] → listed mid ≡ (if text_eq name other then [] else was other) →
+      listed now ≡ (if text_eq name other then was other ++ child ∷ [] else was other)
+  put-back was child longer rest = put-in rest ∙ by (text_eq name other) refl
+    where
+      by : (b : Bool) → text_eq name other ≡ b → (if b then list.items else (if b then [] else was other)) ≡ (if b then was other ++ child ∷ [] else was other)
+      by true same = longer ∙ ap (λ a. was a ++ child ∷ []) (text_true name other same)
+      by false same = refl

@@ -1,26 +1,43 @@
 -- What a contract sees of a `Slots`.
-use Rattle.std.specs.Prelude.{◌≡◌, ◌≢◌, ℕ, ◌<◌, nat_eq, Bool, true, false, count_by, slice_get, List, [], ◌∷◌, ◌++◌, length, Some, option_map}
+use Rattle.std.specs.Prelude.{◌≡◌, ◌≢◌, ℕ, ◌<◌, Bool, true, false, count_by, slice_get, List, [], ◌∷◌, ◌++◌, length, Option, Some, option_map}
 use Rattle.std.specs.Option.{ForSome}
 use Rattle.dom_base.specs.declared.NodeName.{NodeName}
-use Rattle.dom_model.specs.Names.{name_eq, is_in}
-use Rattle.dom_model.specs.Slots.{is_slot_element, has_slot_name, slot_name}
+use Rattle.dom_model.specs.Names.{name_eq}
+use Rattle.dom_model.specs.Slots.{is_slot_element}
 use Rattle.dom_model.specs.Tree.{Trees, Node, nodes, node_in, root_of, has_node}
 use Rattle.dom_model.specs.TreeChanges.{with_node}
 use Rattle.dom_tree.specs.Forest.{NamedTrees, name_at}
 use Rattle.dom_slots.specs.declared.step.SlotChange.{SlotChange}
 use Rattle.dom_slots.specs.Hosts.{ShadowHost, HostsAreNodes}
+use Rattle.dom_slots.specs.Index.{Bearers, AreIndexed}
 use Rattle.dom_slots.specs.KeyMaps.{is_marked}
+use Rattle.dom_slots.specs.Parked.{ParkedNow, IsParked}
 use Rattle.dom_slots.specs.Shadows.{shadows, slot_at}
 use Rattle.dom_slots.specs.Steps.{step_node, left_by, StepHasNodes, IsStepFrom}
-use Rattle.dom_slots.specs.Tables.{SlotTable, list_of, IsTableOf}
+use Rattle.dom_slots.specs.Tables.{SlotTable, IsTableOf}
 
--- the hosts, in the order of attaching, the nodes assigned to each slot, marks of roots whose trees have no slot, and for some roots
--- slots that stand alone with their names in the tree
+-- the hosts, in the order of attaching, the nodes assigned to each slot, marks of roots whose trees have no slot, which slots may have
+-- names in the trees of roots, and the list of a slot that a step took out of its tree
 pub record SlotsNow : Type 0 where
   pub hosts : List ShadowHost
   pub table : SlotTable
   pub bare : List Bool
-  pub alone : SlotTable
+  pub index : Bearers
+  pub parked : Option ParkedNow
+
+-- what saves walks
+abbrev pub Hints : Type 0
+Hints = List Bool × Bearers × Option ParkedNow
+
+abbrev pub hints_of : SlotsNow → Hints
+hints_of s = (s.bare, s.index, s.parked)
+
+-- the same hosts and lists with other ones
+abbrev pub with_hints : Hints → SlotsNow → SlotsNow
+with_hints h s = record { hosts = s.hosts; table = s.table; bare = h.0; index = h.1; parked = h.2 }
+
+abbrev pub with_parked : Option ParkedNow → SlotsNow → SlotsNow
+with_parked p s = with_hints (s.bare, s.index, p) s
 
 -- the nodes of a forest stand in its trees, each once, and no others: what a forest's `law_nodes_stand_once` says
 pub record StandsOnce (f : NamedTrees) : Type 0 where
@@ -46,25 +63,13 @@ pub record IsBare (f : NamedTrees) (hosts : List ShadowHost) (r : ℕ) : Type 0 
 abbrev pub AreBare : NamedTrees → List ShadowHost → List Bool → Type 0
 AreBare f hosts marks = (r : ℕ) → is_marked marks r ≡ true → IsBare f hosts r
 
--- there is a host, and if a node is a slot in the tree of a root, it alone has its name there
-pub record IsAlone (f : NamedTrees) (hosts : List ShadowHost) (r s : ℕ) : Type 0 where
-  pub hosted : hosts ≢ []
-  pub root : r < length f.names
-  pub node : s < length f.names
-  pub slots : root_of f.trees (name_at f.names s) ≡ name_at f.names r → is_slot_element (node_in f.trees (name_at f.names s)) ≡ true → (k : ℕ) →
-      k < length f.names → root_of f.trees (name_at f.names k) ≡ name_at f.names r →
-      has_slot_name (slot_name (node_in f.trees (name_at f.names s))) (node_in f.trees (name_at f.names k)) ≡ true → name_at f.names k ≡ name_at f.names s
-
--- so it is of all that are remembered for roots
-abbrev pub AreAlone : NamedTrees → List ShadowHost → SlotTable → Type 0
-AreAlone f hosts alone = (r s : ℕ) → is_in nat_eq s (list_of alone r) ≡ true → IsAlone f hosts r s
-
 -- the slots of a forest
 pub record AreSlotsOf (f : NamedTrees) (s : SlotsNow) : Type 0 where
   pub hosts : HostsAreNodes f.names s.hosts
   pub table : IsTableOf f s.hosts s.table
   pub bare : AreBare f s.hosts s.bare
-  pub alone : AreAlone f s.hosts s.alone
+  pub index : AreIndexed f s.hosts s.index
+  pub parked : ForSome s.parked (IsParked f s.hosts)
 
 -- what is known of a step that is about to be done: the parent that a node has which it moves, and the slot that its node has
 pub record IsBegun (f : NamedTrees) (hosts : List ShadowHost) (c : SlotChange) : Type 0 where

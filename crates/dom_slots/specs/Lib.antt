@@ -1,5 +1,7 @@
 -- Unmarked: own rules, about what the code holds and its contracts say.
 pub mod Hosts
+pub mod Index
+pub mod Parked
 pub mod Shadows
 pub mod Tables
 pub mod KeyMaps

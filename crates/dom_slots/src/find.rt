@@ -33,34 +33,6 @@ pub(crate) fn slot_named(forest: &Forest, top: Key, name: &[u16]) -> Option<Key>
     None
 }
 
-/// So many nodes of a tree are looked at before a slot is used that is remembered for its root.
-const NEAR: usize = 16;
-
-/// The first nodes of a tree do not tell its first slot of a name.
-#[derive(Clone, Copy)]
-pub(crate) struct Far;
-
-/// The first slot of a name in the tree of `top`, or that there is none, where the first nodes of that tree tell.
-pub(crate) fn slot_near(forest: &Forest, top: Key, name: &[u16]) -> Result<Option<Key>, Far>
-    requires { IsNode forest.now top }
-    ensures value { IfOk result (λ slot. option_map (name_of forest.now) slot ≡ option_map (λ (n : Node). n.name)
-        (find (has_slot_name name.now) (nodes (subtree forest.now.trees (name_of forest.now top))))) }
-    ensures node { IfOk result (λ slot. ForSome slot (IsNode forest.now)) }
-{
-    forest.law_nodes_stand_once();
-    let mut at = Some(top);
-    for _ in 0..NEAR {
-        let Some(key) = at else {
-            return Ok(None);
-        };
-        if has_name(forest, key, name) {
-            return Ok(Some(key));
-        }
-        at = forest.following(key, top);
-    }
-    Err(Far)
-}
-
 /// The elements named `slot` in the tree of `top`, in tree order; of a name alone, if one is given.
 pub(crate) fn slots_below(
     alloc: Global,

@@ -1,6 +1,7 @@
 //! A list of nodes for each node.
-ghost use Rattle.std.specs.Prelude.{◌≡◌, ℕ, ◌≤◌, ◌<◌, [], true, length, nat_eq, if◌then◌else◌, OnOk, OnErr};
+ghost use Rattle.std.specs.Prelude.{◌≡◌, ℕ, ◌≤◌, ◌<◌, ◌+◌, ◌-◌, [], length, nat_eq, option_map, if◌then◌else◌, OnOk, OnErr};
 ghost use Rattle.std.specs.List.{insert as inserted, position};
+ghost use Rattle.std.specs.Option.{ForSome};
 ghost use Rattle.dom_model.specs.Names.{is_in};
 ghost use Rattle.node_arena.specs.Nodes.{insert_before, without};
 ghost use Rattle.dom_slots.specs.KeyMaps.{list_at, IsSingle};
@@ -101,22 +102,6 @@ impl KeyLists {
         Ok(())
     }
 
-    /// Whether no node was ever given a place.
-    pub(crate) fn is_empty(&self) -> bool
-        ensures { result ≡ true → self.now.rows.items ≡ [] }
-    {
-        self.rows.is_empty()
-    }
-
-    /// Empties the list of a node.
-    pub(crate) fn clear(&mut self, key: Key)
-        ensures { (k : ℕ) → list_at self.new.rows.items k ≡ (if nat_eq key k then [] else list_at self.old.rows.items k) }
-    {
-        if key.index() < self.rows.len() {
-            self.rows[key.index()].clear();
-        }
-    }
-
     /// Makes a place for a node, where there is none.
     fn reach(&mut self, alloc: Global, key: Key) -> Result<(), AllocError>
         ensures lists { (k : ℕ) → list_at self.new.rows.items k ≡ list_at self.old.rows.items k }
@@ -174,5 +159,32 @@ fn place_of(list: &[Key], before: Option<Key>) -> usize
 fn position_of(list: &[Key], node: Key) -> Option<usize>
     ensures { result ≡ position (λ other. nat_eq other node) list.now }
 {
+    let rest = behind_others(list, node);
+    let at = place_among(rest, node)?;
+    Some(list.len() - rest.len() + at)
+}
+
+/// The place of a node in a list, of which one node is looked at in each turn.
+fn place_among(list: &[Key], node: Key) -> Option<usize>
+    ensures place { result ≡ position (λ other. nat_eq other node) list.now }
+    ensures within { ForSome result (λ at. at < length list.now) }
+{
     list.iter().position(|other| *other == node)
+}
+
+/// What is left of a list behind nodes at its front that are other ones. Four are looked at in each turn.
+fn behind_others(mut list: &[Key], node: Key) -> &[Key]
+    ensures within { length result.now ≤ length list.now }
+    ensures place { position (λ other. nat_eq other node) list.now ≡ option_map (λ at. length list.now - length result.now + at)
+        (position (λ other. nat_eq other node) result.now) }
+{
+    while let [first, second, third, fourth, rest @ ..] = list
+        && *first != node
+        && *second != node
+        && *third != node
+        && *fourth != node
+    {
+        list = rest;
+    }
+    list
 }

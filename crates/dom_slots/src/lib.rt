@@ -4,6 +4,7 @@
 
 mod changes;
 mod find;
+mod index;
 mod key_lists;
 mod key_map;
 mod laws;

@@ -6,21 +6,23 @@ ghost use Rattle.dom_tree.specs.Forest.{NamedTrees, name_at};
 ghost use Rattle.dom_slots.specs.Hosts.{host_of_root, root_of_host};
 ghost use Rattle.dom_slots.specs.Kept.{AreSlotsOf, StandsOnce};
 
-mod alone;
 mod apart;
 mod assigned;
 mod bare;
+mod indexed;
 mod inside;
 mod moving;
+mod parked;
 mod renewal;
 mod signals;
 
-use crate::key_lists::KeyLists;
+use crate::index::NameIndex;
 use crate::key_map::KeyMap;
 use crate::marks::Marks;
 use crate::table::Table;
 use dom_base::Owner;
 use node_arena::Key;
+use parked::Parked;
 use std::alloc::{AllocError, Global};
 use std::marker::Model;
 
@@ -33,16 +35,15 @@ struct Attached {
 }
 
 /// The hosts of shadow trees, in the order of attaching, the nodes assigned to the slots of their trees, marks of roots whose trees
-/// have no slot, for some roots slots that stand alone with their names in the tree, and marks of slots that did not, which save
-/// a walk and tell nothing.
+/// have no slot, which slots of their trees may have a name, and the list of a slot that a step took out of its tree.
 pub struct Slots {
     hosts: Vec<Attached>,
     by_host: KeyMap,
     by_root: KeyMap,
     table: Table,
     bare: Marks,
-    alone: KeyLists,
-    several: Marks,
+    index: NameIndex,
+    parked: Option<Parked>,
     alloc: Global,
 }
 
@@ -55,8 +56,8 @@ impl Drop for Slots {
             by_root,
             table,
             bare,
-            alone,
-            several,
+            index,
+            parked,
             alloc,
         } = self;
     }
@@ -68,9 +69,14 @@ impl Model for Slots {
     ghost Value = { SlotsNow };
 
     ghost use Rattle.dom_slots.specs.Fields.{hosts_in, AreFound};
-    ghost use Rattle.dom_slots.specs.Lists.{table_in};
 
-    ghost view = { λ s. record { hosts = hosts_in s.hosts.items; table = s.table; bare = s.bare.marked.items; alone = table_in s.alone.rows.items } };
+    ghost view = { λ s. record {
+      hosts = hosts_in s.hosts.items;
+      table = s.table;
+      bare = s.bare.marked.items;
+      index = s.index.bearers.entries;
+      parked = s.parked;
+    } };
 
     ghost invariant = { λ s. AreFound (hosts_in s.hosts.items) s.by_host.values.items s.by_root.values.items };
 }
@@ -78,7 +84,7 @@ impl Model for Slots {
 impl Slots {
     /// No hosts. Takes no memory yet; later calls take theirs from `alloc`.
     pub fn new(alloc: Global) -> Self
-        ensures value { result ≡ record { hosts = []; table = []; bare = []; alone = [] } }
+        ensures value { result ≡ record { hosts = []; table = []; bare = []; index = []; parked = None } }
         // They are the slots of every forest.
         ensures slots { (f : NamedTrees) → AreSlotsOf f result }
     {
@@ -88,8 +94,8 @@ impl Slots {
             by_root: KeyMap::new(alloc),
             table: Table::new(alloc),
             bare: Marks::new(alloc),
-            alone: KeyLists::new(alloc),
-            several: Marks::new(alloc),
+            index: NameIndex::new(alloc),
+            parked: None,
             alloc,
         }
     }

@@ -67,6 +67,16 @@ impl<'a> Waiting<'a> {
         }
     }
 
+    /// Those that wait under one name.
+    pub(crate) fn of(alloc: Global, name: &'a [u16], nodes: &[Key]) -> Result<Self, AllocError>
+        ensures { IfOk result (λ w. (other : List ℕ) → waiting_under w other ≡ (if text_eq name.now other then nodes.now else [])) }
+    {
+        let list = copied(alloc, nodes)?;
+        let mut waiting = Waiting::new(alloc);
+        let _ = waiting.lists.insert(name, list)?;
+        Ok(waiting)
+    }
+
     /// Adds a child behind those that look for the same name, if it is a slottable.
     fn add(&mut self, forest: &'a Forest, child: Key) -> Result<(), AllocError>
         requires { IsNode forest.now child }
@@ -101,4 +111,13 @@ impl<'a> Waiting<'a> {
             None => Vec::new(self.alloc),
         }
     }
+}
+
+/// The same nodes in a list of their own.
+pub(crate) fn copied(alloc: Global, nodes: &[Key]) -> Result<Vec<Key>, AllocError>
+    ensures { IfOk result (λ list. list.items ≡ nodes.now) }
+{
+    let mut list = Vec::new(alloc);
+    list.extend_from_slice(nodes)?;
+    Ok(list)
 }

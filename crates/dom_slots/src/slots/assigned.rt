@@ -9,7 +9,7 @@ ghost use Rattle.dom_slots.specs.Shadows.{shadows, slot_at, is_first_at, assigne
 ghost use Rattle.dom_slots.specs.Tables.{list_of};
 
 use crate::Slots;
-use crate::find::{looks_for, slot_name, slot_named, slottable_name};
+use crate::find::{looks_for, slot_name, slot_named};
 use dom_tree::Forest;
 use node_arena::Key;
 use std::alloc::AllocError;
@@ -44,7 +44,7 @@ impl Slots {
         if forest.parent(root).is_none() && self.host_of(root) == Some(parent) {
             return None;
         }
-        self.slot_now(forest, node)
+        self.slot_found(forest, node)
     }
 
     /// The nodes assigned to a slot, in the order of their host's children; none to a node outside of shadow trees (DOM
@@ -60,20 +60,6 @@ impl Slots {
         let mut keys = Vec::new(self.alloc);
         keys.extend_from_slice(self.table.list(slot))?;
         Ok(keys)
-    }
-
-    /// Finds the slot of a node by the maps alone, so also in a forest that is not that of the table.
-    pub(super) fn slot_now(&self, forest: &Forest, node: Key) -> Option<Key>
-        requires node_is_node { IsNode forest.now node }
-        requires hosts { HostsAreNodes forest.now.names self.now.hosts }
-        ensures value { option_map (name_of forest.now) result ≡ slot_at (shadows forest.now self.now.hosts) (name_of forest.now node) }
-        ensures node { ForSome result (IsNode forest.now) }
-    {
-        forest.law_nodes_stand_once();
-        let parent = forest.parent(node)?;
-        let root = self.root_of(parent)?;
-        let name = slottable_name(forest, node)?;
-        slot_named(forest, root, name)
     }
 
     /// The nodes assigned to a slot, also in a forest that is not that of the table.

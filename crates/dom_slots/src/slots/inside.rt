@@ -8,7 +8,10 @@ ghost use Rattle.dom_model.specs.Tree.{subtree};
 ghost use Rattle.dom_tree.specs.Forest.{IsNode, name_of};
 ghost use Rattle.dom_slots.specs.Hosts.{HostsAreNodes};
 ghost use Rattle.dom_slots.specs.Insides.{is_called, tree_slots, bare_around, left_slots, AreRight, AreSilent, MovesNone, MovesCalled, MayMove, IsInside};
+ghost use Rattle.dom_slots.specs.Index.{AreIndexed};
+ghost use Rattle.dom_slots.specs.Kept.{hints_of};
 ghost use Rattle.dom_slots.specs.KeyMaps.{IsSingle};
+ghost use Rattle.dom_slots.specs.Parked.{IsParked};
 ghost use Rattle.dom_slots.specs.Renewals.{AreRenewed, Renews, IsButFor};
 ghost use Rattle.dom_slots.specs.Shadows.{shadows, slot_at, is_bare_at};
 ghost use Rattle.dom_slots.specs.Steps.{StepHasNodes, step_node, is_move};
@@ -16,9 +19,8 @@ ghost use Rattle.dom_slots.specs.Tables.{SlotTable, list_of};
 
 use crate::Slots;
 use crate::changes::add_once;
-use crate::find::{is_slot, slot_name, slots_below};
+use crate::find::{is_slot, slot_name};
 use crate::step::{SlotChange, Step};
-use crate::waiting::waiting_below;
 use dom_tree::Forest;
 use node_arena::Key;
 use smallvec::SmallVec;
@@ -41,6 +43,7 @@ impl Slots {
         requires single { (k : ℕ) → change.slot ≡ Some k → IsSingle (list_of self.old.table k) }
         requires still { MovesNone forest.now self.old.hosts change.step }
         ensures hosts { IfOk result (λ keys. self.new.hosts ≡ self.old.hosts) }
+        ensures hints { IfOk result (λ keys. hints_of self.new ≡ hints_of self.old) }
         ensures renewed { (p : Name → Truth) → IsButFor forest.now self.old.hosts self.old.table change.slot change.step →
             AreRenewed forest.now self.old.hosts p self.old.table [] [] self.old.table [] →
             IfOk result (λ keys. IsInside forest.now self.old.hosts p self.old.table change.step change.left change.slot self.new.table keys.items) }
@@ -63,6 +66,8 @@ impl Slots {
         slot: Option<Key>,
     ) -> Result<SmallVec<Key, 2>, AllocError>
         requires hosts { HostsAreNodes forest.now.names self.old.hosts }
+        requires indexed { AreIndexed forest.now self.old.hosts self.old.index }
+        requires parked { ForSome self.old.parked (IsParked forest.now self.old.hosts) }
         requires nodes { StepHasNodes forest.now.names change.step }
         requires left { ForSome change.left (IsNode forest.now) }
         requires slot { ForSome change.slot (IsNode forest.now) }
@@ -71,6 +76,7 @@ impl Slots {
         requires moved { map (name_of forest.now) moved.now ≡ slots_among (subtree forest.now.trees (name_of forest.now (step_node change.step))) }
         requires moved_nodes { All (IsNode forest.now) moved.now }
         ensures hosts { IfOk result (λ keys. self.new.hosts ≡ self.old.hosts) }
+        ensures hints { IfOk result (λ keys. hints_of self.new ≡ hints_of self.old) }
         ensures renewed { (p : Name → Truth) (old : SlotTable) → AreRenewed forest.now self.old.hosts p old [] [] self.old.table [] →
             IfOk result (λ keys. IsInside forest.now self.old.hosts p old change.step change.left change.slot self.new.table keys.items) }
     {
@@ -130,12 +136,15 @@ impl Slots {
         signals: &mut SmallVec<Key, 2>,
     ) -> Result<(), AllocError>
         requires hosts { HostsAreNodes forest.now.names self.old.hosts }
+        requires indexed { AreIndexed forest.now self.old.hosts self.old.index }
+        requires parked { ForSome self.old.parked (IsParked forest.now self.old.hosts) }
         requires nodes { StepHasNodes forest.now.names change.step }
         requires left { ForSome change.left (IsNode forest.now) }
         requires around { IsNode forest.now around }
         requires moved { map (name_of forest.now) moved.now ≡ slots_among (subtree forest.now.trees (name_of forest.now (step_node change.step))) }
         requires moved_nodes { All (IsNode forest.now) moved.now }
         ensures hosts { OnOk result (self.new.hosts ≡ self.old.hosts) }
+        ensures hints { OnOk result (hints_of self.new ≡ hints_of self.old) }
         ensures renewed { (p : Name → Truth) (old : SlotTable) (done told : List Name) →
             AreRenewed forest.now self.old.hosts p old done told self.old.table signals.old.items →
             OnOk result (MayMove forest.now self.old.hosts p old done told change.step change.left (name_of forest.now around) self.new.table
@@ -162,6 +171,7 @@ impl Slots {
         requires moved { map (name_of forest.now) moved.now ≡ slots_among (subtree forest.now.trees (name_of forest.now node)) }
         requires moved_nodes { All (IsNode forest.now) moved.now }
         ensures hosts { OnOk result (self.new.hosts ≡ self.old.hosts) }
+        ensures hints { OnOk result (hints_of self.new ≡ hints_of self.old) }
         ensures renewed { (p q : Name → Truth) (old : SlotTable) (done told : List Name) →
             ((y : Name) → is_in name_eq y (map (name_of forest.now) moved.now) ≡ true → q y ≡ true) →
             AreRenewed forest.now self.old.hosts p old (done ++ filter q (tree_slots forest.now.trees (name_of forest.now around))) told
@@ -187,17 +197,20 @@ impl Slots {
         signals: &mut SmallVec<Key, 2>,
     ) -> Result<(), AllocError>
         requires hosts { HostsAreNodes forest.now.names self.old.hosts }
+        requires indexed { AreIndexed forest.now self.old.hosts self.old.index }
+        requires parked { ForSome self.old.parked (IsParked forest.now self.old.hosts) }
         requires node { IsNode forest.now node }
         ensures hosts { OnOk result (self.new.hosts ≡ self.old.hosts) }
+        ensures hints { OnOk result (hints_of self.new ≡ hints_of self.old) }
         ensures renewed { OnOk result (Renews forest.now self.old.hosts (filter (is_called forest.now.trees (option_map (λ a. a.now) name.entry))
             (tree_slots forest.now.trees (name_of forest.now node))) self.old.table signals.old.items self.new.table signals.new.items) }
     {
         forest.law_nodes_stand_once();
         let root = forest.root(node);
-        let slots = slots_below(self.alloc, forest, root, name)?;
+        let slots = self.slots_called(forest, root, name)?;
         match self.host_of(root) {
             Some(host) if !slots.is_empty() && self.root_of(host) == Some(root) => {
-                let waiting = waiting_below(self.alloc, forest, host, name)?;
+                let waiting = self.waiting_for(forest, host, name)?;
                 self.renew_waiting(forest, &slots, waiting, signals)
             }
             _ => self.renew(forest, &slots, signals),
@@ -214,9 +227,12 @@ impl Slots {
         name: Option<&[u16]>,
     ) -> Result<(), AllocError>
         requires hosts { HostsAreNodes forest.now.names self.old.hosts }
+        requires indexed { AreIndexed forest.now self.old.hosts self.old.index }
+        requires parked { ForSome self.old.parked (IsParked forest.now self.old.hosts) }
         requires left { ForSome change.left (IsNode forest.now) }
         requires around { IsNode forest.now around }
         ensures hosts { OnOk result (self.new.hosts ≡ self.old.hosts) }
+        ensures hints { OnOk result (hints_of self.new ≡ hints_of self.old) }
         ensures renewed { AreRight forest.now self.old.hosts (filter (is_called forest.now.trees (option_map (λ a. a.now) name.entry))
             (tree_slots forest.now.trees (name_of forest.now around))) self.old.table →
             OnOk result (AreSilent forest.now self.old.hosts (filter (is_called forest.now.trees (option_map (λ a. a.now) name.entry))

@@ -10,6 +10,7 @@ ghost use Rattle.dom_tree.specs.Forest.{IsNode, name_of};
 ghost use Rattle.node_arena.specs.Nodes.{without};
 ghost use Rattle.dom_slots.specs.Hosts.{HostsAreNodes, host_named};
 ghost use Rattle.dom_slots.specs.Insides.{own_slots};
+ghost use Rattle.dom_slots.specs.Kept.{hints_of};
 ghost use Rattle.dom_slots.specs.KeyMaps.{IsSingle};
 ghost use Rattle.dom_slots.specs.Renewals.{AreRenewed, Renews, IsButFor, names_but};
 ghost use Rattle.dom_slots.specs.Shadows.{shadows, slot_at, assigned_at, looks_for};
@@ -44,6 +45,7 @@ impl Slots {
         requires own_node { ForSome slot (IsNode forest.now) }
         requires single { (k : ℕ) → was ≡ Some k → IsSingle (list_of self.old.table k) }
         ensures hosts { IfOk result (λ keys. self.new.hosts ≡ self.old.hosts) }
+        ensures hints { IfOk result (λ keys. hints_of self.new ≡ hints_of self.old) }
         ensures renewed { (p : Name → Truth) (step : Step) → step_node step ≡ node → is_move step ≡ moves →
             IsButFor forest.now self.old.hosts self.old.table was step → AreRenewed forest.now self.old.hosts p self.old.table [] [] self.old.table [] →
             IfOk result (λ keys. AreRenewed forest.now self.old.hosts p self.old.table (own_slots forest.now self.old.hosts was step)
@@ -74,6 +76,7 @@ impl Slots {
         requires slot { ForSome slot (IsNode forest.now) }
         requires single { (k : ℕ) → slot ≡ Some k → IsSingle (list_of self.old.table k) }
         ensures hosts { OnOk result (self.new.hosts ≡ self.old.hosts) }
+        ensures hints { OnOk result (hints_of self.new ≡ hints_of self.old) }
         ensures renewed { ((k : ℕ) → slot ≡ Some k → map (name_of forest.now) (without node (list_of self.old.table k)) ≡ assigned_at
             (shadows forest.now self.old.hosts) (name_of forest.now k)) →
             OnOk result (Renews forest.now self.old.hosts (option_to_list (option_map (name_of forest.now) slot)) self.old.table signals.old.items
@@ -103,6 +106,7 @@ impl Slots {
         requires slot { ForSome slot (IsNode forest.now) }
         requires own { option_map (name_of forest.now) slot ≡ slot_at (shadows forest.now self.old.hosts) (name_of forest.now node) }
         ensures hosts { OnOk result (self.new.hosts ≡ self.old.hosts) }
+        ensures hints { OnOk result (hints_of self.new ≡ hints_of self.old) }
         ensures renewed { ((k : ℕ) → slot ≡ Some k → map (name_of forest.now) (list_of self.old.table k) ≡ names_but (name_of forest.now node)
             (assigned_at (shadows forest.now self.old.hosts) (name_of forest.now k))) →
             OnOk result (Renews forest.now self.old.hosts (option_to_list (option_map (name_of forest.now) slot)) self.old.table signals.old.items

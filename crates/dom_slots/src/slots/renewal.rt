@@ -2,6 +2,7 @@
 ghost use Rattle.std.specs.Prelude.{◌≡◌, ℕ, ◌∷◌, [], List, map, All, OnOk};
 ghost use Rattle.dom_tree.specs.Forest.{IsNode, name_of};
 ghost use Rattle.dom_slots.specs.Hosts.{HostsAreNodes};
+ghost use Rattle.dom_slots.specs.Kept.{hints_of};
 ghost use Rattle.dom_slots.specs.Renewals.{Renews};
 ghost use Rattle.dom_slots.specs.Shadows.{shadows, assigned_at};
 ghost use Rattle.dom_slots.specs.Waiting.{waiting_under, Serves};
@@ -26,6 +27,7 @@ impl Slots {
         requires hosts { HostsAreNodes forest.now.names self.old.hosts }
         requires nodes { All (IsNode forest.now) slots.now }
         ensures hosts { OnOk result (self.new.hosts ≡ self.old.hosts) }
+        ensures hints { OnOk result (hints_of self.new ≡ hints_of self.old) }
         ensures renewed { OnOk result (Renews forest.now self.old.hosts (map (name_of forest.now) slots.now) self.old.table
             signals.old.items self.new.table signals.new.items) }
     {
@@ -50,6 +52,7 @@ impl Slots {
         requires served { Serves forest.now self.old.hosts (waiting_under waiting) slots.now }
         requires waiting_nodes { (name : List ℕ) → All (IsNode forest.now) (waiting_under waiting name) }
         ensures hosts { OnOk result (self.new.hosts ≡ self.old.hosts) }
+        ensures hints { OnOk result (hints_of self.new ≡ hints_of self.old) }
         ensures renewed { OnOk result (Renews forest.now self.old.hosts (map (name_of forest.now) slots.now) self.old.table
             signals.old.items self.new.table signals.new.items) }
     {
@@ -72,6 +75,7 @@ impl Slots {
         requires right { map (name_of forest.now) list.items ≡ assigned_at (shadows forest.now self.old.hosts) (name_of forest.now slot) }
         requires nodes { All (IsNode forest.now) list.items }
         ensures hosts { OnOk result (self.new.hosts ≡ self.old.hosts) }
+        ensures hints { OnOk result (hints_of self.new ≡ hints_of self.old) }
         ensures renewed { OnOk result (Renews forest.now self.old.hosts (name_of forest.now slot ∷ []) self.old.table
             signals.old.items self.new.table signals.new.items) }
     {

@@ -6,7 +6,9 @@ ghost use Rattle.dom_model.specs.Tree.{Trees};
 ghost use Rattle.dom_tree.specs.Forest.{IsNode, name_of};
 ghost use Rattle.dom_slots.specs.Hosts.{HostsAreNodes};
 ghost use Rattle.dom_slots.specs.Insides.{own_slots, IsMoved};
-ghost use Rattle.dom_slots.specs.Kept.{AreSlotsOf, IsBegun, IsEndOf};
+ghost use Rattle.dom_slots.specs.Index.{AreIndexed};
+ghost use Rattle.dom_slots.specs.Kept.{AreSlotsOf, Hints, IsBegun, IsEndOf, hints_of, with_hints};
+ghost use Rattle.dom_slots.specs.Parked.{IsParked};
 ghost use Rattle.dom_slots.specs.Renewals.{AreRenewed};
 ghost use Rattle.dom_slots.specs.Shadows.{shadows, shadow_trees, slot_at};
 ghost use Rattle.dom_slots.specs.Steps.{StepHasNodes, step_node, step_signals};
@@ -15,14 +17,11 @@ ghost use Rattle.dom_slots.specs.declared.step.Step.{Step as StepOf};
 
 use super::bare::Moved;
 use crate::Slots;
-use crate::key_lists::KeyLists;
-use crate::marks::Marks;
 use crate::step::{SlotChange, Step};
 use dom_tree::Forest;
 use node_arena::Key;
 use smallvec::SmallVec;
 use std::alloc::AllocError;
-use std::mem;
 
 impl Slots {
     /// What `end` needs of the forest before a step that is about to be done (own rule). It costs the look-ups of a parent and of a
@@ -51,13 +50,14 @@ impl Slots {
     /// slot change). Up to two of them take no memory. A value to which memory was refused is only dropped. Where there is no host
     /// this costs one look. A step whose node is no slot, and has no child where it is moved, costs no way up to a root. Any other
     /// one costs those from the parents that its node left and has now, and where one of them stands in a shadow tree a walk
-    /// through what is moved, unless it is known that the tree that it left has no slot. Where the parent is a host, sixteen nodes of
-    /// its shadow tree are looked at, then up to sixteen slots that are remembered for that tree, and then all nodes up to the first
-    /// slot that its node looks for, and once all nodes to find out whether that slot may be remembered. A slot is remembered that
-    /// alone has its name, until the tree gets a slot or a slot of it has an attribute changed. Where the slot is another one than
-    /// before, the list of the old one is read, and of the siblings behind the node those up to the first that has the new one.
+    /// through what is moved, unless it is known that the tree that it left has no slot. Where the parent is a host, the slot is found by
+    /// one look under the number of the name that its node looks for, and by the way up from the slot that is found; if several slots
+    /// of the shadow tree had that number, by a walk through the tree up to the first slot of the name. Where the slot is another one
+    /// than before, the list of the old one is read, and of the siblings behind the node those up to the first that has the new one.
     /// Only where what is moved holds a slot, or a slot's attributes change, the trees that were left and reached are walked, each
-    /// once, and where they have such a slot the children of their hosts are read once.
+    /// once, and where they have such a slot the children of their hosts are read once. Where what is moved holds one slot, they
+    /// are walked only if several slots of them had the number of its name, and if it comes back into the tree that it left in
+    /// the step before, its list is copied, and no child of the host is read.
     pub fn end(
         &mut self,
         forest: &Forest,
@@ -75,16 +75,12 @@ impl Slots {
         if self.is_hostless() {
             return Ok(SmallVec::new(self.alloc));
         }
-        let mut bare = mem::replace(&mut self.bare, Marks::new(self.alloc));
-        let mut alone = mem::replace(&mut self.alone, KeyLists::new(self.alloc));
         let kept = change;
         let done = change;
-        let moved = self.follow(&mut bare, forest, kept)?;
-        self.forget_reached(&mut alone, forest, done, &moved);
-        let slot = self.slot_found(&mut alone, forest, change.step.node())?;
+        self.park(forest, done)?;
+        let moved = self.follow(forest, kept)?;
+        let slot = self.slot_found(forest, change.step.node());
         let signals = self.step_signals(forest, change, moved, slot)?;
-        self.bare = bare;
-        self.alone = alone;
         Ok(signals)
     }
 
@@ -96,15 +92,18 @@ impl Slots {
         moved: Moved,
         slot: Option<Key>,
     ) -> Result<SmallVec<Key, 2>, AllocError>
-        requires ended { (was : Trees) × IsEndOf was forest.now self.old change }
+        requires ended { (was : Trees) × (hints : Hints) × IsEndOf was forest.now (with_hints hints self.old) change }
+        requires indexed { AreIndexed forest.now self.old.hosts self.old.index }
+        requires parked { ForSome self.old.parked (IsParked forest.now self.old.hosts) }
         requires moved { IsMoved forest.now self.old.hosts change moved }
         requires own { option_map (name_of forest.now) slot ≡ slot_at (shadows forest.now self.old.hosts) (name_of forest.now (step_node change.step)) }
         requires own_node { ForSome slot (IsNode forest.now) }
-        ensures value { (was : Trees) → IsEndOf was forest.now self.old change →
+        ensures value { (was : Trees) (hints : Hints) → IsEndOf was forest.now (with_hints hints self.old) change →
             IfOk result (λ keys. map (name_of forest.now) keys.items ≡ step_signals forest.now.names
             (shadow_trees forest.now.names was self.old.hosts) (shadows forest.now self.old.hosts) change.step change.left) }
         ensures nodes { IfOk result (λ keys. All (IsNode forest.now) keys.items) }
         ensures hosts { OnOk result (self.new.hosts ≡ self.old.hosts) }
+        ensures hints { OnOk result (hints_of self.new ≡ hints_of self.old) }
         ensures table { OnOk result (IsTableOf forest.now self.old.hosts self.new.table) }
     {
         forest.law_nodes_stand_once();
@@ -140,6 +139,7 @@ impl Slots {
         requires own { option_map (name_of forest.now) slot ≡ slot_at (shadows forest.now self.old.hosts) (name_of forest.now node) }
         requires own_node { ForSome slot (IsNode forest.now) }
         ensures hosts { IfOk result (λ keys. self.new.hosts ≡ self.old.hosts) }
+        ensures hints { IfOk result (λ keys. hints_of self.new ≡ hints_of self.old) }
         ensures renewed { (p : Name → Truth) (old : SlotTable) (step : StepOf) → step_node step ≡ node →
             AreRenewed forest.now self.old.hosts p old [] [] self.old.table [] →
             IfOk result (λ keys. AreRenewed forest.now self.old.hosts p old (own_slots forest.now self.old.hosts was step)

@@ -6,9 +6,8 @@ use Rattle.dom_slots.proofs.table.remember.Goals as goal
 
 -- to no nodes it is given to none
 none_given : (a d : Bool) → a ≡ (a || (d && false))
-none_given true d = refl
 none_given false true = refl
-none_given false false = refl
+none_given a d = refl
 
 pub loop-node-init : goal.loop-node-init
 loop-node-init c = λ k s. none_given (is_in nat_eq s (slots_in c.args.slots.now k)) (nat_eq c.args.slot s)

@@ -1,8 +1,9 @@
 use Rattle.dom_base.proofs.Std.{◌≡◌, ◌<◌, ◌++◌, ◌∷◌, [], List, Some, length, ap, sym, subst, ◌∙◌, arith, nat_eq, if◌then◌else◌, map-append, common_steps}
+use Rattle.dom_base.proofs.Std.{inl, inr, true≢false, cases_Bool, eqb-true, ForSome}
 use Rattle.dom_slots.specs.declared.slots.Attached.{Attached}
-use Rattle.dom_slots.specs.Definitions.{ShadowHost, HostsAreNodes, host_of_root, root_of_host, IsTableOf, SlotsNow, AreBare, AreAlone, is_marked, host_in}
-use Rattle.dom_slots.specs.Definitions.{hosts_in, list_of, table_in}
-use Rattle.dom_model.proofs.Model.{NodeName, is_in}
+use Rattle.dom_slots.specs.Definitions.{ShadowHost, HostsAreNodes, host_of_root, root_of_host, IsTableOf, SlotsNow, AreBare, AreIndexed, is_marked, host_in}
+use Rattle.dom_slots.specs.Definitions.{hosts_in, IsParked, Bearers, bearer_at, MayHave, name_code}
+use Rattle.dom_model.proofs.Model.{NodeName, slot_name, node_in}
 use Rattle.dom_tree.specs.Definitions.{name_at}
 use Rattle.dom_tree.proofs.Standing.{Once-forest, Has-forest}
 use Rattle.dom_slots.proofs.Kept.{found-more}
@@ -72,7 +73,18 @@ returns-clause-slots c =
             slots = λ k within. none-at f.trees once (name_at f.names c.args.root) bare (name_at f.names k) (Has-forest f stands.once k within);
           } (λ r e. let was = slots.bare r (ap (λ (s : SlotsNow). is_marked s.bare r) (sym c.self.view_is) ∙ e) in
           record { hosted = some_host h old.hosts; node = was.node; slots = was.slots }));
-      alone = subst (λ hs. AreAlone f hs (table_in c.self.inside.alone.rows.items)) hosts_are
-          (λ r a e. let was = slots.alone r a (ap (λ (s : SlotsNow). is_in nat_eq a (list_of s.alone r)) (sym c.self.view_is) ∙ e) in
-          record { hosted = some_host h old.hosts; root = was.root; node = was.node; slots = was.slots });
+      index = subst (λ hs. AreIndexed f hs c.self.inside.index.bearers.entries) hosts_are record {
+        covered = λ r k g within node is at slot. elim (cases_Bool (nat_eq c.args.root r)) [
+          | inl e ↦ absurd (true≢false (sym slot ∙ none-at f.trees once (name_at f.names c.args.root) bare (name_at f.names k) (Has-forest f stands.once k node)
+              (at ∙ ap (name_at f.names) (sym (eqb-true c.args.root r e)))))
+          | inr e ↦ subst (λ (i : Bearers). MayHave (bearer_at i (name_code r (slot_name (node_in f.trees (name_at f.names k))))) k)
+              (sym (ap (λ (s : SlotsNow). s.index) c.self.view_is))
+              (slots.index.covered r k g within node (sym (ap (λ b. if b then Some c.args.host else host_of_root old.hosts r) e)
+              ∙ (found-more (λ g. g.root) (λ g. g.host) h old.hosts c.requires.new_root r ∙ is)) at slot)
+        ];
+        inside = λ n k only. slots.index.inside n k (ap (λ (s : SlotsNow). bearer_at s.index n) (sym c.self.view_is) ∙ only);
+      };
+      parked = subst (λ hs. ForSome c.self.inside.parked (IsParked f hs)) hosts_are
+          (λ p is. let was = slots.parked p (ap (λ (s : SlotsNow). s.parked) (sym c.self.view_is) ∙ is) in
+          record { hosted = some_host h old.hosts; slot = was.slot; host = was.host; nodes = was.nodes; list = was.list });
     }

@@ -5,7 +5,7 @@ use Rattle.dom_slots.proofs.Renewing.{renews-none, renews-next}
 use Rattle.dom_slots.proofs.slots.Slots.renew.Goals as goal
 
 pub loop-slot-init : goal.loop-slot-init
-loop-slot-init c = record { hosts = refl; renewed = renews-none }
+loop-slot-init c = record { hosts = refl; hints = refl; renewed = renews-none }
 
 pub assigned_now-requires-clause-hosts : goal.assigned_now-requires-clause-hosts
 assigned_now-requires-clause-hosts c = subst (HostsAreNodes c.args.forest.now.names) (sym c.loop-slot.invariant.hosts) c.requires.hosts
@@ -13,6 +13,7 @@ assigned_now-requires-clause-hosts c = subst (HostsAreNodes c.args.forest.now.na
 pub loop-slot-preserved : goal.loop-slot-preserved
 loop-slot-preserved c = record {
   hosts = c.in_ok-renew_as.ensures.hosts ∙ c.loop-slot.invariant.hosts;
+  hints = c.in_ok-renew_as.ensures.hints ∙ c.loop-slot.invariant.hints;
   renewed = renews-next c.args.slots.now c.loop-slot.slot-index c.slot-item.result c.slot-item.is c.loop-slot-test.true
       c.loop-slot.invariant.hosts c.loop-slot.invariant.renewed c.in_ok-renew_as.ensures.renewed;
 }

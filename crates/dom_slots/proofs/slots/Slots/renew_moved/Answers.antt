@@ -4,6 +4,7 @@ use Rattle.dom_model.proofs.Model.{NodeName, name_eq, is_in, slots_among, subtre
 use Rattle.dom_tree.specs.Definitions.{name_at}
 use Rattle.dom_laws.proofs.Laws.{filter-all, is_in-from}
 use Rattle.dom_slots.specs.Definitions.{is_called, tree_slots, slots_around, left_slots, AreRight, AreSilent, AreRenewed, step_node}
+use Rattle.dom_slots.proofs.Parked.{parked-same}
 use Rattle.dom_slots.proofs.slots.Slots.renew_moved.Goals as goal
 
 pub returns-clause-renewed : goal.returns-clause-renewed
@@ -57,3 +58,8 @@ returns-clause-renewed c =
       subst (λ hs. AreSilent f hs (filter q (left_slots f hs step c.args.change.left)) mid c.renew_left.new.self.table) hosts_now h,
     ))
     (c.renew_left.ensures.renewed right)
+
+pub renew_left-requires-clause-parked : goal.renew_left-requires-clause-parked
+renew_left-requires-clause-parked c =
+    parked-same c.args.self.now c.renew_below.new.self (c.in_ok-renew_below.ensures.hosts ∙ c.in_ok-renew_tree.ensures.hosts)
+    (c.in_ok-renew_below.ensures.hints ∙ c.in_ok-renew_tree.ensures.hints) c.requires.parked

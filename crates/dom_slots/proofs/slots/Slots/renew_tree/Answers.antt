@@ -16,8 +16,8 @@ of-tree : (f : NamedTrees) (q : NodeName → Bool) (x : NodeName) {ks js : List 
     map (name_at f.names) ks ≡ filter q (tree_slots f.trees x)
 of-tree f q x same are root = ap (map (name_at f.names)) same ∙ (are ∙ ap (λ r. filter q (slots_among (subtree f.trees r))) root)
 
-pub waiting_below-requires : goal.waiting_below-requires
-waiting_below-requires c =
+pub waiting_for-requires-clause-host : goal.waiting_for-requires-clause-host
+waiting_for-requires-clause-host c =
     host-node c.args.forest.now.names c.args.self.now.hosts c.requires.hosts c.root-root.result c.in-Some.host (sym c.host_of.ensures ∙ c.in-Some.is)
 
 pub renew_waiting-requires-clause-served : goal.renew_waiting-requires-clause-served

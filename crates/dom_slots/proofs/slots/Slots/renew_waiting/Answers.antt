@@ -29,6 +29,7 @@ nodes-stay n false was now e all = subst (All (λ k. k < n)) (sym e) all
 pub loop-slot-init : goal.loop-slot-init
 loop-slot-init c = record {
   hosts = refl;
+  hints = refl;
   renewed = renews-none;
   served = c.requires.served;
   nodes = c.requires.waiting_nodes;
@@ -60,6 +61,7 @@ loop-slot-preserved c =
     drop_more slots i s c.loop-slot-test.true ∙ ap (λ k. k ∷ drop (i + 1) slots) (sym c.slot-item.is) in
     record {
       hosts = c.in_ok-renew_as.ensures.hosts ∙ c.loop-slot.invariant.hosts;
+      hints = c.in_ok-renew_as.ensures.hints ∙ c.loop-slot.invariant.hints;
       renewed = renews-next slots i s c.slot-item.is c.loop-slot-test.true c.loop-slot.invariant.hosts c.loop-slot.invariant.renewed
           c.in_ok-renew_as.ensures.renewed;
       served = then-others f c.args.self.now.hosts slots i s at (waiting_under c.loop-slot.waiting) (waiting_under c.take-list.new.self)

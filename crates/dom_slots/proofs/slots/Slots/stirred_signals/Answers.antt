@@ -1,6 +1,7 @@
 use Rattle.dom_base.proofs.Std.{◌≡◌, ◌++◌, filter, sym, ap, subst, ◌∙◌, same_Some, none-some}
 use Rattle.dom_tree.specs.Definitions.{name_at}
 use Rattle.dom_slots.specs.Definitions.{own_slots, bare_around, MayMove, IsInside, SlotsNow, AreRenewed, shadows, slot_at}
+use Rattle.dom_slots.proofs.Parked.{parked-same}
 use Rattle.dom_slots.proofs.slots.Slots.stirred_signals.Goals as goal
 use Rattle.dom_slots.proofs.slots.Slots.stirred_signals.Goals.{in-Some+in_ok-add_bare+in_ok-renew_moved, in_default}
 
@@ -47,3 +48,7 @@ returns-clause-renewed c =
           subst (λ xs. IsInside f hosts p old step left slot c.match-around.self.table xs) (sym (ap (λ v. v.items) w.signals-is))
           (subst (λ (s : SlotsNow). IsInside f hosts p old step left slot s.table keys) (sym w.self-is) all)
     ]
+
+pub renew_moved-requires-clause-parked : goal.renew_moved-requires-clause-parked
+renew_moved-requires-clause-parked c =
+    parked-same c.args.self.now c.own_signals.new.self c.in_ok-signals.ensures.hosts c.in_ok-signals.ensures.hints c.requires.parked

@@ -1,9 +1,9 @@
-use Rattle.dom_base.proofs.Std.{◌≡◌, inl, ℕ, ◌==◌, None, List, [], ◌∷◌, Bool, true, length, map, filter, refl, sym, ap, ◌∙◌, arith}
+use Rattle.dom_base.proofs.Std.{◌≡◌, inl, ℕ, ◌==◌, None, List, [], ◌∷◌, true, length, map, filter, refl, sym, ap, ◌∙◌, arith}
 use Rattle.dom_base.proofs.Std.{eqb-true, vec_len, option_map_or}
 use Rattle.dom_model.proofs.Model.{root_of, slots_among, subtree}
 use Rattle.dom_tree.specs.Definitions.{NamedTrees, name_at}
 use Rattle.dom_laws.proofs.Laws.{filter-all}
-use Rattle.dom_slots.specs.Definitions.{is_called, is_marked}
+use Rattle.dom_slots.specs.Definitions.{is_called, is_marked, SlotsNow, with_parked}
 use Rattle.dom_slots.proofs.Bare.{bare-moved}
 use Rattle.dom_slots.proofs.slots.Slots.what_moved.Goals as goal
 
@@ -12,8 +12,8 @@ returns-then-contains c =
     let f = c.args.forest.now in
     let e = c.law_nodes_stand_once.ensures in
     let h = c.requires.ended in
-    bare-moved h.0 f h.1 c.args.change h.3 record { once = e.once; only = e.only } c.top_of.result (sym c.if-is_move.ensures)
-    (ap (λ (m : List Bool). is_marked m c.top_of.result) h.2 ∙ sym c.if-contains.ensures)
+    bare-moved h.0 f (with_parked h.1 c.args.self.now) c.args.change h.2 record { once = e.once; only = e.only } c.top_of.result (sym c.if-is_move.ensures)
+    (ap (λ (s : SlotsNow). is_marked s.bare c.top_of.result) (sym c.self.view_is) ∙ sym c.if-contains.ensures)
     (c.top_of.ensures.value ∙ ap (λ n. option_map_or (λ k. root_of f.trees (name_at f.names k)) c.args.change.left (name_at f.names n)) c.node-node.ensures)
 
 -- the slots that were found are those below the node
