@@ -25,6 +25,17 @@ is_change (Command.set_text x s) = true
 is_change (Command.micro label) = true
 is_change _ = false
 
+-- the commands that change with a word or a string, but for the new element and the attribute's value
+abbrev pub is_wordy_change : Command → Bool
+is_wordy_change (Command.new_text s) = true
+is_wordy_change (Command.new_comment s) = true
+is_wordy_change (Command.unset_attribute x a) = true
+is_wordy_change (Command.set_data x s) = true
+is_wordy_change (Command.replace_data x i n s) = true
+is_wordy_change (Command.set_text x s) = true
+is_wordy_change (Command.micro label) = true
+is_wordy_change _ = false
+
 -- the commands that ask by nodes and numbers alone
 abbrev pub is_short_question : Command → Bool
 is_short_question (Command.tree x) = true

@@ -1,9 +1,10 @@
 //! What a line does, and the lines that answer it.
-ghost use Rattle.std.specs.Prelude.{◌≡◌, ◌++◌, true, OnOk};
+ghost use Rattle.std.specs.Prelude.{◌≡◌, ◌++◌, true, false, OnOk};
+ghost use Rattle.std.specs.Option.{option_map};
 ghost use Rattle.dom_model.specs.Command.{command as model_command};
 ghost use Rattle.dom_model.specs.DocumentMachine.{step, run_command};
 ghost use Rattle.dom_text.specs.Text.{output_text};
-ghost use Rattle.dom_reader.specs.Views.{command_view, line_view, refused_view};
+ghost use Rattle.dom_reader.specs.Views.{command_view, refused_view};
 ghost use Rattle.dom_admission.specs.Handled.{IsHandled};
 ghost use Rattle.dom_commands.specs.Machine.{AreAtNodes, IsAtRest, KeepsListeners};
 ghost use Rattle.dom_commands.specs.CommandGroups.{is_plain};
@@ -12,28 +13,43 @@ use crate::commands;
 use crate::machine::Machine;
 use dom_base::{Fault, Owner, Refusal};
 use dom_printer::put_refusal;
-use dom_reader::{Command, Line};
+use dom_reader::Command;
 use std::alloc::AllocError;
+use std::mem;
 
 impl Machine {
-    /// Does what a line says, and puts the lines that answer it. After an error the machine may stand between two steps.
+    /// Does what an owner's line says, and puts the lines that answer it. What the command holds may be taken out of it. After an error
+    /// the machine may stand between two steps. It is kept out of line, so that a command stays where it was read.
+    #[inline(never)]
     pub fn answer(
         &mut self,
-        read: Result<Line, (Option<Owner>, Refusal)>,
+        owner: &Owner,
+        command: &mut Command,
         out: &mut Vec<u8>,
     ) -> Result<(), AllocError>
         requires { IsAtRest self.old }
-        ensures text { OnOk result (out.new.items ≡ out.old.items ++ output_text (step self.old.world (line_view read)).1) }
-        ensures world { OnOk result (self.new.world ≡ (step self.old.world (line_view read)).0) }
+        ensures text { OnOk result (out.new.items ≡ out.old.items ++ output_text (step self.old.world (model_command owner.now (command_view command.old))).1) }
+        ensures world { OnOk result (self.new.world ≡ (step self.old.world (model_command owner.now (command_view command.old))).0) }
         ensures sound { OnOk result (IsAtRest self.new) }
     {
-        match read {
-            Ok(line) => {
-                let Line { owner, command } = line;
-                self.command(&owner, command, out)
-            }
-            Err((owner, _)) => self.no_command(owner, out),
-        }
+        self.command(owner, command, out)
+    }
+
+    /// Answers a line without a command, of an owner if it has one. It is kept out of line, since few lines have none. After an error the
+    /// machine may stand between two steps.
+    #[cold]
+    #[inline(never)]
+    pub fn answer_no_command(
+        &mut self,
+        owner: Option<&Owner>,
+        out: &mut Vec<u8>,
+    ) -> Result<(), AllocError>
+        requires { IsAtRest self.old }
+        ensures text { OnOk result (out.new.items ≡ out.old.items ++ output_text (step self.old.world (refused_view (option_map (λ o. o.now) owner.entry))).1) }
+        ensures world { OnOk result (self.new.world ≡ (step self.old.world (refused_view (option_map (λ o. o.now) owner.entry))).0) }
+        ensures sound { OnOk result (IsAtRest self.new) }
+    {
+        self.no_command(owner.copied(), out)
     }
 
     /// A line without a command: it is refused as such.
@@ -53,12 +69,12 @@ impl Machine {
     fn command(
         &mut self,
         owner: &Owner,
-        command: Command,
+        command: &mut Command,
         out: &mut Vec<u8>,
     ) -> Result<(), AllocError>
         requires { IsAtRest self.old }
-        ensures text { OnOk result (out.new.items ≡ out.old.items ++ output_text (step self.old.world (model_command owner.now (command_view command))).1) }
-        ensures world { OnOk result (self.new.world ≡ (step self.old.world (model_command owner.now (command_view command))).0) }
+        ensures text { OnOk result (out.new.items ≡ out.old.items ++ output_text (step self.old.world (model_command owner.now (command_view command.old))).1) }
+        ensures world { OnOk result (self.new.world ≡ (step self.old.world (model_command owner.now (command_view command.old))).0) }
         ensures listeners { OnOk result (AreAtNodes self.new) }
     {
         self.close_other_turn(owner, out)?;
@@ -66,10 +82,15 @@ impl Machine {
     }
 
     /// A command that may be made now: what it does, or its refusal.
-    fn run(&mut self, owner: &Owner, command: Command, out: &mut Vec<u8>) -> Result<(), AllocError>
+    fn run(
+        &mut self,
+        owner: &Owner,
+        command: &mut Command,
+        out: &mut Vec<u8>,
+    ) -> Result<(), AllocError>
         requires sound { IsAtRest self.old }
-        ensures text { OnOk result (out.new.items ≡ out.old.items ++ output_text (run_command owner.now (command_view command) self.old.world).1) }
-        ensures world { OnOk result (self.new.world ≡ (run_command owner.now (command_view command) self.old.world).0) }
+        ensures text { OnOk result (out.new.items ≡ out.old.items ++ output_text (run_command owner.now (command_view command.old) self.old.world).1) }
+        ensures world { OnOk result (self.new.world ≡ (run_command owner.now (command_view command.old) self.old.world).0) }
         ensures listeners { OnOk result (AreAtNodes self.new) }
     {
         match self.perform(owner, command, out) {
@@ -79,13 +100,41 @@ impl Machine {
         }
     }
 
-    /// A command, by its handler.
-    fn perform(&mut self, owner: &Owner, command: Command, out: &mut Vec<u8>) -> Result<(), Fault>
+    /// A command, by its handler. What it holds is taken out of its place by the handler that keeps it, so that no other command makes
+    /// room for it.
+    fn perform(
+        &mut self,
+        owner: &Owner,
+        command: &mut Command,
+        out: &mut Vec<u8>,
+    ) -> Result<(), Fault>
         requires sound { IsAtRest self.old }
-        ensures handled { IsHandled owner.now (command_view command) self.old.world self.new.world out.old.items out.new.items result }
+        ensures handled { IsHandled owner.now (command_view command.old) self.old.world self.new.world out.old.items out.new.items result }
         ensures listeners { KeepsListeners self.new result }
     {
         match command {
+            Command::Listen(..)
+            | Command::Unlisten(..)
+            | Command::Dispatch(..)
+            | Command::EndTurn => self.perform_heard(owner, command, out),
+            _ => self.perform_plain(owner, command, out),
+        }
+    }
+
+    /// A command on listeners or events, by its handler. It is kept out of line, so that no other command makes room for these.
+    #[inline(never)]
+    fn perform_heard(
+        &mut self,
+        owner: &Owner,
+        command: &mut Command,
+        out: &mut Vec<u8>,
+    ) -> Result<(), Fault>
+        requires heard { is_plain (command_view command.old) ≡ false }
+        requires sound { IsAtRest self.old }
+        ensures handled { IsHandled owner.now (command_view command.old) self.old.world self.new.world out.old.items out.new.items result }
+        ensures listeners { KeepsListeners self.new result }
+    {
+        match mem::replace(command, Command::EndTurn) {
             Command::Listen(node, words) => self.listen(*owner, node, words, out),
             Command::Unlisten(node, event, label, capture) => {
                 self.unlisten(*owner, node, &event, &label, capture, out)
@@ -94,7 +143,7 @@ impl Machine {
                 self.dispatch(*owner, target, event, related, out)
             }
             Command::EndTurn => self.end_turn(*owner, out),
-            other => self.perform_plain(owner, other, out),
+            _ => unreachable!(),
         }
     }
 
@@ -102,12 +151,12 @@ impl Machine {
     fn perform_plain(
         &mut self,
         owner: &Owner,
-        command: Command,
+        command: &mut Command,
         out: &mut Vec<u8>,
     ) -> Result<(), Fault>
-        requires plain { is_plain (command_view command) ≡ true }
+        requires plain { is_plain (command_view command.old) ≡ true }
         requires sound { IsAtRest self.old }
-        ensures handled { IsHandled owner.now (command_view command) self.old.world self.new.world out.old.items out.new.items result }
+        ensures handled { IsHandled owner.now (command_view command.old) self.old.world self.new.world out.old.items out.new.items result }
         ensures listeners { KeepsListeners self.new result }
     {
         self.state.law_names_tell_nodes();

@@ -297,10 +297,8 @@ module _ (failed fails : ℕ) (old new : Taken) where
 
   -- and no more is read
   pub flush-within : (e : RunFault) (n m : ℕ) → StopsWriting e failed fails old new [] ⊥ → m ≤ n + input_limit → ReadsWithin (Err e) n m
-  flush-within Write n m h few = few
-  flush-within Memory n m h few = few
-  flush-within Read n m h few = few
   flush-within InputLimit n m h few = absurd h
+  flush-within e n m h few = few
 
 -- what was read and written stays so behind a flush that went well
 pub read-flushed : {given : List ℕ} {view : Option Owner} {from mid : Option (List ℕ)} {old between new : Taken} {kept : List ℕ} {w : World} →
@@ -318,10 +316,8 @@ read-flushed {old} {between} {new} read flushed = record {
 module _ (room : ℕ) (text : List (List ℕ) → List ℕ) (kept : List ℕ) (from to : Option (List ℕ)) (failed fails : ℕ) (old new : Taken) where
   pub one_read-within : (e : RunFault) (n m : ℕ) → StopsOneRead e room text kept from to failed fails old new → m ≤ n + input_limit →
       ReadsWithin (Err e) n m
-  one_read-within Write n m h few = few
-  one_read-within Memory n m h few = few
-  one_read-within Read n m h few = few
   one_read-within InputLimit n m h few = absurd h
+  one_read-within e n m h few = few
 
 -- where one read more was to find the end
 pub more-within : (n m : ℕ) (r : Result (Unit {0}) RunFault) {room mid : ℕ} → room ≤ read_size → mid ≡ n + input_limit → ReadsMore r room mid m →

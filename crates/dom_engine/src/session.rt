@@ -1,13 +1,15 @@
 //! Sessions: lines in, answers out.
-ghost use Rattle.std.specs.Prelude.{◌≡◌, ◌++◌, None, true, false, IfOk, OnOk, OnErr};
+ghost use Rattle.std.specs.Prelude.{◌≡◌, ◌++◌, None, Some, true, false, IfOk, OnOk, OnErr};
 ghost use Rattle.dom_model.specs.DocumentMachine.{first_world, step, finish};
 ghost use Rattle.dom_text.specs.Text.{output_text};
 ghost use Rattle.dom_commands.specs.Machine.{IsAtRest};
-ghost use Rattle.dom_text.specs.Decode.{decode};
+ghost use Rattle.dom_text.specs.Decode.{decode, owner_at as spec_owner_at};
 ghost use Rattle.dom_engine.specs.Session.{RefusesForeign};
 
+use dom_base::Owner;
 use dom_commands::Machine;
-use dom_reader::parse_line;
+use dom_reader::{owner_at, page_bytes, parse_command};
+use dom_words::NotRead;
 use std::alloc::{AllocError, Global};
 use std::marker::Model;
 
@@ -112,6 +114,9 @@ fn end(machine: &mut Machine, alloc: Global) -> Result<Vec<u8>, AllocError>
     Ok(out)
 }
 
+/// The owner of most lines. It stands once, so that no line makes it anew.
+static PAGE: Owner = Owner::Page;
+
 /// What a line does, with the lines that answer it.
 fn answer(
     machine: &mut Machine,
@@ -124,6 +129,50 @@ fn answer(
     ensures world { OnOk result (machine.new.world ≡ (step machine.old.world (decode line.now)).0) }
     ensures sound { OnOk result (IsAtRest machine.new) }
 {
-    let read = parse_line(alloc, line)?;
-    machine.answer(read, out)
+    match page_bytes(line) {
+        Some(bytes) => answer_owner(machine, alloc, line, &PAGE, bytes, out),
+        None => answer_spelled(machine, alloc, line, out),
+    }
+}
+
+/// What a line does whose owner is spelled in whatever way. It is kept out of line, so that the page's lines make no room for an owner.
+#[inline(never)]
+fn answer_spelled(
+    machine: &mut Machine,
+    alloc: Global,
+    line: &[u8],
+    out: &mut Vec<u8>,
+) -> Result<(), AllocError>
+    requires { IsAtRest machine.old }
+    ensures text { OnOk result (out.new.items ≡ out.old.items ++ output_text (step machine.old.world (decode line.now)).1) }
+    ensures world { OnOk result (machine.new.world ≡ (step machine.old.world (decode line.now)).0) }
+    ensures sound { OnOk result (IsAtRest machine.new) }
+{
+    match &owner_at(line) {
+        Some((owner, bytes)) => answer_owner(machine, alloc, line, owner, bytes, out),
+        None => machine.answer_no_command(None, out),
+    }
+}
+
+/// What an owner's line does, with these bytes behind the owner's word.
+#[inline(never)]
+fn answer_owner(
+    machine: &mut Machine,
+    alloc: Global,
+    line: &[u8],
+    owner: &Owner,
+    bytes: &[u8],
+    out: &mut Vec<u8>,
+) -> Result<(), AllocError>
+    requires sound { IsAtRest machine.old }
+    requires owner { spec_owner_at line.now ≡ Some (owner.now, bytes.now) }
+    ensures text { OnOk result (out.new.items ≡ out.old.items ++ output_text (step machine.old.world (decode line.now)).1) }
+    ensures world { OnOk result (machine.new.world ≡ (step machine.old.world (decode line.now)).0) }
+    ensures sound { OnOk result (IsAtRest machine.new) }
+{
+    match &mut parse_command(alloc, line, owner, bytes) {
+        Ok(command) => machine.answer(owner, command, out),
+        Err(NotRead::Syntax) => machine.answer_no_command(Some(owner), out),
+        Err(NotRead::Memory) => Err(AllocError),
+    }
 }

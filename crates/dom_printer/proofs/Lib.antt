@@ -1,3 +1,4 @@
+mod Cutting
 mod KeepLaws
 mod LineLaws
 mod PlainLaws

@@ -9,11 +9,7 @@ use Rattle.dom_printer.specs.Steps.{shown, shown_as, shown_steps}
 opening_text-shown_as : (viewer : Owner) (kind : Kind) (node : Node) →
     opening_text viewer (shown_as kind node) ≡ codes "(" ++ node_text viewer node.name ++ codes " " ++ kind_word kind ++ own_parts kind node
 opening_text-shown_as viewer kinds.Document node = refl
-opening_text-shown_as viewer kinds.Fragment node = refl
-opening_text-shown_as viewer kinds.Shadow node = refl
-opening_text-shown_as viewer kinds.Element node = refl
-opening_text-shown_as viewer kinds.Text node = refl
-opening_text-shown_as viewer kinds.Comment node = refl
+opening_text-shown_as viewer kind node = refl
 
 -- four lists in a row, grouped to the left
 regrouped : (a b c d : List ℕ) → a ++ (b ++ (c ++ d)) ≡ a ++ b ++ c ++ d

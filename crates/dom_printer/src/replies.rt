@@ -61,21 +61,33 @@ pub fn put_reply(out: &mut Vec<u8>, owner: Owner, value: &Value<'_>) -> Result<(
         ≡ out.old.items ++ output_text (says owner (replied (value_view value.now)) ∷ [])) }
     ensures err { OnErr result (out.new.items ≡ out.old.items) }
 {
-    match (owner, value) {
-        (Owner::Page, Value::Nothing) => put_page_done(out),
-        (Owner::Page, Value::Null) => out.extend_from_slice(b"p ok null\n"),
-        (Owner::Page, Value::Truth(true)) => out.extend_from_slice(b"p ok true\n"),
-        (Owner::Page, Value::Truth(false)) => out.extend_from_slice(b"p ok false\n"),
-        (
-            Owner::Page,
-            Value::Node(
-                NodeName {
-                    owner: Owner::Page,
-                    number,
-                },
-            ),
-        ) => put_page_node(out, *number),
+    match owner {
+        Owner::Page => put_page_value(out, value),
         _ => put_value(out, &owner, value),
+    }
+}
+
+/// The page, as it stands in its own replies. It stands once, so that no reply makes it anew.
+static PAGE: Owner = Owner::Page;
+
+/// Puts the page's reply with its end.
+#[inline(always)]
+fn put_page_value(out: &mut Vec<u8>, value: &Value<'_>) -> Result<(), AllocError>
+    ensures ok { OnOk result (out.new.items ≡ out.old.items ++ output_text (says Page (replied (value_view value.now)) ∷ [])) }
+    ensures err { OnErr result (out.new.items ≡ out.old.items) }
+{
+    match value {
+        Value::Nothing => put_page_done(out),
+        Value::Null => out.extend_from_slice(b"p ok null\n"),
+        Value::Truth(true) => out.extend_from_slice(b"p ok true\n"),
+        Value::Truth(false) => out.extend_from_slice(b"p ok false\n"),
+        Value::Node(
+            NodeName {
+                owner: Owner::Page,
+                number,
+            },
+        ) => put_page_node(out, *number),
+        _ => put_value(out, &PAGE, value),
     }
 }
 
@@ -88,16 +100,19 @@ fn put_page_done(out: &mut Vec<u8>) -> Result<(), AllocError>
     out.extend_from_slice(b"p ok\n")
 }
 
-/// Puts the page's reply that has a node of its own, and asks once for the room of all of it.
+/// Puts the page's reply that has a node of its own, and asks once for the room of all of it. So many bytes are copied from the first digit
+/// on, whatever the number, that they are copied at once; those behind the line's end are then cut off.
 fn put_page_node(out: &mut Vec<u8>, number: u32) -> Result<(), AllocError>
     ensures ok { OnOk result (out.new.items ≡ out.old.items ++ line_text Page (codes "ok n" ++ decimal number)) }
     ensures err { OnErr result (out.new.items ≡ out.old.items) }
 {
-    let mut end = *b"0000000000\n";
-    let start = write_digits(number as u64, &mut end, 10);
-    out.reserve(b"p ok n".len() + end.len())?;
+    let mut digits = *b"0000000000\n          ";
+    let start = write_digits(number as u64, &mut digits, 10);
+    out.reserve(b"p ok n".len() + 11)?;
     out.extend_from_slice(b"p ok n")?;
-    out.extend_from_slice(&end[start..])
+    out.extend_from_slice(&digits[start..start + 11])?;
+    out.truncate(out.len() - start);
+    Ok(())
 }
 
 /// Puts the reply that has no value.

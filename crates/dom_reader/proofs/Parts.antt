@@ -6,6 +6,7 @@ use Rattle.dom_words.specs.declared.not_read.NotRead.TheVariants.{Syntax, Memory
 use Rattle.dom_words.specs.Gives.{Fails}
 use Rattle.dom_model.proofs.Model.{is_name}
 use Rattle.dom_text.specs.Definitions.{only_if}
+use Rattle.dom_text.proofs.WordLaws.{only_if_some}
 
 -- what was put behind the others, seen one by one
 pub put_behind : {X Y : Type 0} (seen : X → Y) (xs after : List X) (x : X) → after ≡ xs ++ x ∷ [] → map seen after ≡ map seen xs ++ seen x ∷ []
@@ -15,11 +16,6 @@ put_behind seen xs after x e = ap (map seen) e ∙ map-append seen xs (x ∷ [])
 pub all_named : (texts left parts : List (List ℕ)) → left ≡ [] → texts ++ left ≡ parts → list_all is_name texts ≡ true
     → only_if (list_all is_name parts) parts ≡ Some texts
 all_named texts left parts none all names = rw (← all, none, append-nil texts, names) refl
-
--- a value that is there passed its test
-passed : {A : Type 0} (t : Bool) (x y : A) → only_if t x ≡ Some y → (t ≡ true) × (x ≡ y)
-passed true x y e = (refl, cc)
-passed false x y e = absurd cc
 
 -- a value that is not there did not
 not_passed : {A : Type 0} (t : Bool) (x : A) → only_if t x ≡ None → t ≡ false
@@ -44,7 +40,7 @@ pub one_named : {bytes : List ℕ} {parts : List (List ℕ)} (texts : List (List
     only_if (is_name first) first ≡ Some bytes → texts ++ first ∷ others ≡ parts → list_all is_name texts ≡ true
     → ((texts ++ bytes ∷ []) ++ others ≡ parts) × (list_all is_name (texts ++ bytes ∷ []) ≡ true)
 one_named {bytes} texts first others named all names =
-    let found = passed (is_name first) first bytes named in (
+    let found = only_if_some (is_name first) first bytes named in (
       append_assoc texts (bytes ∷ []) others ∙ ap (λ (x : List ℕ). texts ++ x ∷ others) (sym found.1) ∙ all,
       names_and texts bytes names (ap is_name (sym found.1) ∙ found.0),
     )

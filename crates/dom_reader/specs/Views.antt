@@ -1,9 +1,8 @@
 -- What was read, seen as the text's keywords, and as the model's commands and lines.
-use Rattle.std.specs.Prelude.{◌≡◌, ℕ, map, Option, Some, None, option_map, string_bytes, Result, Ok, Err}
+use Rattle.std.specs.Prelude.{ℕ, map, Option, Some, None, option_map, string_bytes, Result, Ok, Err}
 use Rattle.dom_base.specs.declared.Owner.{Owner}
 use Rattle.dom_base.specs.declared.Owner.TheVariants.{Page, Component}
 use Rattle.dom_base.specs.declared.Refusal.{Refusal}
-use Rattle.dom_base.specs.declared.Refusal.TheVariants.{Syntax}
 use Rattle.dom_model.specs.Command as model
 use Rattle.dom_reader.specs.declared.keywords.Keyword.{Keyword as Grouped}
 use Rattle.dom_reader.specs.declared.keywords.Keyword.TheVariants as grouped
@@ -239,8 +238,3 @@ refused_view (Some owner) = model.no_command owner
 abbrev pub line_view : Result Line (Option Owner × Refusal) → model.Line
 line_view (Ok line) = model.command line.owner (command_view line.command)
 line_view (Err e) = refused_view e.0
-
--- a line that has no command is refused as such
-abbrev pub IsSyntax : Result Line (Option Owner × Refusal) → Type 0
-IsSyntax (Ok line) = Unit {0}
-IsSyntax (Err e) = e.1 ≡ Syntax

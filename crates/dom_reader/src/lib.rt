@@ -11,20 +11,25 @@ mod nodes;
 mod separated;
 mod splitter;
 
-ghost use Rattle.std.specs.Prelude.{◌≡◌, IfOk, IfErr};
+ghost use Rattle.std.specs.Prelude.{◌≡◌, IfOk, IfErr, Some};
 ghost use Rattle.dom_base.specs.declared.Refusal.TheVariants.{Syntax};
-ghost use Rattle.dom_text.specs.Decode.{decode};
-ghost use Rattle.dom_reader.specs.Views.{line_view};
+ghost use Rattle.dom_model.specs.Command.{command as model_command, no_command};
+ghost use Rattle.dom_words.specs.declared.not_read.NotRead.TheVariants.{Syntax as NoCommand};
+ghost use Rattle.dom_text.specs.Decode.{decode, line_of};
+ghost use Rattle.dom_reader.specs.Views.{command_view, line_view};
 
-use crate::commands::command_at;
-use crate::nodes::owner_at;
+use crate::commands::{
+    content_command, cursor_command, event_command, making_command, next_keyword, observer_command,
+    question_command, range_command, tree_command,
+};
+use crate::keywords::Keyword;
 use dom_base::{MAX_LINE, Owner, Refusal};
-use dom_words::NotRead;
+use dom_words::{NotRead, WordReader};
 pub use laws::law_pieces;
 pub use line::{
     Command, EventWords, Filter, Line, ListenerWords, NameFilter, NodeWord, ObserveWords, Show,
 };
-pub use nodes::owner_of;
+pub use nodes::{owner_at, owner_of, page_bytes};
 pub use splitter::Splitter;
 use std::alloc::{AllocError, Global};
 
@@ -41,12 +46,38 @@ pub fn parse_line(
     let Some((owner, bytes)) = owner_at(line) else {
         return Ok(Err((None, Refusal::Syntax)));
     };
-    if line.len() > MAX_LINE {
-        return Ok(Err((Some(owner), Refusal::Syntax)));
-    }
-    match command_at(alloc, &owner, bytes) {
+    match parse_command(alloc, line, &owner, bytes) {
         Ok(command) => Ok(Ok(Line { owner, command })),
         Err(NotRead::Syntax) => Ok(Err((Some(owner), Refusal::Syntax))),
         Err(NotRead::Memory) => Err(AllocError),
+    }
+}
+
+/// The command that an owner's line says, given with the bytes behind the owner's word, as `owner_at` has them: `parse_line` for who has
+/// found the owner. A line that says no command is refused as `syntax`. The other error is memory refused to the words and strings that
+/// the command keeps. It is in line, so that a command is passed on fewer times.
+#[inline(always)]
+pub fn parse_command(
+    alloc: Global,
+    line: &[u8],
+    owner: &Owner,
+    bytes: &[u8],
+) -> Result<Command, NotRead>
+    ensures read { IfOk result (λ command. line_of line.now (Some (owner.now, bytes.now)) ≡ model_command owner.now (command_view command)) }
+    ensures refused { IfErr result (λ e. e ≡ NoCommand → line_of line.now (Some (owner.now, bytes.now)) ≡ no_command owner.now) }
+{
+    if line.len() > MAX_LINE {
+        return Err(NotRead::Syntax);
+    }
+    let mut words = WordReader::new(bytes);
+    match next_keyword(&mut words)? {
+        Keyword::Making(word) => making_command(alloc, word, owner, &mut words),
+        Keyword::Tree(word) => tree_command(word, owner, &mut words),
+        Keyword::Content(word) => content_command(alloc, word, owner, &mut words),
+        Keyword::Question(word) => question_command(alloc, word, owner, &mut words),
+        Keyword::Range(word) => range_command(word, owner, &mut words),
+        Keyword::Cursor(word) => cursor_command(alloc, word, owner, &mut words),
+        Keyword::Event(word) => event_command(alloc, word, owner, &mut words),
+        Keyword::Observer(word) => observer_command(alloc, word, owner, &mut words),
     }
 }

@@ -2,6 +2,7 @@
 
 ghost use Rattle.std.specs.Prelude.{◌≡◌, nat_lt, option_map, length, ◌≤◌, IfSome, Some};
 ghost use Rattle.std.specs.List.{prefix_len};
+ghost use Rattle.dom_base.specs.declared.Owner.TheVariants.{Page};
 ghost use Rattle.dom_base.specs.Owners.{no_path, longer_path};
 ghost use Rattle.dom_text.specs.Readers.{only_if, between_dots, path_onto, component_of as spec_component_of, owner_of as spec_owner_of, behind as spec_behind};
 ghost use Rattle.dom_text.specs.Readers.{is_no_colon, page_node as spec_page_node, inner_node as spec_inner_node, full_name_of as spec_full_name_of};
@@ -86,14 +87,11 @@ fn short_component_at(line: &[u8]) -> Option<(Owner, &[u8])>
     }
 }
 
-/// The owner whose word and a space begin the line, and the bytes from the space on. The page's word, and that of a component
-/// with one number, are read in one pass.
+/// The owner whose word and a space begin the line, and the bytes from the space on. The word of a component with one number is read in
+/// one pass.
 pub fn owner_at(line: &[u8]) -> Option<(Owner, &[u8])>
     ensures { option_map (λ x. (x.0, x.1.now)) result ≡ spec_owner_at line.now }
 {
-    if let [b'p', b' ', ..] = line {
-        return Some((Owner::Page, &line[1..]));
-    }
     if let Some(found) = short_component_at(line) {
         return Some(found);
     }
@@ -101,6 +99,17 @@ pub fn owner_at(line: &[u8]) -> Option<(Owner, &[u8])>
     let owner = owner_of(word)?;
     match rest {
         [b' ', ..] => Some((owner, rest)),
+        _ => None,
+    }
+}
+
+/// The bytes from the space on of a line that the page's word and a space begin. It is in line, since most lines are the page's.
+#[inline(always)]
+pub fn page_bytes(line: &[u8]) -> Option<&[u8]>
+    ensures { IfSome result (λ bytes. spec_owner_at line.now ≡ Some (Page, bytes.now)) }
+{
+    match line {
+        [b'p', b' ', ..] => Some(&line[1..]),
         _ => None,
     }
 }

@@ -1,0 +1,28 @@
+-- A buffer that got more bytes than it keeps.
+use Rattle.dom_base.proofs.Std.{◌≡◌, ℕ, ◌∷◌, [], ◌+◌, ◌-◌, ◌<◌, ◌≤◌, List, ◌++◌, length, take, drop, sym, ap, ◌∙◌, arith, length-append}
+use Rattle.dom_base.proofs.Std.{length-drop, length-take-le, take-append-add, take-append-drop, take-append-le, take-append_seam}
+
+-- ten spaces
+abbrev pub spaces : List ℕ
+spaces = 32 ∷ 32 ∷ 32 ∷ 32 ∷ 32 ∷ 32 ∷ 32 ∷ 32 ∷ 32 ∷ 32 ∷ []
+
+-- so many bytes stand behind a place where no fewer were found
+module _ (xs front more : List ℕ) (s k : ℕ) where
+  pub reaches : 0 < k → drop s xs ≡ front ++ more → k ≤ length more → s + k ≤ length xs
+  reaches some e enough =
+      let f : length xs - s ≡ length front + length more = sym (length-drop s xs) ∙ ap length e ∙ length-append front more in
+      omega arith
+
+-- of so many bytes that were put, a text and some behind it, those behind it are cut off
+module _ (old text more : List ℕ) (s k : ℕ) where
+  pub cut : s + length text ≡ k → s ≤ length more → take (length (old ++ take k (text ++ more)) - s) (old ++ take k (text ++ more)) ≡ old ++ text
+  cut is few =
+      let put = take k (text ++ more) in
+      let whole = length-append text more in
+      let long : length put ≡ k = length-take-le k (text ++ more) (omega arith) in
+      let both = length-append old put in
+      let count : length (old ++ put) - s ≡ length old + length text = omega arith in
+      let front : take (length text) put ≡ text =
+      sym (take-append-le (length text) put (drop k (text ++ more)) (omega arith)) ∙ ap (take (length text)) (take-append-drop k (text ++ more))
+      ∙ take-append_seam text more in
+      ap (λ (n : ℕ). take n (old ++ put)) count ∙ take-append-add old put (length text) ∙ ap (λ (x : List ℕ). old ++ x) front
