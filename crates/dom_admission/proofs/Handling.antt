@@ -8,8 +8,9 @@ use Rattle.dom_model.proofs.Model.{changes, Output, says, replied, Said, Value, 
 use Rattle.dom_model.proofs.Model.{find_part, put_part, with_part, is_there, world_after, Command, NodeWord, effect, own_refusal, effect_in, refusal, accepted}
 use Rattle.dom_model.proofs.Model.{is_busy, owner_eq-same, owner_eq-true}
 use Rattle.dom_admission.proofs.Finding.{key_of}
-use Rattle.dom_admission.proofs.Refusing.{IsNaming, and_true, refusal-naming}
+use Rattle.dom_admission.proofs.Refusing.{IsNaming, refusal-naming}
 use Rattle.dom_admission.proofs.Turned.{after_turned}
+use Rattle.dom_base.proofs.Std.{and-true}
 
 -- ---- the tests that all commands share
 
@@ -35,19 +36,15 @@ passes w o names is ok = record { early = none; owner = known.0; present = known
     cases : (busy foreign there present fitting : Bool) →
         first_refusal ((busy, Busy) ∷ (foreign, Foreign) ∷ (not there, Unknown) ∷ (not present, Unknown) ∷ (not fitting, WrongKind) ∷ []) ≡ None →
         (there ≡ true) × (present ≡ true) × (fitting ≡ true)
-    cases true foreign there present fitting h = absurd cc
-    cases false true there present fitting h = absurd cc
-    cases false false false present fitting h = absurd cc
-    cases false false true false fitting h = absurd cc
-    cases false false true true false h = absurd cc
     cases false false true true true h = (refl, refl, refl)
+    cases busy foreign there present fitting h = absurd cc
 
     known : (is_there w o ≡ true) × (are_there (part_of w o) names ≡ true) × (are_fitting (part_of w o) names ≡ true)
     known = cases (is_busy w o) (has_foreign names) (is_there w o) (are_there (part_of w o) names) (are_fitting (part_of w o) names) none
 
 -- the one thing that it names is there
 pub one_there : {w : World} {o : Owner} {n : Operand} → Passes w o (n ∷ []) → is_there_as (part_of w o) n ≡ true
-one_there {w = w} {o = o} {n = n} p = sym (and_true (is_there_as (part_of w o) n)) ∙ p.present
+one_there {w = w} {o = o} {n = n} p = sym (and-true (is_there_as (part_of w o) n)) ∙ p.present
 
 -- In a state with these documents, a line that was let pass: what it names is so in the documents.
 module _ (t : Option Owner) (d s : DocState) (seen : turned t d ≡ s) (o : Owner) (n : Operand) where

@@ -3,6 +3,7 @@ use Rattle.dom_admission.proofs.Cited.{◌≡◌, Bool, true, false, ◌&&◌, L
 use Rattle.dom_admission.proofs.Cited.{are_fitting, early_refusal, Slot, NodeWord, word_view}
 use Rattle.dom_model.proofs.Model.{Owner, Page, Component, Refusal, Syntax, Busy, Foreign, Unknown, WrongKind, Command, names_foreign, nodes_exist, nodes_fit}
 use Rattle.dom_model.proofs.Model.{thing_exists, is_command_of, own_refusal, Part, first_refusal, World, part_of, is_there, is_busy, refusal, is_page}
+use Rattle.dom_base.proofs.Std.{and-true}
 
 -- a command of this owner that names these nodes, ranges, iterators, walkers and observers, and nothing else
 pub record IsNaming (o : Owner) (c : Command) (names : List Operand) : Type 0 where
@@ -21,21 +22,12 @@ joined : (busy foreign absent unknown misfit : Bool) (own : Option Refusal) →
     option_or (first_refusal ((false, Syntax) ∷ (busy, Busy) ∷ (foreign, Foreign) ∷ (absent, Unknown) ∷ []))
     (option_or (first_refusal ((unknown, Unknown) ∷ (misfit, WrongKind) ∷ [])) own)
     ≡ option_or (first_refusal ((busy, Busy) ∷ (foreign, Foreign) ∷ (absent, Unknown) ∷ (unknown, Unknown) ∷ (misfit, WrongKind) ∷ [])) own
-joined true foreign absent unknown misfit own = refl
-joined false true absent unknown misfit own = refl
-joined false false true unknown misfit own = refl
-joined false false false true misfit own = refl
 joined false false false false true own = refl
-joined false false false false false own = refl
-
--- what is to hold beside what always does
-pub and_true : (b : Bool) → (b && true) ≡ b
-and_true true = refl
-and_true false = refl
+joined busy foreign absent unknown misfit own = refl
 
 -- a test between two others that goes last
 pub and_last : (a b : Bool) → ((a && true) && b) ≡ (a && (b && true))
-and_last true b = sym (and_true b)
+and_last true b = sym (and-true b)
 and_last false b = refl
 
 -- for a command that names these
@@ -49,9 +41,9 @@ refusal-naming w o c names is =
 -- ---- what each command names
 
 -- That a command names what its handler admits follows by computation and these: a handler's proof says `search namings`.
-pub ruleset namings = (offered, and_true, and_last)
+pub ruleset namings = (offered, and-true, and_last)
 
 -- only components may say it
 pub naming-assigned : (o : Owner) → is_page o ≡ false → (x : NodeWord) → IsNaming o (Command.assigned (word_view x)) (Slot x ∷ [])
 naming-assigned Page h x = absurd cc
-naming-assigned (Component k) h x = record { mine = refl; foreign = refl; exist = λ p. and_true _; fit = λ p. refl }
+naming-assigned (Component k) h x = record { mine = refl; foreign = refl; exist = λ p. and-true _; fit = λ p. refl }

@@ -1,10 +1,9 @@
 -- Steps do in a world with an open turn what they do in the world alone.
 use Rattle.dom_admission.proofs.Cited.{◌≡◌, ℕ, zero, suc, Bool, true, false, List, [], ◌∷◌, Option, Some, None, fold, flat_map, filter_map, refl, ap, ◌∙◌}
 use Rattle.dom_admission.proofs.Cited.{with_turn}
-use Rattle.dom_model.proofs.Model.{Owner, NodeName, max_depth, parent_of, inclusive_descendants, Step, make, make_room, place, take_out, set_document}
-use Rattle.dom_model.proofs.Model.{set_attribute, replace_data, split_at, join_at, set_range, queue_record, is_taken, signals, with_signal, World, part_of}
-use Rattle.dom_model.proofs.Model.{component_at, components_below, shadow_root_of, trees_with, world_step, world_after, stepped, with_removal_signals}
-use Rattle.dom_model.proofs.Model.{with_notify_if, with_shadow_document}
+use Rattle.dom_model.proofs.Model.{Owner, NodeName, max_depth, parent_of, inclusive_descendants, Step, place, take_out, set_document, set_attribute}
+use Rattle.dom_model.proofs.Model.{queue_record, is_taken, signals, with_signal, World, part_of, component_at, components_below, shadow_root_of}
+use Rattle.dom_model.proofs.Model.{trees_with, world_step, world_after, stepped, with_removal_signals, with_notify_if, with_shadow_document}
 
 module _ (t : Option Owner) where
   signals_turned : (w : World) (ss : List NodeName) → fold with_signal (with_turn t w) ss ≡ with_turn t (fold with_signal w ss)
@@ -31,19 +30,14 @@ module _ (t : Option Owner) where
   notify_turned false o w = refl
 
   step_turned : (o : Owner) (w : World) (s : Step) → world_step o (with_turn t w) s ≡ with_turn t (world_step o w s)
-  step_turned o w (make n) = refl
-  step_turned o w (make_room parent index count) = refl
   step_turned o w (place x parent before) = signals_turned (stepped o w (place x parent before)) (signals w (stepped o w (place x parent before)) x parent true)
   step_turned o w (take_out x) = removal_turned w (stepped o w (take_out x)) x (parent_of (part_of w o).trees x)
   step_turned o w (set_document x d) =
       ap (fold (with_shadow_document d) (with_turn t (stepped o w (set_document x d)))) (components_turned max_depth w x)
       ∙ documents_turned d (stepped o w (set_document x d)) (components_below max_depth w x)
   step_turned o w (set_attribute x a v) = signals_turned (stepped o w (set_attribute x a v)) (signals w (stepped o w (set_attribute x a v)) x x false)
-  step_turned o w (replace_data x offset count new) = refl
-  step_turned o w (split_at x offset new parent index) = refl
-  step_turned o w (join_at first size next parent index) = refl
-  step_turned o w (set_range k r) = refl
   step_turned o w (queue_record c) = notify_turned (is_taken (part_of w o) c) o (stepped o w (queue_record c))
+  step_turned o w s = refl
 
   -- the steps of an owner
   pub after_turned : (o : Owner) (w : World) (steps : List Step) → world_after o (with_turn t w) steps ≡ with_turn t (world_after o w steps)

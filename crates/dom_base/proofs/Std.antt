@@ -7,7 +7,7 @@ pub use Rattle.std.proofs.Common.{replicate, Result, reverse, rules, set, slice_
 pub use Rattle.std.proofs.Common.{tests, true, true≢false, unwrap_or, Vec, w64, zero, zero-add, [], ◌%◌, ◌&&◌, ◌*◌, ◌++◌, ◌+◌, ◌-◌, ◌/◌, ◌<◌, ◌==◌, ◌^◌, ◌||◌}
 pub use Rattle.std.proofs.Common.{◌↔◌, ◌∙◌, ◌∷◌, ◌≡◌, ◌≢◌, ◌≤◌, ◌⊎◌, ℕ}
 pub use Rattle.std.proofs.KnownBytes.{Appends-kept, Appends-nil, Appends-trans, Consumes-nil, Consumes-trans, Consumes-whole}
-pub use Rattle.std.proofs.Math.Bool.{or-false, or-true}
+pub use Rattle.std.proofs.Math.Bool.{and-false, and-not_self, and-true, or-false, or-true}
 pub use Rattle.std.proofs.Math.ListN.{drop_of_length-le, get_or-append}
 pub use Rattle.std.proofs.Math.Nat.{add-zero, min_comm, pow-le-pow_right}
 pub use Rattle.std.proofs.Math.Seq.{get_or-append_seam, set-append_seam, take-append-add, take-append_seam, take-length, take-suc, take-suc-set}
@@ -21,14 +21,13 @@ pub use Rattle.std.proofs.lemmas.Fmt.{decimal_digit, decimal-digits_value, decim
 pub use Rattle.std.proofs.lemmas.Fn.{filter_same}
 pub use Rattle.std.proofs.lemmas.Grind.{common_steps, flat_map-append, get_or_default_zero, pow_more}
 pub use Rattle.std.proofs.lemmas.Iterator.{items_from_drains, YieldsList-from_slice}
-pub use Rattle.std.proofs.lemmas.Iterator.Adapters.{option_map_id}
 pub use Rattle.std.proofs.lemmas.Iterator.Consumers.{YieldsList-from_copied}
 pub use Rattle.std.proofs.lemmas.Iterator.Search.{any_from_yields_List}
-pub use Rattle.std.proofs.lemmas.List.{append_cancel_right, drop-append-le, drop_at, drop_more, drop-set-lt, ext_get_or, flat_map_more, get_or_append_left}
-pub use Rattle.std.proofs.lemmas.List.{get_or-append_right, get_or_default, get_or-drop, get_or-map, get_or_push, get_or-set_other, get_or-set_same}
-pub use Rattle.std.proofs.lemmas.List.{get_or-take, length-map, length_push, length-take-le, map-append, map-id, map_more, map_push, map-set, nil_from_length}
-pub use Rattle.std.proofs.lemmas.List.{reverse-append, set_at, set_past, take_all, take-append-drop, take-append-le, take_at, take-map, take_min, take_more}
-pub use Rattle.std.proofs.lemmas.List.{take_rest, take-set-le, take-take}
+pub use Rattle.std.proofs.lemmas.List.{append_cancel_right, drop-append-le, drop_at, drop_more, drop-set-lt, ext_get_or, flat_map_more}
+pub use Rattle.std.proofs.lemmas.List.{get_or_append_left, get_or-append_right, get_or_default, get_or-drop, get_or-map, get_or_push, get_or-set_other}
+pub use Rattle.std.proofs.lemmas.List.{get_or-set_same, get_or-take, length-map, length_push, length-take-le, map-append, map-id, map_more, map_push}
+pub use Rattle.std.proofs.lemmas.List.{map-set, nil_from_length, reverse-append, set_past, take_all, take-append-drop, take-append-le, take_at}
+pub use Rattle.std.proofs.lemmas.List.{take-map, take_min, take_more, take_rest, take-set-le, take-take}
 pub use Rattle.std.proofs.lemmas.List.Concat.{flat_map-cons}
 pub use Rattle.std.proofs.lemmas.List.Edits.{get_or-remove_above, get_or-remove_below, length-remove}
 pub use Rattle.std.proofs.lemmas.List.Elements.{All-append, All-cons, All-filter, All-from_recursion, All-head, All-map, All-nil, All-push, All-tail}
@@ -37,10 +36,9 @@ pub use Rattle.std.proofs.lemmas.List.Elements.{filter_more}
 pub use Rattle.std.proofs.lemmas.List.Filters.{length-filter_both}
 pub use Rattle.std.proofs.lemmas.List.Folds.{find-append, list_all-append, list_all_at, list_any-append, list_any_at}
 pub use Rattle.std.proofs.lemmas.List.Quantifiers.{position-Some}
-pub use Rattle.std.proofs.lemmas.List.Sorted.{All-permutation, Contains-permutation, IsNonDecreasingBy-from_sort_by_key, IsPartitionedBy-leb}
-pub use Rattle.std.proofs.lemmas.List.Sorted.{IsPartitionedBy-ltb, IsPartitionPoint-from_clause, IsPermutation-append_comm, IsPermutation-cons}
-pub use Rattle.std.proofs.lemmas.List.Sorted.{IsPermutation-put_mid, IsPermutation-refl, IsPermutation-remove, IsPermutation-sym, IsPermutation-trans}
-pub use Rattle.std.proofs.lemmas.List.Sorted.{length_permutation, sum_by-IsPermutation}
+pub use Rattle.std.proofs.lemmas.List.Sorted.{All-permutation, Contains-permutation, IsNonDecreasingBy-from_sort_by_key, IsPartitionPoint-from_clause}
+pub use Rattle.std.proofs.lemmas.List.Sorted.{IsPermutation-append_comm, IsPermutation-cons, IsPermutation-put_mid, IsPermutation-refl}
+pub use Rattle.std.proofs.lemmas.List.Sorted.{IsPermutation-remove, IsPermutation-sym, IsPermutation-trans, length_permutation, sum_by-IsPermutation}
 pub use Rattle.std.proofs.lemmas.List.Splits.{join_with_byte-slice_split, length-slice_split, slice_split_at, slice_split_none}
 pub use Rattle.std.proofs.lemmas.List.Sums.{AllPass-from_list_all, fold-append, fold_more, get_or-le-sum_by, prefix_len-le-length, prefix_len_stops}
 pub use Rattle.std.proofs.lemmas.List.Sums.{sum_by-append, sum_by-cons, take_while-cons}

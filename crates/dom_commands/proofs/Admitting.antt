@@ -80,8 +80,5 @@ unrefused_there w o c e = cases (is_command_of o c) (is_busy w o) (names_foreign
     cases : (mine busy foreign there : Bool) →
         option_or (first_refusal ((not mine, Syntax) ∷ (busy, Busy) ∷ (foreign, Foreign) ∷ (not there, Unknown) ∷ []))
         (part_refusal (part_of w o) c) ≡ None → there ≡ true
-    cases false busy foreign there h = absurd cc
-    cases true true foreign there h = absurd cc
-    cases true false true there h = absurd cc
     cases true false false true h = refl
-    cases true false false false h = absurd cc
+    cases mine busy foreign there h = absurd cc

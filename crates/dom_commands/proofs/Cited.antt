@@ -4,7 +4,7 @@ pub use Rattle.dom_base.proofs.Std.{cond-false, cond-true, drop, Err, err_from_i
 pub use Rattle.dom_base.proofs.Std.{get_or-append_seam, get_or-take, if◌then◌else◌, is_some, IsErrAnd, length, length-take, List, list_any, map, min, nat_eq}
 pub use Rattle.dom_base.proofs.Std.{None, none-some, not, Ok, OnOk, Option, option_and_then, option_map, option_map_or, option_or, option_to_list, position}
 pub use Rattle.dom_base.proofs.Std.{refl, Result, reverse, rules, same_Some, slice_get, slice_get_past, Some, subst, suc, sym, take, true}
-pub use Rattle.dom_base.proofs.Std.{true≢false, unwrap_or, zero, ℕ, ◌&&◌, ◌++◌, ◌+◌, ◌-◌, ◌<◌, ◌==◌, ◌||◌, ◌∙◌, ◌∷◌, ◌≡◌, ◌≢◌, ◌≤◌}
+pub use Rattle.dom_base.proofs.Std.{true≢false, unwrap_or, zero, ℕ, ◌&&◌, ◌++◌, ◌<◌, ◌||◌, ◌∙◌, ◌∷◌, ◌≡◌, ◌≢◌, ◌≤◌}
 pub use Rattle.dom_admission.proofs.Finding.{key_of, owner-named, read_at}
 pub use Rattle.dom_admission.proofs.Handling.{faults, may_act, MayAct, opened-part, opened-there, plans, refused, tells, thing_there, with_part-same}
 pub use Rattle.dom_admission.proofs.OwnRefusals.{lone_passes, lone_refuses, none_stopped, refuses}

@@ -2,8 +2,8 @@
 use Rattle.dom_commands.proofs.Cited.{◌≡◌, ℕ, ◌<◌, Bool, true, false, List, [], ◌∷◌, ◌++◌, filter, fold, length, map, reverse, arith, refl, ap, nat_eq, ◌||◌}
 use Rattle.dom_commands.proofs.Cited.{All, AllByRecursion, All-cons, ForSome, all-append, all-filter, all-map, all-reverse, all-then, either_way, ShowsNodes}
 use Rattle.dom_commands.proofs.Cited.{LogLine, line_in, line_named, NamesNodes, line_shown}
-use Rattle.dom_model.proofs.Model.{Action, Log, Stop, StopNow, Cancel, NodeName, EventWords, visit_of, visits_of, is_at_target, event_output, Listener, Visit}
-use Rattle.dom_model.proofs.Model.{Dispatching, after_action, may_cancel, line_of, kept_after, after_inner_invoke, hears, after_invoke, begun, Output, View}
+use Rattle.dom_model.proofs.Model.{Action, Log, NodeName, EventWords, visit_of, visits_of, is_at_target, event_output, Listener, Visit, Dispatching}
+use Rattle.dom_model.proofs.Model.{after_action, may_cancel, line_of, kept_after, after_inner_invoke, hears, after_invoke, begun, Output, View}
 
 -- what holds of each item
 pub every : {X : Type 0} (P : X → Type 0) (xs : List X) → AllByRecursion P xs → All P xs
@@ -35,9 +35,7 @@ module _ (names : List NodeName) (e : EventWords) where
   action-lines : (a : Action) (cancels : Bool) (d : Dispatching ℕ) → AllByRecursion (NamesNodes names) d.lines →
       AllByRecursion (NamesNodes names) (after_action a cancels d).lines
   action-lines Log cancels d h = h
-  action-lines Stop cancels d h = h
-  action-lines StopNow cancels d h = h
-  action-lines Cancel cancels d h = h
+  action-lines a cancels d h = h
 
   called-lines : (v : Visit ℕ) → VisitsNodes v → (d : Dispatching ℕ) (l : Listener ℕ) → AllByRecursion (NamesNodes names) d.lines →
       AllByRecursion (NamesNodes names) (after_inner_invoke nat_eq e v d l).lines

@@ -9,9 +9,9 @@ use Rattle.dom_model.proofs.Model.{replied, nothing, a_node, a_string, boundarie
 use Rattle.dom_model.proofs.Model.{inserting_into_range, range_text_of, Range, Run, answering, Step, Iterator, Walker, iterator_next_node}
 use Rattle.dom_model.proofs.Model.{iterator_previous_node, walker_move, node_in, opening_turn, first_refusal, World, part_of, with_part, is_there}
 use Rattle.dom_model.proofs.Model.{component_made, is_connected, assigned_nodes}
-use Rattle.dom_commands.proofs.DeafPlans.{deaf-pre_inserting, deaf-replacing, deaf-adopting, deaf-splitting, deaf-normalizing, deaf-setting_text, deaf-deleting}
-use Rattle.dom_commands.proofs.DeafPlans.{deaf-into_range, deaf-extracting}
-use Rattle.dom_commands.proofs.ListenerWorlds.{FitsIn, there-heard, part-heard, with_part-heard, assigned-heard, connected-heard, after-heard}
+use Rattle.dom_worlds.proofs.PlanLemmas.{blind-pre_inserting, blind-replacing, blind-adopting, blind-splitting, blind-normalizing, blind-setting_text}
+use Rattle.dom_worlds.proofs.PlanLemmas.{blind-deleting, blind-into_range, blind-extracting}
+use Rattle.dom_commands.proofs.ListenerWorlds.{FitsIn, there-heard, part-heard, step-hearing, with_part-heard, assigned-heard, connected-heard, after-heard}
 
 -- an effect with listeners
 abbrev hearing_effect : (Owner → List (Listener NodeName)) → Effect → Effect
@@ -66,23 +66,32 @@ module _ (of : Owner → List (Listener NodeName)) where
   -- its effects
   effect-hearing : (p : Part) (c : Command) → is_plain c ≡ true → effect (hearing of p) c ≡ hearing_effect of (effect p c)
   effect-hearing p (Command.new_element a) plain = refl
-  effect-hearing p (Command.append a x) plain = ap (λ (steps : List Step). changes steps nothing) (deaf-pre_inserting of (named p x) (named p a) None p)
+  effect-hearing p (Command.append a x) plain =
+      ap (λ (steps : List Step). changes steps nothing) (blind-pre_inserting (hearing of) (step-hearing of) (named p x) (named p a) None p)
   effect-hearing p (Command.insert a x c) plain =
-      ap (λ (steps : List Step). changes steps nothing) (deaf-pre_inserting of (named p x) (named p a) (Some (named p c)) p)
-  effect-hearing p (Command.replace a x c) plain = ap (λ (steps : List Step). changes steps nothing) (deaf-replacing of (named p a) (named p x) (named p c) p)
-  effect-hearing p (Command.adopt d x) plain = ap (λ (steps : List Step). changes steps nothing) (deaf-adopting of (named p d) (named p x) p)
-  effect-hearing p (Command.normalize x) plain = ap (λ (steps : List Step). changes steps nothing) (deaf-normalizing of (named p x) p)
-  effect-hearing p (Command.split x i) plain = ap (λ (steps : List Step). changes steps (a_node (next_name p))) (deaf-splitting of (named p x) i p)
-  effect-hearing p (Command.set_text x s) plain = ap (λ (steps : List Step). changes steps nothing) (deaf-setting_text of (named p x) s p)
+      ap (λ (steps : List Step). changes steps nothing) (blind-pre_inserting (hearing of) (step-hearing of) (named p x) (named p a) (Some (named p c)) p)
+  effect-hearing p (Command.replace a x c) plain =
+      ap (λ (steps : List Step). changes steps nothing) (blind-replacing (hearing of) (step-hearing of) (named p a) (named p x) (named p c) p)
+  effect-hearing p (Command.adopt d x) plain =
+      ap (λ (steps : List Step). changes steps nothing) (blind-adopting (hearing of) (step-hearing of) (named p d) (named p x) p)
+  effect-hearing p (Command.normalize x) plain =
+      ap (λ (steps : List Step). changes steps nothing) (blind-normalizing (hearing of) (step-hearing of) (named p x) p)
+  effect-hearing p (Command.split x i) plain =
+      ap (λ (steps : List Step). changes steps (a_node (next_name p))) (blind-splitting (hearing of) (step-hearing of) (named p x) i p)
+  effect-hearing p (Command.set_text x s) plain =
+      ap (λ (steps : List Step). changes steps nothing) (blind-setting_text (hearing of) (step-hearing of) (named p x) s p)
   effect-hearing p (Command.range_get r) plain = range-hearing p r (λ range. answers p (boundaries range.start range.end))
   effect-hearing p (Command.range_text r) plain = range-hearing p r (λ range. answers p (a_string (range_text_of p.trees range)))
   effect-hearing p (Command.extract r) plain =
-      ap (λ (steps : List Step). changes steps (a_node (next_name p))) (of_range-hearing p r (extracting r) (λ range. deaf-extracting of r range p))
+      ap (λ (steps : List Step). changes steps (a_node (next_name p))) (of_range-hearing p r (extracting r)
+      (λ range. blind-extracting (hearing of) (step-hearing of) r range p))
   effect-hearing p (Command.delete r) plain =
-      ap (λ (steps : List Step). changes steps nothing) (of_range-hearing p r (deleting r) (λ range. deaf-deleting of r range p))
+      ap (λ (steps : List Step). changes steps nothing) (of_range-hearing p r (deleting r)
+      (λ range. blind-deleting (hearing of) (step-hearing of) r range p))
   effect-hearing p (Command.insert_node r x) plain =
       ap (λ (steps : List Step). changes steps nothing)
-      (of_range-hearing p r (λ range. inserting_into_range r range (named p x)) (λ range. deaf-into_range of r range (named p x) p))
+      (of_range-hearing p r (λ range. inserting_into_range r range (named p x))
+      (λ range. blind-into_range (hearing of) (step-hearing of) r range (named p x) p))
   effect-hearing p (Command.iterator_next i) plain =
       iterator-hearing p i (λ it. moves_iterator (hearing of p) i false it (iterator_next_node p.trees it))
       (λ it. moves_iterator p i false it (iterator_next_node p.trees it)) (λ it. refl)

@@ -2,7 +2,6 @@ mod Cited
 mod Admitting
 mod Bounded
 mod Closing
-mod DeafPlans
 mod Dispatching
 mod EventCommands
 mod EventLines

@@ -167,21 +167,12 @@ module _ (of : Owner → List (Listener NodeName)) where
 
   -- a step in a part
   pub step-hearing : (p : Part) (s : Step) → part_step (hearing of p) s ≡ hearing of (part_step p s)
-  step-hearing p (make n) = refl
-  step-hearing p (make_room parent index count) = refl
-  step-hearing p (place x parent before) = refl
   step-hearing p (take_out x) = by (parent_of p.trees x)
     where
       by : (o : Option NodeName) → option_map_or (leave (hearing of p) x) o (hearing of p) ≡ hearing of (option_map_or (leave p x) o p)
       by None = refl
       by (Some parent) = refl
-  step-hearing p (set_document x d) = refl
-  step-hearing p (set_attribute x a v) = refl
-  step-hearing p (replace_data x offset count new) = refl
-  step-hearing p (split_at x offset new parent index) = refl
-  step-hearing p (join_at first size next parent index) = refl
-  step-hearing p (set_range k r) = refl
-  step-hearing p (queue_record c) = refl
+  step-hearing p s = refl
 
   stepped-heard : (o : Owner) (w : World) (s : Step) → FitsIn w → stepped o (heard of w) s ≡ heard of (stepped o w s)
   stepped-heard o w s fits =

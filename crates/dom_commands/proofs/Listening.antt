@@ -4,11 +4,11 @@ use Rattle.dom_commands.proofs.Cited.{refl, sym, ap, ◌∙◌, true≢false, na
 use Rattle.dom_commands.proofs.Cited.{get_or-take, length-take, filter-append, min, any-filter_same, all-filter, all-append, filter-filter, by_cases}
 use Rattle.dom_commands.proofs.Cited.{either_way, name_at, TellApart, is_of_owner, HasListeners, listener_named, IsListenerAt, listened-named, unlistened-named}
 use Rattle.dom_commands.proofs.Cited.{filter-wider, BeginsWith, heard, own_listeners}
-use Rattle.dom_model.proofs.Model.{Action, Log, Stop, StopNow, Cancel, NodeName, Owner, Page, EventWords, ListenerWords, Listener, Visit, Dispatching}
-use Rattle.dom_model.proofs.Model.{after_action, may_cancel, line_of, is_listener, with_listener_removed, with_listener_added, kept_after, after_inner_invoke}
-use Rattle.dom_model.proofs.Model.{hears, after_invoke, Word, owner_eq, name_eq, text_eq, node_of, World, is_there, owner_eq-true, owner_eq-same, ne-owner_eq}
-use Rattle.dom_model.proofs.Model.{name_eq-true, owner-part_of}
+use Rattle.dom_model.proofs.Model.{NodeName, Owner, Page, EventWords, ListenerWords, Listener, Visit, Dispatching, is_listener, with_listener_removed}
+use Rattle.dom_model.proofs.Model.{with_listener_added, after_invoke, Word, owner_eq, name_eq, text_eq, node_of, World, is_there, owner_eq-true}
+use Rattle.dom_model.proofs.Model.{owner_eq-same, ne-owner_eq, name_eq-true, owner-part_of}
 use Rattle.dom_commands.proofs.ListenerWorlds.{FitsIn, part-heard}
+use Rattle.dom_worlds.proofs.TurnLemmas.{after-visit}
 
 -- the owners of nodes are there
 abbrev pub OwnersAreThere : List NodeName → World → Type 0
@@ -152,33 +152,6 @@ module _ (names : List NodeName) (apart : TellApart names) (ls : List (Listener 
 -- ---- a dispatch leaves some of the listeners
 
 module _ {N : Type 0} (same : N → N → Bool) (P : Listener N → Type 0) (e : EventWords) where
-  after-action : (a : Action) (cancels : Bool) (d : Dispatching N) → AllByRecursion P d.listeners → AllByRecursion P (after_action a cancels d).listeners
-  after-action Log cancels d h = h
-  after-action Stop cancels d h = h
-  after-action StopNow cancels d h = h
-  after-action Cancel cancels d h = h
-
-  after-called : (v : Visit N) (d : Dispatching N) (l : Listener N) → AllByRecursion P d.listeners → AllByRecursion P
-      (after_inner_invoke same e v d l).listeners
-  after-called v d l h =
-      let left = kept_after same l d.listeners in
-      let next : Dispatching N = record d { listeners = left; lines = d.lines ++ line_of v l.words ∷ [] } in
-      let gone = with_listener_removed same l.node l.words.event l.words.label l.words.capture d.listeners in
-      let kept : AllByRecursion P left =
-      either_way (AllByRecursion P) l.words.once gone d.listeners
-      (all-filter P (λ k. not (is_listener same l.node l.words.event l.words.label l.words.capture k)) d.listeners h) h in
-      either_way (λ (s : Dispatching N). AllByRecursion P s.listeners) d.stopped_now d (after_action l.words.action (may_cancel e l.words) next) h
-      (after-action l.words.action (may_cancel e l.words) next kept)
-
-  after-calls : (v : Visit N) (ls : List (Listener N)) (d : Dispatching N) → AllByRecursion P d.listeners →
-      AllByRecursion P (fold (after_inner_invoke same e v) d ls).listeners
-  after-calls v [] d h = h
-  after-calls v (l ∷ ls) d h = after-calls v ls (after_inner_invoke same e v d l) (after-called v d l h)
-
   pub after-visits : (vs : List (Visit N)) (d : Dispatching N) → AllByRecursion P d.listeners → AllByRecursion P (fold (after_invoke same e) d vs).listeners
   after-visits [] d h = h
-  after-visits (v ∷ vs) d h =
-      let hearing = filter (hears same e v) d.listeners in
-      after-visits vs (after_invoke same e d v)
-      (either_way (λ (s : Dispatching N). AllByRecursion P s.listeners) d.stopped d (fold (after_inner_invoke same e v) d hearing) h
-      (after-calls v hearing d h))
+  after-visits (v ∷ vs) d h = after-visits vs (after_invoke same e d v) (after-visit same P e v d h)

@@ -3,7 +3,7 @@ use Rattle.dom_commands.proofs.Cited.{◌≡◌, ℕ, true, false, List, [], ◌
 use Rattle.dom_commands.proofs.Cited.{AllByRecursion, is_some, slice_get, slice_get_past, IsBounded, IsReached, IsWhole, accepted-facts, attach-may}
 use Rattle.dom_commands.proofs.Cited.{first-is_bounded, step-keeps_bounds, first-is_reached, step-keeps_reached, attached-are_there, first-is_whole}
 use Rattle.dom_commands.proofs.Cited.{step-keeps_whole, host_of-made, DocState, IsListenerAt, IsHandled, BeginsWith, KeepsNames, heard, own_listeners}
-use Rattle.dom_commands.proofs.Cited.{MachineNow, machine_now, IsAtRest, AreAtNodes, KeepsListeners, HasFirstNodes, is_plain, opened-part}
+use Rattle.dom_commands.proofs.Cited.{MachineNow, machine_now, OnOk, IsAtRest, AreAtNodes, KeepsListeners, HasFirstNodes, is_plain, opened-part}
 use Rattle.dom_model.proofs.Model.{Fault, Refused, Memory, NodeName, Owner, Page, Command, Line, Listener, first_world, refusal, step, node_of, opening_turn}
 use Rattle.dom_model.proofs.Model.{Part, World, part_of, is_there, component_made, MayAttach, component_made-no_page}
 use Rattle.dom_commands.proofs.Bounded.{first_nodes-unheard}
@@ -91,9 +91,11 @@ module _ (s : DocState) (ls : List (Listener ℕ)) (m : MachineNow) (seen : mach
 
 -- ---- lines
 
--- a line
-pub line_sound : (m n : MachineNow) (l : Line) → IsAtRest m → n.world ≡ (step m.world l).0 → AreAtNodes n → IsAtRest n
-line_sound m n l sound is at =
+-- a line, where it was carried out
+pub line_sound : {T E : Type 0} {m : MachineNow} (r : Result T E) (n : MachineNow) (l : Line) → IsAtRest m → OnOk r (n.world ≡ (step m.world l).0) →
+    OnOk r (AreAtNodes n) → OnOk r (IsAtRest n)
+line_sound (Err e) n l sound is at = tt
+line_sound {m = m} (Ok x) n l sound is at =
     record {
       listeners = at;
       reached = subst (IsReached false) (sym is) (step-keeps_reached false m.world l sound.reached (λ e. absurd (true≢false (sym e))));

@@ -7,11 +7,11 @@ pub use Rattle.dom_base.proofs.Std.{list_any, list_any-append, map, map-append, 
 pub use Rattle.dom_base.proofs.Std.{option_map, option_map_or, or-false, or-true, refl, remove, Result, reverse, reverse-append, rules, set-append_seam}
 pub use Rattle.dom_base.proofs.Std.{slice_get, slice_get-get_or, slice_get-map, slice_get_within, slice_index_or, slice_set, Some, string_bytes, subst, suc}
 pub use Rattle.dom_base.proofs.Std.{sym, take, take_all, take_more, tests, true, true≢false, zero, ℕ, ◌&&◌, ◌++◌, ◌+◌, ◌-◌, ◌<◌, ◌||◌, ◌∙◌, ◌∷◌, ◌≡◌, ◌≢◌, ◌≤◌}
-pub use Rattle.dom_model.proofs.Model.{Action, after_action, after_inner_invoke, after_invoke, begun, Cancel, Dispatching, event_output, EventLine, EventWords}
-pub use Rattle.dom_model.proofs.Model.{hears, is_at_target, is_listener, kept_after, line_of, Listener, ListenerWords, Log, may_cancel, name_eq, ne-owner_eq}
-pub use Rattle.dom_model.proofs.Model.{NodeName, Owner, owner-part_of, owner_eq, owner_eq-same, owner_eq-true, Part, part_of, part_of-with_part}
-pub use Rattle.dom_model.proofs.Model.{part_of-with_part-other, Stop, StopNow, text_eq, View, views, Visit, visit_of, visits_of, with_listener_added}
-pub use Rattle.dom_model.proofs.Model.{with_listener_removed, with_part, Word, World, world_visit}
+pub use Rattle.dom_model.proofs.Model.{Action, after_action, after_inner_invoke, after_invoke, begun, Dispatching, event_output, EventLine, EventWords}
+pub use Rattle.dom_model.proofs.Model.{hears, is_at_target, is_listener, kept_after, line_of, Listener, ListenerWords, Log, may_cancel, name_eq}
+pub use Rattle.dom_model.proofs.Model.{ne-owner_eq, NodeName, Owner, owner-part_of, owner_eq, owner_eq-same, owner_eq-true, Part, part_of}
+pub use Rattle.dom_model.proofs.Model.{part_of-with_part, part_of-with_part-other, text_eq, View, views, Visit, visit_of, visits_of}
+pub use Rattle.dom_model.proofs.Model.{with_listener_added, with_listener_removed, with_part, Word, World, world_visit}
 pub use Rattle.dom_attributes.proofs.Attributes.{text_test}
 pub use Rattle.dom_dispatch.specs.Definitions.{AreAtNodes, dispatch_along, dispatch_among, DispatchedAlong, DispatchedAmong, DispatchedStay, dispatching_in}
 pub use Rattle.dom_dispatch.specs.Definitions.{dispatching_named, entry_at, event_words, HasPathOf, HasTypes, hears_at, holds_at, is_noted, is_of_node}

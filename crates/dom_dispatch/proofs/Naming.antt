@@ -1,11 +1,11 @@
 -- What is done to listeners by keys is what is done by names.
-use Rattle.dom_dispatch.proofs.Cited.{◌≡◌, ℕ, ◌<◌, Bool, true, false, not, ◌&&◌, ◌||◌, List, [], ◌∷◌, ◌++◌, length, map, filter, fold, reverse, option_map}
-use Rattle.dom_dispatch.proofs.Cited.{refl, sym, ap, ◌∙◌, nat_eq, if◌then◌else◌, AllByRecursion, list_any, beq, cond-true, cond-false, map-append}
-use Rattle.dom_dispatch.proofs.Cited.{reverse-append, Action, Log, Stop, StopNow, Cancel, NodeName, Word, text_eq, name_eq, EventWords, ListenerWords, Listener}
+use Rattle.dom_dispatch.proofs.Cited.{◌≡◌, ℕ, ◌<◌, Bool, true, false, not, ◌&&◌, ◌||◌, List, [], ◌∷◌, ◌++◌, length, map, filter, fold, reverse}
+use Rattle.dom_dispatch.proofs.Cited.{option_map, refl, sym, ap, ◌∙◌, nat_eq, if◌then◌else◌, AllByRecursion, list_any, beq, cond-true, cond-false}
+use Rattle.dom_dispatch.proofs.Cited.{map-append, reverse-append, Action, Log, NodeName, Word, text_eq, name_eq, EventWords, ListenerWords, Listener}
 use Rattle.dom_dispatch.proofs.Cited.{Visit, Dispatching, after_action, may_cancel, line_of, is_listener, with_listener_removed, with_listener_added}
-use Rattle.dom_dispatch.proofs.Cited.{kept_after, after_inner_invoke, hears, after_invoke, begun, View, is_at_target, visit_of, visits_of, by_cases, all-append}
-use Rattle.dom_dispatch.proofs.Cited.{all-filter, all-reverse, key-test, name_at, TellApart, view_named, listener_named, visit_named, line_named}
-use Rattle.dom_dispatch.proofs.Cited.{dispatching_named, IsListenerAt, IsViewOf}
+use Rattle.dom_dispatch.proofs.Cited.{kept_after, after_inner_invoke, hears, after_invoke, begun, View, is_at_target, visit_of, visits_of, by_cases}
+use Rattle.dom_dispatch.proofs.Cited.{all-append, all-filter, all-reverse, key-test, name_at, TellApart, view_named, listener_named, visit_named}
+use Rattle.dom_dispatch.proofs.Cited.{line_named, dispatching_named, IsListenerAt, IsViewOf}
 use Rattle.dom_dispatch.proofs.Staying.{heard_by, called-at, visited-at}
 
 -- a list mapped from its end
@@ -85,9 +85,7 @@ module _ (names : List NodeName) (apart : TellApart names) where
   acted-named : (a : Action) (cancels : Bool) (s : Dispatching ℕ) →
       dispatching_named names (after_action a cancels s) ≡ after_action a cancels (dispatching_named names s)
   acted-named Log cancels s = refl
-  acted-named Stop cancels s = refl
-  acted-named StopNow cancels s = refl
-  acted-named Cancel cancels s = refl
+  acted-named a cancels s = refl
 
   module _ (e : EventWords) where
     -- one call

@@ -1,8 +1,8 @@
 -- A visit among some of the listeners only, where all that hear it are among these.
 use Rattle.dom_dispatch.proofs.Cited.{◌≡◌, Bool, true, false, not, List, [], ◌∷◌, ◌++◌, filter, fold, refl, sym, ap, ◌∙◌, if◌then◌else◌, AllByRecursion}
-use Rattle.dom_dispatch.proofs.Cited.{cond-true, cond-false, Action, Log, Stop, StopNow, Cancel, EventWords, Listener, Visit, Dispatching, after_action}
-use Rattle.dom_dispatch.proofs.Cited.{may_cancel, line_of, is_listener, with_listener_removed, kept_after, after_inner_invoke, hears, after_invoke, all-passed}
-use Rattle.dom_dispatch.proofs.Cited.{by_cases, filter-filter}
+use Rattle.dom_dispatch.proofs.Cited.{cond-true, cond-false, Action, Log, EventWords, Listener, Visit, Dispatching, after_action, may_cancel, line_of}
+use Rattle.dom_dispatch.proofs.Cited.{is_listener, with_listener_removed, kept_after, after_inner_invoke, hears, after_invoke, all-passed, by_cases}
+use Rattle.dom_dispatch.proofs.Cited.{filter-filter}
 
 module _ {X : Type 0} where
   -- a test that all pass which pass another one
@@ -22,9 +22,7 @@ module _ {X : Type 0} where
 -- an action leaves listeners
 pub acted-listeners : {N : Type 0} (a : Action) (cancels : Bool) (s : Dispatching N) → (after_action a cancels s).listeners ≡ s.listeners
 acted-listeners Log cancels s = refl
-acted-listeners Stop cancels s = refl
-acted-listeners StopNow cancels s = refl
-acted-listeners Cancel cancels s = refl
+acted-listeners a cancels s = refl
 
 module _ {N : Type 0} (same : N → N → Bool) (e : EventWords) where
   -- a dispatch on its way, with some of its listeners
@@ -35,9 +33,7 @@ module _ {N : Type 0} (same : N → N → Bool) (e : EventWords) where
     -- an action does not look at listeners
     acted-narrow : (a : Action) (cancels : Bool) (s : Dispatching N) → narrowed c (after_action a cancels s) ≡ after_action a cancels (narrowed c s)
     acted-narrow Log cancels s = refl
-    acted-narrow Stop cancels s = refl
-    acted-narrow StopNow cancels s = refl
-    acted-narrow Cancel cancels s = refl
+    acted-narrow a cancels s = refl
 
     -- one that is for once goes from all and from some
     kept-narrow : (l : Listener N) (ls : List (Listener N)) → filter c (kept_after same l ls) ≡ kept_after same l (filter c ls)

@@ -1,12 +1,12 @@
 -- Groups that keep makers: the page alone, the page with a family, a component with its makers, and all who are not inside a component. For the
 -- page, and for the page with a family, a boundary host is a node of the page.
 use Rattle.dom_base.proofs.Std.{◌≡◌, ◌≢◌, ◌≤◌, ℕ, zero, suc, Bool, true, false, not, ◌||◌, List, [], ◌∷◌, ◌++◌, flat_map, get_or, Option, Some, None, refl, sym}
-use Rattle.dom_base.proofs.Std.{ap, ◌∙◌, arith, true≢false, append-nil, nat_le, slice_set, option_to_list, list_any, and_parts, leb-true}
+use Rattle.dom_base.proofs.Std.{ap, ◌∙◌, arith, true≢false, append-nil, nat_le, slice_set, option_to_list, list_any, and_parts, leb-true, or_right}
 use Rattle.dom_model.proofs.Model.{longer_path, no_path, made_by, Owner, Page, Component, owner_eq, owner_depth, component_made, MayAttach, World, host_above}
 use Rattle.dom_model.proofs.Model.{host_chain, is_in_family, family_group, top_owner, makers_from, is_inside, makers_group, is_page, boundary_host}
 use Rattle.dom_model.proofs.Model.{owner_eq-true, owner_eq-false, owner_eq-same, ne-owner_eq, component_made-no_page, maker-word, made_by-is, made_by-made}
 use Rattle.dom_model.proofs.Model.{NodeName}
-use Rattle.dom_worlds.proofs.ListLemmas.{by_cases, or-second, or-later}
+use Rattle.dom_worlds.proofs.ListLemmas.{by_cases, or-later}
 use Rattle.dom_worlds.proofs.ShadowTreeLemmas.{IsBelow, above-host, below-host}
 use Rattle.dom_worlds.proofs.OwnerLemmas.{hosted, hosted-owned, hosted-maker}
 use Rattle.dom_isolation.specs.Definitions.{PageIsGroup, FamilyIsGroup, MakersAreGroup, OthersAreGroup, PageHostIsPage, FamilyHostIsPage}
@@ -76,9 +76,9 @@ module _ (o : Owner) (k : ℕ) (may : MayAttach o) where
       absurd (omega (arith, d, deep))
   maker-among (suc depth) c d h =
       by_cases (owner_eq (component_made o k) c)
-      (λ t. or-second (owner_eq o c) (among o (behind depth (made_by c)))
+      (λ t. or_right (owner_eq o c) (among o (behind depth (made_by c)))
       (ap (λ m. among o (behind depth m)) (ap made_by (sym (owner_eq-true (component_made o k) c t)) ∙ made_by-made o k may) ∙ makers-first depth o []))
-      (λ t. or-second (owner_eq o c) (among o (behind depth (made_by c)))
+      (λ t. or_right (owner_eq o c) (among o (behind depth (made_by c)))
       (from (made_by c) refl (or-later (owner_eq (component_made o k) c) (among (component_made o k) (behind depth (made_by c))) t h) (maker-among depth)))
     where
       from : (m : Option (Owner × ℕ)) → made_by c ≡ m → among (component_made o k) (behind depth m) ≡ true →
@@ -93,7 +93,7 @@ module _ (o : Owner) (k : ℕ) (may : MayAttach o) where
   -- whoever an owner is inside of, what it makes is inside of too
   inside-made : (c : Owner) → is_inside c o ≡ true → is_inside c (component_made o k) ≡ true
   inside-made c h =
-      or-second (owner_eq c (component_made o k)) (among c (behind (owner_depth o) (made_by (component_made o k))))
+      or_right (owner_eq c (component_made o k)) (among c (behind (owner_depth o) (made_by (component_made o k))))
       (ap (λ m. among c (behind (owner_depth o) m)) (made_by-made o k may) ∙ ap (among c) (append-nil (makers_from (owner_depth o) o)) ∙ h)
 
 -- a component with its makers
@@ -101,7 +101,7 @@ pub makers-are_group : MakersAreGroup
 makers-are_group c =
     record {
       page = refl;
-      made = λ o k may h. or-second (is_page o) (is_inside o c)
+      made = λ o k may h. or_right (is_page o) (is_inside o c)
           (maker-among o k may (owner_depth c) c (omega arith)
           (or-later (is_page (component_made o k)) (is_inside (component_made o k) c) (made-no_page o k) h));
     }
@@ -109,7 +109,7 @@ makers-are_group c =
 -- the component is of that group
 pub own-maker : (c : Owner) → makers_group c c ≡ true
 own-maker c =
-    or-second (is_page c) (is_inside c c)
+    or_right (is_page c) (is_inside c c)
     (ap (among c) (sym (append-nil (makers_from (owner_depth c) c))) ∙ makers-first (owner_depth c) c [])
 
 -- all who are not inside a component

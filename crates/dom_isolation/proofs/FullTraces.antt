@@ -4,12 +4,12 @@ use Rattle.dom_base.proofs.Std.{◌≡◌, ℕ, Bool, true, false, not, List, []
 use Rattle.dom_base.proofs.Std.{◌≤◌, suc, ◌&&◌, fold, length, true≢false, subst, arith, is_none, option_to_list, if◌then◌else◌, AllByRecursion, cond-true}
 use Rattle.dom_base.proofs.Std.{cond-false, and_parts, not-true, flat_map-append, beq}
 use Rattle.dom_model.proofs.Model.{Owner, Page, NodeName, Command, EventWords, Line, no_owner, no_command, command, named, Run, run_then, slotchange}
-use Rattle.dom_model.proofs.Model.{firing_slotchange, is_owned_by, running_task, ending_other_turn, opening_turn, refusal, step, World, Task, micro_task}
-use Rattle.dom_model.proofs.Model.{notify_task, part_of, line, outward, OutwardEvent, is_of, owner_of_line, outward_event, items_of, line_may_stop}
-use Rattle.dom_model.proofs.Model.{no_component_stops_from, ends_other_turn, ends_group_turn, PageState, page_line, run_page, Action, Log, Stop, StopNow}
-use Rattle.dom_model.proofs.Model.{Cancel, Word, text_eq, owner_eq, name_eq, EventLine, Listener, Visit, after_invoke, after_inner_invoke, hears, is_listener}
-use Rattle.dom_model.proofs.Model.{kept_after, after_action, may_cancel, line_of, begun, Part, views, world_visit, visits_of, owner_eq-true, owner_eq-false}
-use Rattle.dom_model.proofs.Model.{part_of-with_part, part_of-with_part-other, owner-part_of}
+use Rattle.dom_model.proofs.Model.{firing_slotchange, is_owned_by, running_task, ending_other_turn, opening_turn, refusal, step, World, Task}
+use Rattle.dom_model.proofs.Model.{micro_task, notify_task, part_of, line, outward, OutwardEvent, is_of, owner_of_line, outward_event, items_of}
+use Rattle.dom_model.proofs.Model.{line_may_stop, no_component_stops_from, ends_other_turn, ends_group_turn, PageState, page_line, run_page, Action}
+use Rattle.dom_model.proofs.Model.{Log, Word, text_eq, owner_eq, name_eq, EventLine, Listener, Visit, after_invoke, after_inner_invoke, hears}
+use Rattle.dom_model.proofs.Model.{is_listener, kept_after, after_action, may_cancel, line_of, begun, Part, views, world_visit, visits_of}
+use Rattle.dom_model.proofs.Model.{owner_eq-true, owner_eq-false, part_of-with_part, part_of-with_part-other, owner-part_of}
 use Rattle.dom_worlds.specs.Definitions.{IsQuiet, OnlyLogs, ComponentsOnlyLog}
 use Rattle.dom_worlds.proofs.ListLemmas.{all-append, all-filter, all-then, by_cases, either_way}
 use Rattle.dom_worlds.proofs.TurnLemmas.{quiet-ending_other, quiet-opening, quiet-dispatch, told_in, quiet-told, quiet-running, at_end, quiet-at_end, Going}
@@ -83,9 +83,7 @@ module _ (P : Listener NodeName → Type 0) where
           AllByRecursion P (after_action a (may_cancel e l.words)
           (record d { listeners = kept_after name_eq l d.listeners; lines = d.lines ++ line_of v l.words ∷ [] })).listeners
       from Log k = k
-      from Stop k = k
-      from StopNow k = k
-      from Cancel k = k
+      from a k = k
 
   -- behind a visit
   all-visited : (e : EventWords) (v : Visit NodeName) (d : Going) → AllByRecursion P d.listeners → AllByRecursion P (after_invoke name_eq e d v).listeners

@@ -2,7 +2,7 @@
 -- it shows at the group's nodes is what it shows where no others are.
 use Rattle.dom_base.proofs.Std.{◌≡◌, ℕ, zero, suc, Bool, true, false, not, ◌&&◌, ◌||◌, List, [], ◌∷◌, ◌++◌, filter, find, flat_map, take_while, Option, Some}
 use Rattle.dom_base.proofs.Std.{None, unwrap_or, refl, sym, ap, ◌∙◌, subst, true≢false, map, if◌then◌else◌, is_some, option_to_list, AllByRecursion, cond-true}
-use Rattle.dom_base.proofs.Std.{cond-false, filter-append}
+use Rattle.dom_base.proofs.Std.{cond-false, filter-append, and-false}
 use Rattle.dom_model.proofs.Model.{Owner, NodeName, name_eq, owner_depth, max_depth, is_in, inclusive_ancestors, root_of, Part, World, root_at, ancestors_at}
 use Rattle.dom_model.proofs.Model.{host_above, host_chain, hosts_from, shadow_including_ancestors, is_in_shadow_tree, slot_of, is_hidden_from, retarget}
 use Rattle.dom_model.proofs.Model.{retarget_related, with_slots, way_up, whole_path, is_node, ends_at, event_path, view_at, views, View, KeepsMakers}
@@ -249,11 +249,6 @@ module _ (g : Owner → Bool) (closed : KeepsMakers g) (w : World) (ground : IsG
       (all-then In (λ y. filter (in_node g) (way_up w y) ≡ way_up (group_world g w) y) way-in (begins w x composed) (begins-inside x composed h))
       ∙ ap (λ xs. flat_map (way_up (group_world g w)) (if composed then xs else x ∷ [])) (sym (chain-in x h))
 
--- a test that fails with another
-pub and-no : (b : Bool) → (b && false) ≡ false
-and-no true = refl
-and-no false = refl
-
 module _ (g : Owner → Bool) (closed : KeepsMakers g) (w : World) (i : IsWorld w) where
   -- what the laws on ways ask of a world
   abbrev pub ground : IsGround w
@@ -276,7 +271,7 @@ module _ (g : Owner → Bool) (closed : KeepsMakers g) (w : World) (i : IsWorld 
   ends-outside x r h y k =
       let other : name_eq y (retarget w x y) ≡ false = by_cases (name_eq y (retarget w x y))
       (λ e. absurd (true≢false (sym (retarget-inside g closed w ground x y h) ∙ ap (in_node g) (sym (name_eq-true y (retarget w x y) e)) ∙ k))) (λ e. e) in
-      ap (λ b. not (name_eq y x) && (b && is_node y (retarget_related w r y))) other ∙ and-no (not (name_eq y x))
+      ap (λ b. not (name_eq y x) && (b && is_node y (retarget_related w r y))) other ∙ and-false (not (name_eq y x))
 
   -- and at the same nodes of the group
   ends-in : (x : NodeName) (r : Option NodeName) → Inside x → IsNear r → (y : NodeName) → Inside y → ends_at (group_world g w) x r y ≡ ends_at w x r y

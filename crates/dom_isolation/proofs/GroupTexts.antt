@@ -1,7 +1,7 @@
 -- Members of groups: two scripts, or texts, that agree for a group have equal output of each member. So it is of families, of components with their makers,
 -- and around components. An owner's lines of output are those that begin with its word and a space.
 use Rattle.dom_base.proofs.Std.{◌≡◌, ◌<◌, ◌^◌, ℕ, List, [], ◌∷◌, map, Some, refl, sym, ap, ◌∙◌, inl, inr, arith, subst, Bool, true, false, not, ◌&&◌, cases_eq}
-use Rattle.dom_base.proofs.Std.{and_parts, not-true, AllByRecursion, decimal, get_or, decimal_digit}
+use Rattle.dom_base.proofs.Std.{and_parts, not-true, AllByRecursion, decimal, get_or, decimal_digit, and-false, or_right}
 use Rattle.dom_model.proofs.Model.{Owner, Page, Component, Line, no_owner, no_command, command, outputs_of, first_world, step, owner_eq, Output, bad_owner}
 use Rattle.dom_model.proofs.Model.{says, is_in_family, family_group, makers_group, group_without, ends_other_turn, ends_group_turn, is_page, is_of}
 use Rattle.dom_model.proofs.Model.{owner_of_line, owner_of_output, outputs_for, owner_eq-true, owner_eq-same, owner_eq-false, ne-owner_eq, World, output_of}
@@ -16,14 +16,13 @@ use Rattle.dom_isolation.specs.Definitions.{SameComponentTextWhileTurnsStand, Sa
 use Rattle.dom_isolation.specs.Definitions.{SameFamilyTextInFull, SameComponentTextInFull, SameAroundTextInFull, SameMemberInFull, SameFamilyInFull}
 use Rattle.dom_isolation.specs.Definitions.{SameComponentInFull, SameAroundInFull, AgreeWhileTurnsStand, AgreeWithClosedTurns, SameMember}
 use Rattle.dom_isolation.specs.Definitions.{SameMemberWhileTurnsStand}
-use Rattle.dom_worlds.proofs.ListLemmas.{all-from, all-map, filter_same, by_cases, or-second}
+use Rattle.dom_worlds.proofs.ListLemmas.{all-from, all-map, filter_same, by_cases}
 use Rattle.dom_isolation.proofs.PageTexts.{output-has_its_lines}
 use Rattle.dom_isolation.proofs.Families.{family-is_group, makers-are_group, others-are_group, own-maker}
 use Rattle.dom_isolation.proofs.WordedRuns.{IsWordedInput, worded-outputs}
 use Rattle.dom_isolation.proofs.GroupRuns.{same-group}
 use Rattle.dom_isolation.proofs.TouchedRuns.{same-group_in_full}
 use Rattle.dom_isolation.proofs.GroupSlots.{member-outputs}
-use Rattle.dom_isolation.proofs.GroupPaths.{and-no}
 
 module _ {L : Type 0} (read : L → Line) where
   -- a member
@@ -40,7 +39,7 @@ module _ {L : Type 0} (read : L → Line) where
       let both = and_parts (not (ends_other_turn w (read l))) (turns_are_closed_from read u ls) h in
       let none : ends_group_turn g w (read l) ≡ false =
       ap (λ b. not (is_of g (owner_of_line (read l))) && (is_of g w.turn && b)) (not-true (ends_other_turn w (read l)) both.0)
-      ∙ ap (λ b. not (is_of g (owner_of_line (read l))) && b) (and-no (is_of g w.turn)) ∙ and-no (not (is_of g (owner_of_line (read l)))) in
+      ∙ ap (λ b. not (is_of g (owner_of_line (read l))) && b) (and-false (is_of g w.turn)) ∙ and-false (not (is_of g (owner_of_line (read l)))) in
       ap (λ b. not b && group_turns_stand_from read g u ls) none ∙ turns-stand g ls u both.1
 
   -- with closed turns
@@ -54,13 +53,13 @@ module _ {L : Type 0} (read : L → Line) where
   -- families
   pub same-family_while_turns_stand : SameFamilyWhileTurnsStand read
   same-family_while_turns_stand root member m ls ms a b c d e =
-      same-member_while_turns_stand (family_group root) (family-is_group root) member (or-second (is_page member) (is_in_family root member) m) ls ms
+      same-member_while_turns_stand (family_group root) (family-is_group root) member (or_right (is_page member) (is_in_family root member) m) ls ms
       ((a, b, e), c, d)
 
   -- with closed turns
   pub same-family : SameFamily read
   same-family root member off m ls ms a b c d e =
-      same-member (family_group root) (family-is_group root) member (or-second (is_page member) (is_in_family root member) m) ls ms ((a, b, e), c, d)
+      same-member (family_group root) (family-is_group root) member (or_right (is_page member) (is_in_family root member) m) ls ms ((a, b, e), c, d)
 
   -- components with their makers
   pub same-component_while_turns_stand : SameComponentWhileTurnsStand read
@@ -89,7 +88,7 @@ module _ {L : Type 0} (read : L → Line) where
   -- of a family,
   pub same-family_in_full : SameFamilyInFull read
   same-family_in_full root member m ls ms k =
-      same-member_in_full (family_group root) (family-is_group root) member (or-second (is_page member) (is_in_family root member) m) ls ms k
+      same-member_in_full (family_group root) (family-is_group root) member (or_right (is_page member) (is_in_family root member) m) ls ms k
 
   -- a component with its makers,
   pub same-component_in_full : SameComponentInFull read
@@ -173,13 +172,13 @@ module _ (read : List ℕ → Line) where
   pub same-family_text_while_turns_stand : ReadsOwners read → ReadsPlainWords read → SameFamilyTextWhileTurnsStand read
   same-family_text_while_turns_stand owners plain root member m t first second a b c d e =
       same-group_text_while_turns_stand owners plain (family_group root) (family-is_group root) member
-      (or-second (is_page member) (is_in_family root member) m) t first second ((a, b, e), c, d)
+      (or_right (is_page member) (is_in_family root member) m) t first second ((a, b, e), c, d)
 
   -- with closed turns
   pub same-family_text : ReadsOwners read → ReadsPlainWords read → SameFamilyText read
   same-family_text owners plain root member off m t first second a b c d e =
       same-group_text owners plain (family_group root) (family-is_group root) member
-      (or-second (is_page member) (is_in_family root member) m) t first second ((a, b, e), c, d)
+      (or_right (is_page member) (is_in_family root member) m) t first second ((a, b, e), c, d)
 
   -- a component with its makers,
   pub same-component_text_while_turns_stand : ReadsOwners read → ReadsPlainWords read → SameComponentTextWhileTurnsStand read
@@ -212,7 +211,7 @@ module _ (read : List ℕ → Line) where
   pub same-family_text_in_full : ReadsOwners read → ReadsPlainWords read → SameFamilyTextInFull read
   same-family_text_in_full owners plain root member m t first second k =
       same-group_text_in_full owners plain (family_group root) (family-is_group root) member
-      (or-second (is_page member) (is_in_family root member) m) t first second k
+      (or_right (is_page member) (is_in_family root member) m) t first second k
 
   -- a component with its makers,
   pub same-component_text_in_full : ReadsOwners read → ReadsPlainWords read → SameComponentTextInFull read

@@ -30,8 +30,7 @@ cut-all P w target related xs h = all-take_while P (λ y. not (ends_at w target 
 -- a test that fails
 none_ends : (a b : Bool) → (a && (b && false)) ≡ false
 none_ends true true = refl
-none_ends true false = refl
-none_ends false b = refl
+none_ends a b = refl
 
 -- without a related node no path ends early
 pub no_end : (w : World) (target y : NodeName) → ends_at w target None y ≡ false

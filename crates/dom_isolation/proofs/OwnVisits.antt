@@ -103,10 +103,8 @@ or_assoc false b c = refl
 
 -- no action asks whether it was
 cancel-after_action : (c : Bool) (a : Action) (m : Bool) (d : Going) → with_cancel c (after_action a m d) ≡ after_action a m (with_cancel c d)
-cancel-after_action c Log m d = refl
-cancel-after_action c Stop m d = refl
-cancel-after_action c StopNow m d = refl
 cancel-after_action c Cancel m d = ap (λ b. record d { cancelled = b }) (or_assoc c d.cancelled m)
+cancel-after_action c a m d = refl
 
 -- no call
 cancel-call : (c : Bool) (e : EventWords) (v : Visit NodeName) (d : Going) (l : Listener NodeName) → with_cancel c (call e v d l) ≡ call e v (with_cancel c d) l
@@ -164,9 +162,7 @@ module _ (g : Owner → Bool) where
     -- no action adds a line
     same-lines : (a : Action) (c : Bool) (d : Going) → (after_action a c d).lines ≡ d.lines
     same-lines Log c d = refl
-    same-lines Stop c d = refl
-    same-lines StopNow c d = refl
-    same-lines Cancel c d = refl
+    same-lines a c d = refl
 
     -- a call adds one of another's
     call-outside : (d : Going) (l : Listener NodeName) → filter in_line (call e v d l).lines ≡ filter in_line d.lines

@@ -1,7 +1,7 @@
 -- Endings of turns and commands of the page do to the page's part what they do in the page machine; the endings of other turns are unseen.
-use Rattle.dom_base.proofs.Std.{◌≡◌, Bool, true, false, not, ◌&&◌, List, [], ◌∷◌, ◌++◌, length, map, Option, Some, None, option_map, unwrap_or, refl, sym, ap}
-use Rattle.dom_base.proofs.Std.{◌∙◌, true≢false, subst, filter, ◌≢◌, append-nil, is_none, option_to_list, if◌then◌else◌, is_some, AllByRecursion, last_or}
-use Rattle.dom_base.proofs.Std.{option_or, option_map_or, filter-append, cond-true, cond-false}
+use Rattle.dom_base.proofs.Std.{◌≡◌, Bool, true, false, not, List, [], ◌∷◌, ◌++◌, length, map, Option, Some, None, option_map, unwrap_or, refl, sym, ap}
+use Rattle.dom_base.proofs.Std.{◌∙◌, true≢false, subst, filter, ◌≢◌, append-nil, is_none, option_to_list, if◌then◌else◌, is_some, AllByRecursion}
+use Rattle.dom_base.proofs.Std.{last_or, option_or, option_map_or, filter-append, cond-true, cond-false, and-false}
 use Rattle.dom_model.proofs.Model.{Page, Component, NodeName, Shadow, Refusal, Syntax, Busy, Foreign, Unknown, last_of, ComponentName, owner_eq, node_in}
 use Rattle.dom_model.proofs.Model.{is_document, root_of, kind_of, Command, NodeWord, EventWords, is_command_of, part_refusal, names_foreign, effect, says}
 use Rattle.dom_model.proofs.Model.{nothing, a_component, a_truth, Part, run_then, answering, unless_refused, Run, quiet, run_each, first_refusal, named, Effect}
@@ -134,11 +134,6 @@ ending_any-page w q = from w.turn refl
     from (Some (Component k)) e =
         ap (λ t. page_run (if is_some t then ending_turn w else quiet w)) e ∙ ending-component w q (ap is_page_turn e) ∙
         sym (ap (λ t. if is_page_turn t then page_turn_end (page_of w) else quiet (page_of w)) e)
-
--- Refusals.
-and-false : (b : Bool) → (b && false) ≡ false
-and-false true = refl
-and-false false = refl
 
 -- the page's refusals are the page machine's
 pub refusal-page : (w : World) → IsWorld w → (c : Command) → refusal w Page c ≡ page_refusal (page_of w) c

@@ -2,7 +2,7 @@
 -- the machine reaches it just those of shadow trees are hidden from a page node.
 use Rattle.dom_base.proofs.Std.{◌≡◌, ℕ, zero, suc, Bool, true, false, not, ◌&&◌, List, [], ◌∷◌, ◌++◌, filter, flat_map, take_while, Option, Some, None, map}
 use Rattle.dom_base.proofs.Std.{refl, sym, ap, ◌∙◌, subst, append-nil, find, unwrap_or, if◌then◌else◌, option_to_list, AllByRecursion, filter-append, cond-true}
-use Rattle.dom_base.proofs.Std.{cond-false}
+use Rattle.dom_base.proofs.Std.{cond-false, and-not_self}
 use Rattle.dom_model.proofs.Model.{Owner, Page, NodeName, name_eq, max_depth, owner_depth, is_in, World, part_of, ancestors_at, host_chain, root_at, hosts_from}
 use Rattle.dom_model.proofs.Model.{shadow_including_ancestors, slot_of, is_hidden_from, retarget, retarget_related, is_node, with_slots, way_up, whole_path}
 use Rattle.dom_model.proofs.Model.{ends_at, event_path, view_at, views, plain_view, plain_views, is_page, ne-owner_eq}
@@ -133,11 +133,6 @@ ends-page w target related h y =
     ap (λ t. not (name_eq y target) && (name_eq y t && is_node y (retarget_related w related y))) (retarget-page w target y h) ∙
     no_other (name_eq y target) (is_node y (retarget_related w related y))
 
--- a test does not hold with its contrary
-and-not : (b : Bool) → (b && not b) ≡ false
-and-not true = refl
-and-not false = refl
-
 -- the path of an event of a page target
 pub event_path-page : (w : World) (target : NodeName) (related : Option NodeName) (composed : Bool) → target.owner ≡ Page →
     AllByRecursion (IsOf Page) (option_to_list related) → event_path w target related composed ≡ way_up w target
@@ -145,7 +140,7 @@ event_path-page w target related composed h g =
     let whole : whole_path w target composed ≡ way_up w target = ap (flat_map (way_up w)) (chain composed) ∙ append-nil (way_up w target) in
     let cut = λ (xs : List NodeName). take_while (λ y. not (ends_at w target related y)) xs in
     ap (λ r. if is_node target r && not (is_node target related) then [] else cut (whole_path w target composed)) (retarget_related-page w related target g)
-    ∙ cond-false (is_node target related && not (is_node target related)) [] (cut (whole_path w target composed)) (and-not (is_node target related))
+    ∙ cond-false (is_node target related && not (is_node target related)) [] (cut (whole_path w target composed)) (and-not_self (is_node target related))
     ∙ ap cut whole ∙ uncut w target related (way_up w target)
     (all-from (λ y. ends_at w target related y ≡ false) (ends-page w target related h) (way_up w target))
   where

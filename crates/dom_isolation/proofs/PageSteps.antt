@@ -62,9 +62,8 @@ page_of-group w =
     task (notify_task o) h = h
 
     turn : (t : Option Owner) → is_page_turn (group_turn is_page t) ≡ is_page_turn t
-    turn None = refl
     turn (Some Page) = refl
-    turn (Some (Component k)) = refl
+    turn t = refl
 
 -- and of a run, so of one that shows it nothing.
 pub page_run-unseen : (r : Run World) (w : World) → group_run is_page r ≡ (group_world is_page w, []) → page_run r ≡ quiet (page_of w)

@@ -4,13 +4,13 @@ use Rattle.dom_model.proofs.Model.{Owner, Page, Component, NodeName, name_eq, Co
 use Rattle.dom_model.proofs.Model.{changes, sets_walker, node_or_null, string_or_null, Listener, is_listener, with_listener_added, Visit, Dispatching}
 use Rattle.dom_model.proofs.Model.{after_invoke, after_inner_invoke, hears, with_listener_removed, kept_after, after_action, may_cancel, line_of, Value, a_tree}
 use Rattle.dom_model.proofs.Model.{says, recorded, Output, bad_owner, Said, replied, refused, event_seen, micro_ran, Change, EventLine, Part, queue_of, Walker}
-use Rattle.dom_model.proofs.Model.{part_of, Task, micro_task, notify_task, Action, Log, Stop, StopNow, Cancel, records_of, notified, notified_lines}
+use Rattle.dom_model.proofs.Model.{part_of, Task, micro_task, notify_task, Action, Log, records_of, notified, notified_lines}
 use Rattle.dom_isolation.specs.Definitions.{HasNoFeed, HasPlainWords, IsPlainLine}
-use Rattle.dom_worlds.proofs.ListLemmas.{all-append, all-filter, all-map, all-flat_map, all-from, either_way}
+use Rattle.dom_worlds.proofs.ListLemmas.{all-append, all-filter, all-map, all-flat_map, all-from, either_way, all-set}
 use Rattle.dom_worlds.proofs.TreeLemmas.{nodes-subtree}
 use Rattle.dom_worlds.proofs.CommandLemmas.{Makes, MayDo, made-effect}
 use Rattle.dom_worlds.proofs.WorldLemmas.{IsKeptIn}
-use Rattle.dom_isolation.proofs.PlainWords.{IsPlainNode, IsPlainListener, IsPlainQueue, IsPlainPart, IsPlainStep, plain-queue, plain-queue_set, plain-rules}
+use Rattle.dom_isolation.proofs.PlainWords.{IsPlainNode, IsPlainListener, IsPlainQueue, IsPlainPart, IsPlainStep, plain-queue, plain-rules}
 use Rattle.dom_isolation.proofs.PlainWords.{IsPlainChange, plain-part_step}
 use Rattle.dom_isolation.proofs.SaidRuns.{KeepsSaying, SaysEffect, HasNoTree}
 use Rattle.dom_worlds.specs.Definitions.{AllNodes}
@@ -53,9 +53,7 @@ IsPlainGoing d = AllByRecursion IsPlainListener d.listeners × AllByRecursion Is
 -- a listener's action
 plain-after_action : (a : Action) (c : Bool) (d : Dispatching NodeName) → IsPlainGoing d → IsPlainGoing (after_action a c d)
 plain-after_action Log c d h = h
-plain-after_action Stop c d h = h
-plain-after_action StopNow c d h = h
-plain-after_action Cancel c d h = h
+plain-after_action a c d h = h
 
 -- a call
 plain-called : (e : EventWords) (v : Visit NodeName) (d : Dispatching NodeName) (l : Listener NodeName) → IsPlainGoing d → IsPlainListener l →
@@ -93,7 +91,7 @@ plain-records o k (c ∷ cs) h = (h.0, plain-records o k cs h.1)
 plain-emptied : (ks : List ℕ) (queues : List (List (Change NodeName))) → AllByRecursion IsPlainQueue queues →
     AllByRecursion IsPlainQueue (fold (λ queues k. slice_set queues k []) queues ks)
 plain-emptied [] queues h = h
-plain-emptied (k ∷ ks) queues h = plain-emptied ks (slice_set queues k []) (plain-queue_set queues k [] h tt)
+plain-emptied (k ∷ ks) queues h = plain-emptied ks (slice_set queues k []) (all-set IsPlainQueue queues k [] h tt)
 
 -- a notification
 pub plain-notified : (p : Part) → IsPlainPart p → IsPlainPart (notified p) × AllByRecursion IsPlainOutput (notified_lines p)
@@ -150,9 +148,9 @@ module _ (p : Part) (i : IsPlainPart p) where
   plain-effect (Command.unlisten a b c d) h =
       ((i.0, all-filter IsPlainListener (λ l. not (is_listener name_eq (named p a) b c d l)) p.listeners i.1, i.2), tt, tt)
   plain-effect Command.observer h = ((i.0, i.1, all-append IsPlainQueue p.record_queues ([] ∷ []) i.2 (tt, tt)), tt, tt)
-  plain-effect (Command.disconnect a) h = ((i.0, i.1, plain-queue_set p.record_queues a [] i.2 tt), tt, tt)
+  plain-effect (Command.disconnect a) h = ((i.0, i.1, all-set IsPlainQueue p.record_queues a [] i.2 tt), tt, tt)
   plain-effect (Command.take a) h = (
-    (i.0, i.1, plain-queue_set p.record_queues a [] i.2 tt),
+    (i.0, i.1, all-set IsPlainQueue p.record_queues a [] i.2 tt),
     all-map IsPlainSaid (recorded a)
         (queue_of p.record_queues a) (plain-queue p.record_queues a i.2),
     tt,

@@ -1,16 +1,17 @@
 -- Words without line feeds in parts and worlds, and what steps and plans do to them.
-use Rattle.dom_base.proofs.Std.{ℕ, zero, suc, Bool, List, [], ◌∷◌, ◌++◌, fold, find, Option, Some, None, unwrap_or, if◌then◌else◌, ⊤, ◌==◌, ◌&&◌, slice_set}
+use Rattle.dom_base.proofs.Std.{ℕ, zero, suc, Bool, List, [], ◌∷◌, ◌++◌, fold, Option, Some, None, if◌then◌else◌, ⊤, ◌==◌, ◌&&◌, slice_set}
 use Rattle.dom_base.proofs.Std.{AllByRecursion, list_any, option_map_or}
-use Rattle.dom_model.proofs.Model.{NodeName, Word, DomString, name_eq, is_in, text_eq, Node, Attribute, nodes, node_in, no_node, children_of, parent_of}
-use Rattle.dom_model.proofs.Model.{inclusive_ancestors, inclusive_descendants, with_name, with_document, with_data_replaced, with_attribute, attributes_with}
-use Rattle.dom_model.proofs.Model.{attributes_without, pieces_of, Listener, Registration, target_of, without_old, fitting, asks_for_old, Change, child_list}
-use Rattle.dom_model.proofs.Model.{attributes, character_data, Part, next_name, queue_of, Step, make, place, take_out, set_document, set_attribute}
-use Rattle.dom_model.proofs.Model.{replace_data, queue_record, part_step, leave, record_in, interested_in}
+use Rattle.dom_model.proofs.Model.{NodeName, Word, DomString, name_eq, is_in, text_eq, Node, Attribute, nodes, node_in, children_of, parent_of}
+use Rattle.dom_model.proofs.Model.{inclusive_ancestors, inclusive_descendants, with_name, with_document, with_data_replaced, with_attribute}
+use Rattle.dom_model.proofs.Model.{attributes_with, attributes_without, pieces_of, Listener, Registration, target_of, without_old, fitting}
+use Rattle.dom_model.proofs.Model.{asks_for_old, Change, child_list, attributes, character_data, Part, next_name, queue_of, Step, make, place, take_out}
+use Rattle.dom_model.proofs.Model.{set_document, set_attribute, replace_data, queue_record, part_step, leave, record_in, interested_in}
 use Rattle.dom_worlds.specs.Definitions.{AllNodes}
 use Rattle.dom_isolation.specs.Definitions.{HasNoFeed}
 use Rattle.dom_worlds.proofs.ListLemmas.{all-append, all-from, all-set, either_way}
-use Rattle.dom_worlds.proofs.TreeLemmas.{nodes-with_node, nodes-taken_out, nodes-placed, nodes-map_nodes, nodes-listed}
+use Rattle.dom_worlds.proofs.TreeLemmas.{nodes-with_node, nodes-taken_out, nodes-placed, nodes-map_nodes}
 use Rattle.dom_worlds.proofs.PlanLemmas.{Asked, IsKept, any-whole, rules-kept}
+use Rattle.dom_worlds.proofs.CommandLemmas.{node-read}
 
 -- A node, a listener and a change with such words.
 abbrev pub IsPlainAttribute : Attribute → Type 0
@@ -47,11 +48,6 @@ pub plain-queue : (queues : List (List (Change NodeName))) (k : ℕ) → AllByRe
 plain-queue [] k h = tt
 plain-queue (q ∷ qs) zero h = h.0
 plain-queue (q ∷ qs) (suc k) h = plain-queue qs k h.1
-
--- a queue that is written
-pub plain-queue_set : (queues : List (List (Change NodeName))) (k : ℕ) (q : List (Change NodeName)) → AllByRecursion IsPlainQueue queues →
-    IsPlainQueue q → AllByRecursion IsPlainQueue (slice_set queues k q)
-plain-queue_set queues k q h g = all-set IsPlainQueue queues k q h g
 
 -- Attributes.
 plain-attributes_with : (a : Word) (v : DomString) (attributes : List Attribute) → HasNoFeed a → AllByRecursion IsPlainAttribute attributes →
@@ -96,7 +92,7 @@ plain-told : (p : Part) (c : Change NodeName) → IsPlainChange c → (ks : List
 plain-told p c h [] queues g = g
 plain-told p c h (k ∷ ks) queues g =
     plain-told p c h ks (slice_set queues k (queue_of queues k ++ record_in p c k ∷ []))
-    (plain-queue_set queues k (queue_of queues k ++ record_in p c k ∷ []) g
+    (all-set IsPlainQueue queues k (queue_of queues k ++ record_in p c k ∷ []) g
     (all-append IsPlainChange (queue_of queues k) (record_in p c k ∷ []) (plain-queue queues k g) (plain-record p c k h, tt)))
 
 -- Steps.
@@ -129,19 +125,12 @@ plain-part_step p (replace_data x offset count new) i h = (
 plain-part_step p (queue_record c) i h = (i.0, i.1, plain-told p c h (interested_in p c) p.record_queues i.2)
 plain-part_step p s i h = i
 
--- A node that is read.
-plain-found : (x : NodeName) (ns : List Node) → AllByRecursion IsPlainNode ns → IsPlainNode (unwrap_or (find (λ n. name_eq n.name x) ns) (no_node x))
-plain-found x [] h = (tt, tt)
-plain-found x (n ∷ ns) h =
-    either_way (λ (o : Option Node). IsPlainNode (unwrap_or o (no_node x))) (name_eq n.name x) (Some n) (find (λ m. name_eq m.name x) ns) h.0
-    (plain-found x ns h.1)
-
--- a node of a part
+-- a node of a part that is read
 pub plain-node_in : (p : Part) (x : NodeName) → IsPlainPart p → IsPlainNode (node_in p.trees x)
-plain-node_in p x i = plain-found x (nodes p.trees) (nodes-listed IsPlainNode p.trees i.0)
+plain-node_in p x i = node-read IsPlainNode x (tt, tt) p.trees i.0
 
 -- the rules hold
-pub plain-rules : IsKept IsPlainPart IsPlainStep (λ x. ⊤)
+pub plain-rules : IsKept IsPlainPart IsPlainStep (λ x. ⊤) (λ x. ⊤)
 plain-rules =
     rules-kept (record {
       step = plain-part_step;

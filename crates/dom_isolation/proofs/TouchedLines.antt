@@ -1,7 +1,7 @@
 -- A command and a line of the group, whatever others' listeners do: one of the silent run, which takes a record for each event. A line of another owner is the
 -- ending of the group's turn, where it ends it, and its outward event, as far as others let it come.
 use Rattle.dom_base.proofs.Std.{◌≡◌, ℕ, Bool, true, false, not, ◌&&◌, List, [], ◌∷◌, ◌++◌, filter, Option, Some, None, refl, sym, ap, ◌∙◌, subst, true≢false}
-use Rattle.dom_base.proofs.Std.{append-nil, option_map, if◌then◌else◌, is_none, cond-true, cond-false, append_assoc}
+use Rattle.dom_base.proofs.Std.{append-nil, option_map, if◌then◌else◌, is_none, cond-true, cond-false, append_assoc, and-false}
 use Rattle.dom_model.proofs.Model.{Owner, Page, Component, Syntax, Line, no_owner, no_command, command, Command, EventWords, says, refused, Value, replied}
 use Rattle.dom_model.proofs.Model.{nothing, a_truth, Run, quiet, run_then, refusing, answering, unless_refused, World, part_of, ending_turn, has_other_turn}
 use Rattle.dom_model.proofs.Model.{ending_other_turn, opening_turn, run_command, step, refusal, accepted, KeepsMakers, group_world, group_turn, group_outputs}
@@ -19,7 +19,6 @@ use Rattle.dom_isolation.proofs.GroupTurns.{same-calm, ending_other-out, no_othe
 use Rattle.dom_isolation.proofs.GroupDispatches.{outward_told, runs-then, IsSameWorld, any_world, world-dispatch_under, touched-in}
 use Rattle.dom_isolation.proofs.GroupCommands.{fits, AreOfGroup, refusal-in, attach-alike, connected-alike, assigned-alike, micro-alike, effect-alike}
 use Rattle.dom_isolation.proofs.GroupCommands.{words-inside}
-use Rattle.dom_isolation.proofs.GroupPaths.{and-no}
 use Rattle.dom_isolation.proofs.OutsideCommands.{touched_command-out}
 use Rattle.dom_isolation.proofs.TouchedTurns.{Follows, follows-same, then-follows, ending-follows, ending_other-follows, rest-dispatch_under}
 use Rattle.dom_isolation.proofs.TouchedTurns.{no_other-ended_under}
@@ -219,7 +218,7 @@ module _ (g : Owner → Bool) (closed : KeepsMakers g) where
       (group_run g (step w l) ≡ group_run g (others_told w v l)) × Invariant false (others_told w v l).0 × IsCalm g (others_told w v l).0
   others-alike {w} {v} s r k calm no_owner h =
       subst (λ b. let m = run_then (ended_told b v []) quiet in
-      (group_run g (step w no_owner) ≡ group_run g m) × Invariant false m.0 × IsCalm g m.0) (sym (and-no (is_of g w.turn)))
+      (group_run g (step w no_owner) ≡ group_run g m) × Invariant false m.0 × IsCalm g m.0) (sym (and-false (is_of g w.turn)))
       (ap (λ u. (u, [])) s.same, s.second, same-calm g closed w v s.same calm)
   others-alike {w} {v} s r k calm (no_command o) h =
       let one = ended-alike s calm o (before_records g w (no_command o)) (λ e. cond-true (has_other_turn w o) (ending_records g w) [] e) in

@@ -44,9 +44,8 @@ visit-stopped e s v h =
 
 -- who cancelled an event, outside or inside, told in another order
 regrouped : (a b c d : Bool) → ((a || b) || (c || d)) ≡ (a || ((b || c) || d))
-regrouped true b c d = refl
 regrouped false true c d = refl
-regrouped false false c d = refl
+regrouped a b c d = refl
 
 -- an event is cancelled if it was before, or is now by the visit, where what was cancelled stays so
 now-cancelled : (c was now inside : Bool) → was ≡ (c || inside) → (was ≡ true → now ≡ true) → now ≡ ((c || (now && not was)) || inside)
@@ -75,9 +74,8 @@ all-first {X = X} P (Some k) xs h = some k xs h
 
 -- of none
 pub first-none : {X : Type 0} (reached : Option ℕ) → first_visits {A = X} reached [] ≡ []
-first-none None = refl
 first-none (Some zero) = refl
-first-none (Some (suc k)) = refl
+first-none reached = refl
 
 module _ (g : Owner → Bool) where
   -- who is there is there behind a visit
@@ -125,9 +123,8 @@ module _ (g : Owner → Bool) where
     where
       same_flags : (a b : Bool) → record { reached = if a && not a then Some 0 else None; cancelled = (b && not b) || false } ≡ untouched
       same_flags true true = refl
-      same_flags true false = refl
       same_flags false true = refl
-      same_flags false false = refl
+      same_flags a b = refl
 
   -- So nobody touches a stopped one any more.
   untouched-stopped : (e : EventWords) (vs : List (Visit NodeName)) (s : InWorld) → s.1.stopped ≡ true → interference_from g e s vs ≡ untouched

@@ -2,10 +2,10 @@
 -- pending observers.
 use Rattle.dom_base.proofs.Std.{◌≡◌, ◌⊎◌, inl, inr, Bool, List, [], ◌∷◌, ◌++◌, flat_map, fold, Option, Some, None, refl, sym, ap, ◌∙◌, subst, ⊤, nat_eq}
 use Rattle.dom_base.proofs.Std.{AllByRecursion, option_map_or}
-use Rattle.dom_model.proofs.Model.{Owner, Page, Component, NodeName, Action, Log, Stop, StopNow, Cancel, name_eq, append_once, parent_of, inclusive_ancestors}
-use Rattle.dom_model.proofs.Model.{Command, Line, EventWords, effect, first_world, outputs_of, Effect, tables, changes, Listener, Visit, Dispatching}
-use Rattle.dom_model.proofs.Model.{after_invoke, kept_after, after_action, may_cancel, line_of, interested, target_of, transients_for, without_transients}
-use Rattle.dom_model.proofs.Model.{Output, bad_owner, says, Part, Step, take_out, queue_record, part_step, leave, notified, notified_lines, records_of, Task}
+use Rattle.dom_model.proofs.Model.{Owner, Page, Component, NodeName, Action, Log, name_eq, append_once, parent_of, inclusive_ancestors, Command, Line}
+use Rattle.dom_model.proofs.Model.{EventWords, effect, first_world, outputs_of, Effect, tables, changes, Listener, Visit, Dispatching, after_invoke}
+use Rattle.dom_model.proofs.Model.{kept_after, after_action, may_cancel, line_of, interested, target_of, transients_for, without_transients, Output}
+use Rattle.dom_model.proofs.Model.{bad_owner, says, Part, Step, take_out, queue_record, part_step, leave, notified, notified_lines, records_of, Task}
 use Rattle.dom_model.proofs.Model.{micro_task, notify_task, part_of, owner_of_line, owner-part_step, none_interested, none_transient}
 use Rattle.dom_text.proofs.TextLaws.{HasWord, HasOwner}
 use Rattle.dom_worlds.proofs.ListLemmas.{all-append, all-from, all-then, all-map, either_way}
@@ -74,9 +74,7 @@ module _ (e : EventWords) (v : Visit NodeName) where
     where
       acted : (a : Action) (m : Bool) (c : Dispatching NodeName) → (after_action a m c).lines ≡ c.lines
       acted Log m c = refl
-      acted Stop m c = refl
-      acted StopNow m c = refl
-      acted Cancel m c = refl
+      acted a m c = refl
 
       called : HasWord v.current.owner → (c : Dispatching NodeName) (l : Listener NodeName) → AllByRecursion (IsSaidEvent HasOwner) c.lines →
           AllByRecursion (IsSaidEvent HasOwner) (call e v c l).lines

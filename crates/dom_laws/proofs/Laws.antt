@@ -11,7 +11,7 @@ pub use Rattle.dom_laws.proofs.Lists.{first-hit, first-miss, first_split, In, In
 pub use Rattle.dom_laws.proofs.Lists.{last-miss, last_of-end, last_split, name_eq-from, no_first, no_last, not_before, same_or_not, Single, Single-apart}
 pub use Rattle.dom_laws.proofs.Lists.{Single-right, split_at}
 pub use Rattle.dom_laws.proofs.Moves.{below_lacks, parent_taken, path_placed, path_put_root, path_root, path_taken}
-pub use Rattle.dom_laws.proofs.Options.{no_key, none_left, was_none, was_some}
+pub use Rattle.dom_laws.proofs.Options.{is_some-map, no_key, none_left, was_none, was_some}
 pub use Rattle.dom_laws.proofs.Order.{above-within, all_single, behind_is, below, here, inside-test, IsWithin, joined, outside-test, split_is, splits}
 pub use Rattle.dom_laws.proofs.Order.{stands_in}
 pub use Rattle.dom_laws.proofs.Paths.{Lacks, lacks_both, lacks_from, lacks_to, path_after, path_below, path_gone, path_head, path_here, path_lacks, path_none}

@@ -4,7 +4,8 @@ use Rattle.dom_mutation.proofs.Cited.{◌≡◌, ℕ, ◌+◌, ◌<◌, ◌≤�
 use Rattle.dom_mutation.proofs.Cited.{NodeName, Owner, Plan, Observing, suppressed, in_turn, doing, remove_plan, emptying, past_limit, DomString, Change}
 use Rattle.dom_mutation.proofs.Cited.{child_list, make, queue_record, after, replacing_data, new_text_node, Part, next_name, Node, has_data, kind_of}
 use Rattle.dom_mutation.proofs.Cited.{children_of, parent_of, index_of, World, part_of, HasBounds, IsPart, name_at, DocState, owner_in, planned, PlansOwn}
-use Rattle.dom_mutation.proofs.Cited.{IsAlone, removals-keep, emptying-keeps, index_few, plan_alone, plans_then, plans_each, plans_removing, plans_data}
+use Rattle.dom_mutation.proofs.Cited.{IsAlone, removals-keep, emptying-keeps, index_few, plan_alone}
+use Rattle.dom_mutation.proofs.Cited.{keeps-and_then, keeps-each, keeps-removing, keeps-replacing_data, own_moves, own_rules}
 use Rattle.dom_worlds.proofs.RangeLemmas.{make-keeps, queue_record-keeps, removal-keeps, data-keeps}
 use Rattle.dom_parts.proofs.OwnParts.{children_few}
 use Rattle.dom_mutation.proofs.Grown.{IsMade, same_name}
@@ -17,19 +18,19 @@ module _ (o : Owner) (d : DocState) (alone : IsAlone d.world o) (part : IsPart (
 
   -- before the node that takes the place of a child is inserted
   pub bounds_removed : (how : Observing) (x : NodeName) (e : DocState) → e ≡ planned o (remove_plan how x) d → HasBounds (part_of e.world o)
-  bounds_removed how x = bounds_after (remove_plan how x) (plans_removing o how x) (removal-keeps how x (part_of d.world o) part bounds)
+  bounds_removed how x = bounds_after (remove_plan how x) (keeps-removing (own_moves o) how x) (removal-keeps how x (part_of d.world o) part bounds)
 
   -- before the Text that takes the place of children is inserted
   pub bounds_cleared : (how : Observing) (xs : List NodeName) (e : DocState) → e ≡ planned o (in_turn (remove_plan how) xs) d → HasBounds (part_of e.world o)
-  bounds_cleared how xs = bounds_after (in_turn (remove_plan how) xs) (plans_each o (remove_plan how) (plans_removing o how) xs)
+  bounds_cleared how xs = bounds_after (in_turn (remove_plan how) xs) (keeps-each (own_moves o) (remove_plan how) (keeps-removing (own_moves o) how) xs)
       (removals-keep how xs (part_of d.world o) part bounds)
 
   -- before room is made for a fragment's children
   pub bounds_emptied : (node : NodeName) (moved : List NodeName) (e : DocState) → e ≡ planned o (emptying node moved) d → HasBounds (part_of e.world o)
   bounds_emptied node moved =
       bounds_after (emptying node moved)
-      (plans_then o (in_turn (remove_plan suppressed) moved) (doing (queue_record (child_list node [] moved None None)))
-      (plans_each o (remove_plan suppressed) (plans_removing o suppressed) moved) (λ p own. (tt, tt)))
+      (keeps-and_then (own_moves o) (in_turn (remove_plan suppressed) moved) (doing (queue_record (child_list node [] moved None None)))
+      (keeps-each (own_moves o) (remove_plan suppressed) (keeps-removing (own_moves o) suppressed) moved) (λ p own. (tt, tt)))
       (emptying-keeps node moved (part_of d.world o) part bounds)
 
   -- before a new node is inserted
@@ -43,7 +44,7 @@ module _ (o : Owner) (d : DocState) (alone : IsAlone d.world o) (part : IsPart (
   -- before Texts are joined
   pub bounds_grown : (x : NodeName) (offset count : ℕ) (new : DomString) → has_data (kind_of (part_of d.world o).trees x) ≡ true →
       {e : DocState} → e ≡ planned o (replacing_data x offset count new) d → HasBounds (part_of e.world o)
-  bounds_grown x offset count new has {e} = bounds_after (replacing_data x offset count new) (plans_data o x offset count new)
+  bounds_grown x offset count new has {e} = bounds_after (replacing_data x offset count new) (keeps-replacing_data (own_rules o) x offset count new)
       (data-keeps x offset count new (part_of d.world o) part has bounds) e
 
 -- ---- for a node's owner

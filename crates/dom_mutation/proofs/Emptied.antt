@@ -5,10 +5,11 @@ use Rattle.dom_mutation.proofs.Cited.{inclusive_ancestors, is_inclusive_ancestor
 use Rattle.dom_mutation.proofs.Cited.{Plan, ◌and_then◌, doing, steps_of, only_if, in_turn, suppressed, remove_plan, insert_plan, document_below, new_text_node}
 use Rattle.dom_mutation.proofs.Cited.{replacing_children, owner-part_of, name_at, DocState, made, planned, stepped, name_in, owner_in, trees_in, MayMove}
 use Rattle.dom_mutation.proofs.Cited.{NoneAbove, putting_text, PlansOwn, IsAlone, lacks_to, Each, each_all, children_parent, made_then, made_turn, planned_then}
-use Rattle.dom_mutation.proofs.Cited.{alone_made, plans_then, plans_turn, plans_each, plans_removing, plans_inserting}
+use Rattle.dom_mutation.proofs.Cited.{alone_made, keeps-and_then, keeps-each, keeps-in_turn, keeps-inserting, keeps-removing, own_moves}
 use Rattle.dom_mutation.proofs.Placed.{Counted, once_in}
 use Rattle.dom_mutation.proofs.Replaced.{child_below}
 use Rattle.dom_mutation.proofs.Grown.{IsMade, same_name, new_name, same_children, alone_new}
+use Rattle.dom_base.proofs.Std.{and-false}
 
 -- a node's children are not above it
 pub none_above_parent : (d : DocState) → Counted d → (node : ℕ) (ks : List ℕ) →
@@ -68,11 +69,12 @@ module _ (d : DocState) (node : ℕ) (alone : IsAlone d.world (owner_in d node))
       let out = in_turn (remove_plan suppressed) old in
       let none : PlansOwn o (steps_of []) = λ p own. tt in
       let none_put : PlansOwn o (in_turn put_none []) = λ p own. tt in
-      let taken = plans_then o (steps_of []) out none (plans_each o (remove_plan suppressed) (plans_removing o suppressed) old) in
+      let taken = keeps-and_then (own_moves o) (steps_of []) out none
+      (keeps-each (own_moves o) (remove_plan suppressed) (keeps-removing (own_moves o) suppressed) old) in
       ap (planned o (steps_of told)) (planned_then o (steps_of []) out d alone none)
       ∙ ap (planned o (steps_of told)) (planned_then o (steps_of [] and_then out) (in_turn put_none []) d alone taken)
       ∙ planned_then o (steps_of [] and_then out and_then in_turn put_none []) (steps_of told) d alone
-      (plans_then o (steps_of [] and_then out) (in_turn put_none []) taken none_put)
+      (keeps-and_then (own_moves o) (steps_of [] and_then out) (in_turn put_none []) taken none_put)
 
   abbrev told_of : List NodeName → List Step
   told_of old = only_if (not (is_empty old && true)) (queue_record (child_list x [] old None None))
@@ -115,10 +117,6 @@ module _ {d e : DocState} {node new : ℕ} {doc : Option NodeName} {text : DomSt
   abbrev old : List NodeName
   old = children_of (part_of d.world p).trees z
 
-  and_false : (b : Bool) → (b && false) ≡ false
-  and_false true = refl
-  and_false false = refl
-
   abbrev clear_plan : List NodeName → Plan
   clear_plan zs = in_turn (remove_plan suppressed) zs
 
@@ -142,16 +140,17 @@ module _ {d e : DocState} {node new : ℕ} {doc : Option NodeName} {text : DomSt
   text_whole g some documented is =
       let make_plan : Plan = doing (make (new_text_node y doc text)) in
       let made_own : PlansOwn p make_plan = λ q own. (tt, tt) in
-      let clear_own = plans_each p (remove_plan suppressed) (plans_removing p suppressed) old in
-      let put_own = plans_inserting p suppressed y z None (owner-part_of d.world p) in
-      let cleared_own = plans_then p make_plan (clear_plan old) made_own clear_own in
+      let clear_own = keeps-each (own_moves p) (remove_plan suppressed) (keeps-removing (own_moves p) suppressed) old in
+      let put_own = keeps-inserting (own_moves p) suppressed y z None (owner-part_of d.world p) in
+      let cleared_own = keeps-and_then (own_moves p) make_plan (clear_plan old) made_own clear_own in
       let now = alone_new is_made in
       ap (λ (s : DocState). s.world) is
       ∙ ap (λ (w : NodeName). made w.owner (putting_text w (name_in e new)) e.world) (same_name is_made)
       ∙ ap (λ (w : NodeName). made p (putting_text z w) e.world) (new_name is_made)
       ∙ ap (λ zs. made p (clear_plan zs and_then put_plan y and_then record_plan zs) e.world)
       (same_children is_made distinct counted)
-      ∙ made_then p (clear_plan old and_then put_plan y) (record_plan old) e.world now (plans_then p (clear_plan old) (put_plan y) clear_own put_own)
+      ∙ made_then p (clear_plan old and_then put_plan y) (record_plan old) e.world now
+      (keeps-and_then (own_moves p) (clear_plan old) (put_plan y) clear_own put_own)
       ∙ ap (made p (record_plan old)) (made_then p (clear_plan old) (put_plan y) e.world now clear_own)
       ∙ ap (λ (w : World). made p (record_plan old) (made p (put_plan y) (made p (clear_plan old) w))) is_made.world
       ∙ ap (λ (w : World). made p (record_plan old) (made p (put_plan y) w)) (sym (made_then p make_plan (clear_plan old) d.world is_made.alone made_own))
@@ -160,8 +159,9 @@ module _ {d e : DocState} {node new : ℕ} {doc : Option NodeName} {text : DomSt
       (alone_made p (make_plan and_then clear_plan old) d.world is_made.alone cleared_own) put_own))
       ∙ ap (made p (record_plan old)) (sym (made_then p (make_plan and_then clear_plan old) (in_turn put_plan (y ∷ [])) d.world is_made.alone cleared_own))
       ∙ sym (made_then p (make_plan and_then clear_plan old and_then in_turn put_plan (y ∷ [])) (record_plan old) d.world is_made.alone
-      (plans_then p (make_plan and_then clear_plan old) (in_turn put_plan (y ∷ [])) cleared_own (plans_turn p put_plan (y ∷ []) (put_own, tt))))
+      (keeps-and_then (own_moves p) (make_plan and_then clear_plan old) (in_turn put_plan (y ∷ [])) cleared_own
+      (keeps-in_turn (own_moves p) put_plan (y ∷ []) (put_own, tt))))
       ∙ ap (λ b. made p (make_plan and_then clear_plan old and_then in_turn put_plan (y ∷ []) and_then steps_of
-      (only_if (not b) (queue_record (child_list z (y ∷ []) old None None)))) d.world) (sym (and_false (is_empty old)))
+      (only_if (not b) (queue_record (child_list z (y ∷ []) old None None)))) d.world) (sym (and-false (is_empty old)))
       ∙ ap (λ a. world_after p d.world (steps_if a false)) documented
       ∙ ap (λ b. world_after p d.world (steps_if (Some (document_below (part_of d.world p).trees z)) b)) (sym some)

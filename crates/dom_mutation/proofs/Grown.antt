@@ -6,7 +6,7 @@ use Rattle.dom_mutation.proofs.Cited.{trees_below, node_in, parent_of, children_
 use Rattle.dom_mutation.proofs.Cited.{Part, next_name, make, World, part_of, ◌and_then◌, doing, new_text_node, placing_tail, replacing_data, splitting}
 use Rattle.dom_mutation.proofs.Cited.{name_eq-same, name_eq-true, owner-part_of, name_at, times_in-none, times_in-tree, one-true, Once, lacks_to, path_after}
 use Rattle.dom_mutation.proofs.Cited.{path_lacks, path_put_root, path_root, DocState, made, planned, name_in, owner_in, trees_in, cutting_tail, IsAlone}
-use Rattle.dom_mutation.proofs.Cited.{made_then, alone_after, plans_then, plans_tail}
+use Rattle.dom_mutation.proofs.Cited.{made_then, alone_after, keeps-and_then, keeps-placing_tail, own_moves, own_rules}
 use Rattle.dom_mutation.proofs.Placed.{Counted, once_in}
 
 -- ---- a tree of one node among others
@@ -139,7 +139,7 @@ module _ {d e : DocState} {node new : ℕ} {doc : Option NodeName} {text : DomSt
         → f ≡ planned (owner_in e node) (cutting_tail (name_in e node) offset count (name_in e new)) e
         → f.world ≡ made o (splitting x offset) d.world
     split_whole offset {count} counts documented tailed is =
-        let tail_own = λ (up : Option NodeName). plans_tail o x offset y up (owner-part_of d.world o) in
+        let tail_own = λ (up : Option NodeName). keeps-placing_tail (own_rules o) x offset y up (owner-part_of d.world o) in
         let old = node_in ts x in
         let behind = λ (up : Option NodeName). made o (placing_tail x offset y up) in
         let rest = λ (k : ℕ). made o (replacing_data x offset k []) in
@@ -154,6 +154,6 @@ module _ {d e : DocState} {node new : ℕ} {doc : Option NodeName} {text : DomSt
         ∙ ap (λ (w : World). rest count (behind (parent_of ts x) w)) is_made.world
         ∙ ap (rest count) (sym (made_then o (doing (make n)) (placing_tail x offset y (parent_of ts x)) d.world is_made.alone (λ p own. (tt, tt))))
         ∙ sym (made_then o (doing (make n) and_then placing_tail x offset y (parent_of ts x)) (replacing_data x offset count []) d.world is_made.alone
-        (plans_then o (doing (make n)) (placing_tail x offset y (parent_of ts x)) (λ p own. (tt, tt)) (tail_own (parent_of ts x))))
+        (keeps-and_then (own_moves o) (doing (make n)) (placing_tail x offset y (parent_of ts x)) (λ p own. (tt, tt)) (tail_own (parent_of ts x))))
         ∙ ap (λ k. whole (parent_of ts x) doc text k) counts ∙ ap (λ a. whole (parent_of ts x) a text (length old.text - offset)) documented
         ∙ ap (λ units. whole (parent_of ts x) old.document units (length old.text - offset)) tailed

@@ -5,7 +5,8 @@ use Rattle.dom_mutation.proofs.Cited.{trees_below, subtree, children_of, kind_of
 use Rattle.dom_mutation.proofs.Cited.{Part, Step, part_of, world_after, Plan, Observing, ◌and_then◌, in_turn, steps_of, telling, emptying, making_room, placing}
 use Rattle.dom_mutation.proofs.Cited.{sibling_before, insert_plan, name_eq-same, times_in-tree, one-true, Lacks, lacks_from, lacks_to, below_lacks, Each}
 use Rattle.dom_mutation.proofs.Cited.{each_all, parent_path, DocState, planned, placed_all, name_in, owner_in, trees_in, MayMove, IsChild, NoneAbove, PlansOwn}
-use Rattle.dom_mutation.proofs.Cited.{IsAlone, planned_then, plans_then, plans_turn, plans_each_own, plans_room, plans_placing, plans_emptying, children_own}
+use Rattle.dom_mutation.proofs.Cited.{IsAlone, planned_then, children_own, all-then}
+use Rattle.dom_mutation.proofs.Cited.{keeps-and_then, keeps-emptying, keeps-in_turn, keeps-making_room, keeps-placing, own_moves}
 use Rattle.dom_mutation.proofs.Placed.{Counted, once_in, before_lacks}
 use Rattle.dom_mutation.proofs.Turns.{Stays}
 
@@ -35,11 +36,12 @@ module _ (o : Owner) (how : Observing) (node parent : NodeName) (before : Option
         let told : Plan = steps_of (telling how (child_list parent moved [] prev before)) in
         let room = making_room parent before (length moved) in
         let turn = in_turn (placing parent before) moved in
-        let roomed = plans_then o emptied room empties (plans_room o parent before (length moved)) in
-        let turned = plans_turn o (placing parent before) moved (plans_each_own o (placing parent before) (plans_placing o parent before) moved own) in
+        let roomed = keeps-and_then (own_moves o) emptied room empties (keeps-making_room (own_moves o) parent before (length moved)) in
+        let turned = keeps-in_turn (own_moves o) (placing parent before) moved
+        (all-then (λ (y : NodeName). y.owner ≡ o) (λ y. PlansOwn o (placing parent before y)) (keeps-placing (own_moves o) parent before) moved own) in
         ap (λ e. planned o told (planned o turn e)) (planned_then o emptied room d alone empties)
         ∙ ap (planned o told) (planned_then o (emptied and_then room) turn d alone roomed)
-        ∙ planned_then o (emptied and_then room and_then turn) told d alone (plans_then o (emptied and_then room) turn roomed turned)
+        ∙ planned_then o (emptied and_then room and_then turn) told d alone (keeps-and_then (own_moves o) (emptied and_then room) turn roomed turned)
 
     module _ (own : node.owner ≡ o) where
       abbrev ts : Trees
@@ -58,7 +60,7 @@ module _ (o : Owner) (how : Observing) (node parent : NodeName) (before : Option
           (planned o (emptying node (children_of ts node)) d) ≡ planned o (insert_plan how node parent before) d
       inserted_children e some =
           let moved = children_of ts node in
-          placed_plan moved (emptying node moved) (sibling_before ts parent before) (plans_emptying o node moved) (children_own o ts node alone.own)
+          placed_plan moved (emptying node moved) (sibling_before ts parent before) (keeps-emptying (own_moves o) node moved) (children_own o ts node alone.own)
           ∙ ap (with_steps d) (sym (steps_as (part_of d.world o) true e ∙
           cond-false (is_empty moved) [] (placing_plan moved (emptying node moved) (sibling_before ts parent before) (part_of d.world o)) some))
 

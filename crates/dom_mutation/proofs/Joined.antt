@@ -1,13 +1,13 @@
 -- Normalization: the Texts directly after a Text, their data, and the Texts below a node.
 use Rattle.dom_mutation.proofs.Cited.{◌≡◌, ℕ, suc, ◌<◌, ◌≤◌, inl, inr, Bool, true, false, List, [], ◌∷◌, ◌++◌, drop, length, map, Option, Some, None}
-use Rattle.dom_mutation.proofs.Cited.{option_map, refl, sym, ap, subst, ◌∙◌, arith, ◌==◌, filter, flat_map, take_while, if◌then◌else◌, AllByRecursion, ForSome}
-use Rattle.dom_mutation.proofs.Cited.{option_map_or, cases_Bool, cond-true, cond-false, or_left, map-append, append-nil, append_assoc, drop-append-le}
-use Rattle.dom_mutation.proofs.Cited.{filter-append, take_while-cons, NodeName, Owner, DomString, name_eq, first_of, is_empty, is_in, items_before, items_after}
-use Rattle.dom_mutation.proofs.Cited.{Trees, kind_of, is_text, node_in, length_of, siblings, children_of, parent_of, next_sibling, inclusive_ancestors}
-use Rattle.dom_mutation.proofs.Cited.{times_in, is_inclusive_ancestor, subtree, inclusive_descendants, Step, part_of, world_after, observed, remove_plan}
-use Rattle.dom_mutation.proofs.Cited.{contiguous_texts_after, joining, normalizing_text, name_eq-same, name_at, DocState, planned, name_in, owner_in, trees_in}
-use Rattle.dom_mutation.proofs.Cited.{IsOwnNode, Lacks, swapped, path_none, path_gone, path_head, Once, none_or_some, once_subtree, NoTwice, children_once}
-use Rattle.dom_mutation.proofs.Cited.{next_child, names_once, walked, StandsIn, left, Walks, walks, first_inside}
+use Rattle.dom_mutation.proofs.Cited.{option_map, refl, sym, ap, subst, ◌∙◌, arith, ◌==◌, filter, flat_map, take_while, if◌then◌else◌, AllByRecursion}
+use Rattle.dom_mutation.proofs.Cited.{ForSome, option_map_or, cases_Bool, cond-true, cond-false, or_left, map-append, append-nil, append_assoc}
+use Rattle.dom_mutation.proofs.Cited.{drop-append-le, filter-append, take_while-cons, NodeName, Owner, DomString, name_eq, first_of, is_empty, is_in}
+use Rattle.dom_mutation.proofs.Cited.{items_before, items_after, Trees, kind_of, is_text, node_in, length_of, siblings, children_of, parent_of}
+use Rattle.dom_mutation.proofs.Cited.{next_sibling, times_in, is_inclusive_ancestor, subtree, inclusive_descendants, Step, part_of, world_after}
+use Rattle.dom_mutation.proofs.Cited.{observed, remove_plan, contiguous_texts_after, joining, normalizing_text, name_eq-same, name_at, DocState}
+use Rattle.dom_mutation.proofs.Cited.{planned, name_in, owner_in, trees_in, IsOwnNode, Lacks, swapped, path_none, Once, none_or_some, once_subtree}
+use Rattle.dom_mutation.proofs.Cited.{NoTwice, children_once, next_child, names_once, walked, StandsIn, left, Walks, walks, first_inside}
 use Rattle.dom_mutation.proofs.Placed.{Counted, once_in}
 use Rattle.dom_mutation.proofs.Listing.{all_push}
 use Rattle.dom_mutation.proofs.Replaced.{lacks_after}
@@ -185,14 +185,6 @@ module _ (d : DocState) (node : ℕ) where
       ap (λ b. after_steps (steps_if b (parent_of ts x) (contiguous_texts_after ts x))) (sym h)
 
 -- ---- the Texts below a node
-
--- a node that is there has itself above it
-pub stands_there : (ts : Trees) (x : NodeName) → 1 ≤ times_in ts x → is_inclusive_ancestor ts x x ≡ true
-stands_there ts x there = by (inclusive_ancestors ts x) refl
-  where
-    by : (path : List NodeName) → inclusive_ancestors ts x ≡ path → is_inclusive_ancestor ts x x ≡ true
-    by [] e = let gone = path_gone ts x e in absurd (omega arith)
-    by (a ∷ path) e = ap (is_in name_eq x) e ∙ or_left (name_eq x a) (is_in name_eq x path) (ap (name_eq x) (path_head ts x a path e) ∙ name_eq-same x)
 
 -- a node stands in its own tree, first
 pub first_own : (ts : Trees) (x : NodeName) → is_inclusive_ancestor ts x x ≡ true → (rest : List NodeName) × (inclusive_descendants ts x ≡ x ∷ rest)

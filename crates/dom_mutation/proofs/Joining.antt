@@ -2,7 +2,8 @@
 -- are those that were planned before.
 use Rattle.dom_mutation.proofs.Cited.{◌≡◌, ℕ, true, List, map, Some, sym, ap, subst, ◌∙◌, flat_map, NodeName, DomString, Part, after, replacing_data, joins}
 use Rattle.dom_mutation.proofs.Cited.{contiguous_texts_after, node_in, has_node, is_text, kind_of, parent_of, length_of, part_of, HasBounds, IsPart, name_at}
-use Rattle.dom_mutation.proofs.Cited.{DocState, JoinsFit, name_in, owner_in, trees_in, planned, IsAlone, joining-joins_fit, plan_alone, plans_data}
+use Rattle.dom_mutation.proofs.Cited.{DocState, JoinsFit, name_in, owner_in, trees_in, planned, IsAlone, joining-joins_fit, plan_alone}
+use Rattle.dom_mutation.proofs.Cited.{keeps-replacing_data, own_rules}
 use Rattle.dom_worlds.proofs.RangeLemmas.{text-data}
 use Rattle.dom_mutation.proofs.BoundedDocs.{bounds_grown}
 use Rattle.dom_mutation.proofs.ExactJoins.{joins_after}
@@ -35,7 +36,7 @@ module _ (d e : DocState) (node parent size : ℕ) (units : DomString) (ks : Lis
   grown =
       ap (λ (q : Part). q.trees)
       (ap (λ (s : DocState). part_of s.world (owner_in d node)) made ∙ plan_alone (owner_in d node) (replacing_data x size 0 units) d.world alone
-      (plans_data (owner_in d node) x size 0 units)
+      (keeps-replacing_data (own_rules (owner_in d node)) x size 0 units)
       ∙ ap (λ n. after p (replacing_data x n 0 units p)) sized ∙ ap (λ u. after p (replacing_data x (length_of p.trees x) 0 u p))
       (collected ∙ ap (flat_map (λ y. (node_in p.trees y).text)) listed))
 

@@ -1,6 +1,5 @@
 -- Lemmas of the Standard's mutation algorithms, and on what a `Doc` is ready for.
 mod Cited
-mod BarePlans
 pub mod BoundedDocs
 mod Emptied
 mod ExactJoins

@@ -1,13 +1,8 @@
 -- Keys of nodes stay keys of nodes where the names stay, and nodes that may be moved are nodes.
-use Rattle.dom_mutation.proofs.Cited.{◌≡◌, ℕ, ◌<◌, List, [], ◌∷◌, length, Option, sym, subst, AllByRecursion, NodeName, DocState, AreNodes, MayMove, owner_in}
+use Rattle.dom_mutation.proofs.Cited.{◌≡◌, ℕ, ◌<◌, List, [], ◌∷◌, length, sym, subst, AllByRecursion, NodeName, DocState, AreNodes, owner_in}
 
 pub nodes_kept : (d e : DocState) → e.names ≡ d.names → (ks : List ℕ) → AreNodes d ks → AreNodes e ks
 nodes_kept d e same ks all = subst (λ (ns : List NodeName). AllByRecursion (λ k. k < length ns) ks) (sym same) all
-
--- nodes that may be moved
-pub movable_nodes : (d : DocState) (parent : ℕ) (before : Option ℕ) (ks : List ℕ) → AllByRecursion (MayMove d parent before) ks → AreNodes d ks
-movable_nodes d parent before [] all = tt
-movable_nodes d parent before (k ∷ ks) all = (all.0.node, movable_nodes d parent before ks all.1)
 
 -- nodes of an owner
 pub own_nodes : (d : DocState) (top : ℕ) (ks : List ℕ) → AllByRecursion (λ k. (k < length d.names) × (owner_in d k ≡ owner_in d top)) ks → AreNodes d ks

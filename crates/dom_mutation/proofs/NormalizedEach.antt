@@ -3,7 +3,7 @@ use Rattle.dom_mutation.proofs.Cited.{◌≡◌, ℕ, suc, Bool, true, false, �
 use Rattle.dom_mutation.proofs.Cited.{subst, ◌∙◌, AllByRecursion, filter, if◌then◌else◌, NodeName, in_turn, after, normalizing_text, has_node, kind_of, is_text}
 use Rattle.dom_mutation.proofs.Cited.{Part, part_of, HasBounds, IsPart, name_at, DocState, IsOwnNode, name_in, owner_in, trees_in, planned, IsAlone}
 use Rattle.dom_mutation.proofs.Cited.{has_node-times, leads-normalizing_text, normalized_text-keeps, normalized_text-leaves, all_drop, alone_made, plan_alone}
-use Rattle.dom_mutation.proofs.Cited.{planned_turn, plans_normalizing_text}
+use Rattle.dom_mutation.proofs.Cited.{planned_turn, keeps-normalizing_text, own_rules}
 
 -- ---- one Text after another
 
@@ -96,15 +96,16 @@ module _ (top : ℕ) (all : List ℕ) (d : DocState) where
       let p = part_of e.world o in
       let texts = subst (AllByRecursion (λ k. IsTextOf p (name_in d k))) now turn.texts in
       let after_it : part_of f.world o ≡ after p (normalizing_text x p) =
-      ap (λ (s : DocState). part_of s.world o) at ∙ plan_alone o (normalizing_text x) e.world turn.alone (plans_normalizing_text o x) in
+      ap (λ (s : DocState). part_of s.world o) at ∙ plan_alone o (normalizing_text x) e.world turn.alone (keeps-normalizing_text (own_rules o) x) in
       subst (λ j. Normalizes top all d (drop j all) f) (sym (add-one i))
       (record {
         names = ap (λ (s : DocState). s.names) at ∙ turn.names;
-        alone = subst (λ (s : DocState). IsAlone s.world o) (sym at) (alone_made o (normalizing_text x) e.world turn.alone (plans_normalizing_text o x));
+        alone = subst (λ (s : DocState). IsAlone s.world o) (sym at)
+            (alone_made o (normalizing_text x) e.world turn.alone (keeps-normalizing_text (own_rules o) x));
         part = subst IsPart (sym after_it) (leads-normalizing_text p x turn.part (has_node-times p.trees x texts.0.there)).changed.part;
         bounds = subst HasBounds (sym after_it) (normalized_text-keeps x p turn.part texts.0.there texts.0.text turn.bounds);
         texts = subst (λ q. AllByRecursion (λ k. IsTextOf q (name_in d k)) (drop (suc i) all)) (sym after_it)
             (texts_left turn.part texts.0 d (drop (suc i) all) texts.1);
         state = ap (planned o (in_turn normalizing_text (map (name_in d) (drop (suc i) all)))) at ∙
-            planned_turn o normalizing_text x (map (name_in d) (drop (suc i) all)) e turn.alone (plans_normalizing_text o x) ∙ state;
+            planned_turn o normalizing_text x (map (name_in d) (drop (suc i) all)) e turn.alone (keeps-normalizing_text (own_rules o) x) ∙ state;
       })

@@ -5,8 +5,8 @@ use Rattle.dom_mutation.proofs.Cited.{Trees, nodes, next_sibling, parent_of, inc
 use Rattle.dom_mutation.proofs.Cited.{with_document, Part, place, take_out, set_document, after, part_step, leave, part_of, Observing, observed, suppressed}
 use Rattle.dom_mutation.proofs.Cited.{remove_plan, removing_from, changing_document, adopt_plan, has_document, only_if, name_at, DocState, planned, stepped}
 use Rattle.dom_mutation.proofs.Cited.{name_in, owner_in, trees_in, MayMove, IsChild, KeepsPaths, IsAlone, Lacks, lacks_from, Once, once_counted, path_taken}
-use Rattle.dom_mutation.proofs.Cited.{path_placed, parent_taken, path_mapped, parent_path, next_child, after_append, trees_after, alone_made, plans_removing}
-use Rattle.dom_mutation.proofs.Cited.{plans_adopting}
+use Rattle.dom_mutation.proofs.Cited.{path_placed, parent_taken, path_mapped, parent_path, next_child, trees_after, alone_made, after-append}
+use Rattle.dom_mutation.proofs.Cited.{keeps-adopting, keeps-removing, own_moves}
 
 -- a removal
 abbrev Removed : NodeName → Trees → Trees → Type 0
@@ -60,7 +60,7 @@ module _ (d x : NodeName) (p : Part) where
   moved = after p (remove_plan observed x p)
 
   adopted_is : (after p (adopt_plan d x p)).trees ≡ (after moved (changing_document d x moved)).trees
-  adopted_is = ap (λ (q : Part). q.trees) (after_append p (remove_plan observed x p) (changing_document d x moved))
+  adopted_is = ap (λ (q : Part). q.trees) (after-append p (remove_plan observed x p) (changing_document d x moved))
 
   adopted_path : Once p.trees → (y : NodeName) → Lacks x (inclusive_ancestors p.trees y) →
       inclusive_ancestors (after p (adopt_plan d x p)).trees y ≡ inclusive_ancestors p.trees y
@@ -75,18 +75,18 @@ module _ (d x : NodeName) (p : Part) where
 -- ---- the same of states
 module _ (o : Owner) (d : DocState) (alone : IsAlone d.world o) where
   pub parent_adopted : (doc x : NodeName) → x.owner ≡ o → parent_of (part_of (planned o (adopt_plan doc x) d).world o).trees x ≡ None
-  parent_adopted doc x own = ap (λ t. parent_of t x) (trees_after o (adopt_plan doc x) d alone (plans_adopting o doc x own)) ∙
+  parent_adopted doc x own = ap (λ t. parent_of t x) (trees_after o (adopt_plan doc x) d alone (keeps-adopting (own_moves o) doc x own)) ∙
       adopted_parent doc x (part_of d.world o)
 
   pub path_adopted : Once (part_of d.world o).trees → (doc x y : NodeName) → x.owner ≡ o → Lacks x (inclusive_ancestors (part_of d.world o).trees y)
       → inclusive_ancestors (part_of (planned o (adopt_plan doc x) d).world o).trees y ≡ inclusive_ancestors (part_of d.world o).trees y
-  path_adopted once doc x y own lacks = ap (λ t. inclusive_ancestors t y) (trees_after o (adopt_plan doc x) d alone (plans_adopting o doc x own)) ∙
+  path_adopted once doc x y own lacks = ap (λ t. inclusive_ancestors t y) (trees_after o (adopt_plan doc x) d alone (keeps-adopting (own_moves o) doc x own)) ∙
       adopted_path doc x (part_of d.world o) once y lacks
 
   pub path_removed : Once (part_of d.world o).trees → (how : Observing) (x y : NodeName) → Lacks x (inclusive_ancestors (part_of d.world o).trees y)
       → inclusive_ancestors (part_of (planned o (remove_plan how x) d).world o).trees y ≡ inclusive_ancestors (part_of d.world o).trees y
   path_removed once how x y lacks =
-      ap (λ t. inclusive_ancestors t y) (trees_after o (remove_plan how x) d alone (plans_removing o how x))
+      ap (λ t. inclusive_ancestors t y) (trees_after o (remove_plan how x) d alone (keeps-removing (own_moves o) how x))
       ∙ removed_path x once
       (removed_trees how x (part_of d.world o)) y lacks
 
@@ -158,7 +158,7 @@ module _ (d e : DocState) (counted : Counted d) (parent node : ℕ) (before : Op
   alone_now =
       subst (λ (s : DocState). IsAlone s.world (owner_in s parent)) (sym is_own)
       (alone_made (owner_in d parent) (adopt_plan doc (name_in d node)) d.world (alone parent parent_is)
-      (plans_adopting (owner_in d parent) doc (name_in d node) may.owner))
+      (keeps-adopting (own_moves (owner_in d parent)) doc (name_in d node) may.owner))
 
   -- and after the placing
   pub kept_placed : Counted e → (f : DocState) →

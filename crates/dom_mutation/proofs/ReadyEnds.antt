@@ -1,10 +1,9 @@
 -- Steps keep both ends of a live range at nodes of one tree, whatever else the part holds. The laws for this speak of all tables, so
 -- they are read of a part without the others.
-use Rattle.dom_mutation.proofs.Cited.{◌≡◌, ℕ, List, [], ◌∷◌, ◌++◌, fold, Option, Some, None, refl, sym, ap, subst, ◌∙◌, nat_eq, slice_set, AllByRecursion}
-use Rattle.dom_mutation.proofs.Cited.{option_map_or, NodeName, append_once, Registration, target_of, Change, Part, queue_of, Step, make, make_room, place}
-use Rattle.dom_mutation.proofs.Cited.{take_out, set_document, set_attribute, replace_data, split_at, join_at, set_range, queue_record, part_step, leave, after}
-use Rattle.dom_mutation.proofs.Cited.{record_in, inclusive_ancestors, parent_of, none_interested, none_transient, HasBounds, EndsIn, HasTables, IsPart}
-use Rattle.dom_mutation.proofs.Cited.{tables-after, Fits, MadeIn}
+use Rattle.dom_mutation.proofs.Cited.{◌≡◌, ℕ, List, [], ◌∷◌, ◌++◌, fold, Option, Some, None, refl, sym, ap, subst, ◌∙◌, nat_eq, slice_set}
+use Rattle.dom_mutation.proofs.Cited.{AllByRecursion, option_map_or, NodeName, append_once, Registration, target_of, Change, Part, queue_of, Step, make}
+use Rattle.dom_mutation.proofs.Cited.{take_out, queue_record, part_step, leave, after, record_in, inclusive_ancestors, parent_of, none_interested}
+use Rattle.dom_mutation.proofs.Cited.{none_transient, HasBounds, EndsIn, HasTables, IsPart, tables-after, Fits, MadeIn}
 
 -- the part with its trees and live ranges alone
 abbrev pub bare : Part → Part
@@ -23,15 +22,7 @@ bare-step p (queue_record c) =
     λ queues k. slice_set queues k (queue_of queues k ++ record_in (bare p) c k ∷ []) in
     ap (λ (ks : List ℕ). record (bare p) { record_queues = fold add [] ks; pending = fold (append_once nat_eq) [] ks })
     (none_interested (inclusive_ancestors p.trees (target_of c)) c)
-bare-step p (make n) = refl
-bare-step p (make_room parent index count) = refl
-bare-step p (place x parent before) = refl
-bare-step p (set_document x d) = refl
-bare-step p (set_attribute x a v) = refl
-bare-step p (replace_data x offset count new) = refl
-bare-step p (split_at x offset new parent index) = refl
-bare-step p (join_at first size next parent index) = refl
-bare-step p (set_range k r) = refl
+bare-step p s = refl
 
 -- and so do many
 pub bare-after : (p : Part) (steps : List Step) → after (bare p) steps ≡ bare (after p steps)
@@ -41,16 +32,7 @@ bare-after p (s ∷ steps) = ap (λ (q : Part). after q steps) (bare-step p s) �
 -- and it fits where it did
 bare-fits : (p : Part) (s : Step) → Fits (bare p) s ≡ Fits p s
 bare-fits p (make n) = refl
-bare-fits p (make_room parent index count) = refl
-bare-fits p (place x parent before) = refl
-bare-fits p (take_out x) = refl
-bare-fits p (set_document x d) = refl
-bare-fits p (set_attribute x a v) = refl
-bare-fits p (replace_data x offset count new) = refl
-bare-fits p (split_at x offset new parent index) = refl
-bare-fits p (join_at first size next parent index) = refl
-bare-fits p (set_range k r) = refl
-bare-fits p (queue_record c) = refl
+bare-fits p s = refl
 
 -- many do
 pub bare-made : (p : Part) (steps : List Step) → MadeIn p steps → MadeIn (bare p) steps

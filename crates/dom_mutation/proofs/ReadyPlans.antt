@@ -1,26 +1,24 @@
 -- The plans of changes keep an owner's part ready for calls.
-use Rattle.dom_mutation.proofs.Cited.{◌≡◌, ◌<◌, ℕ, length, Bool, true, false, not, ◌||◌, List, [], ◌∷◌, drop, filter, Option, Some, None, refl, sym, ap, ◌∙◌}
-use Rattle.dom_mutation.proofs.Cited.{arith, true≢false, subst, IsTrue, if◌then◌else◌, option_map_or, not-false, Kind, Document, Fragment, Shadow, Element}
-use Rattle.dom_mutation.proofs.Cited.{Text, Comment, NodeName, Hierarchy, NotFound, Plan, observed, remove_plan, adopt_plan, insert_plan, replace_plan}
-use Rattle.dom_mutation.proofs.Cited.{setting_attribute, unsetting_attribute, of_range, plan_of_range, extracting, Word, DomString, name_eq, Part, range_at}
-use Rattle.dom_mutation.proofs.Cited.{deleting, insert_node_refusal, insertion_parent, start_reference, cannot_take_node, inserting_into_range, Range, Step}
-use Rattle.dom_mutation.proofs.Cited.{make, set_document, set_range, after, replacing_data, replacing_all_data, replacing_children, splitting, normalizing}
-use Rattle.dom_mutation.proofs.Cited.{setting_text, Trees, Node, has_node, kind_of, has_data, is_document, is_text, is_shadow, child_nodes}
-use Rattle.dom_mutation.proofs.Cited.{is_inclusive_ancestor, first_refusal, has_parent, may_be_parent, may_be_inserted, placing_tests, pre_insert_refusal}
-use Rattle.dom_mutation.proofs.Cited.{replace_refusal, parent-open, HasBounds, IsWithin, EndsIn, HasEnds, IsPart, next-test, has_node-times, parent-of_range}
-use Rattle.dom_mutation.proofs.Cited.{inside-no_ancestor, times-has_node, roots-equal, Keeps, keeps-removing, keeps-adopting, keeps-inserting, keeps-replacing}
-use Rattle.dom_mutation.proofs.Cited.{keeps-setting_attribute, keeps-unsetting_attribute, keeps-replacing_data, keeps-splitting, keeps-normalizing}
-use Rattle.dom_mutation.proofs.Cited.{keeps-setting_text, keeps-extracting, keeps-deleting, keeps-inserting_into_range, leads-deleting, leads-extracting}
-use Rattle.dom_mutation.proofs.Cited.{leads-inserting_into_range, MayGo, leads-removing, leads-adopting, leads-inserting, ends-at, leads-replacing}
-use Rattle.dom_mutation.proofs.Cited.{leads-setting_attribute, leads-unsetting_attribute, leads-replacing_data, leads-splitting, leads-normalizing}
-use Rattle.dom_mutation.proofs.Cited.{leads-setting_text, MadeIn, not_taken, by_cases, IsReadyPart}
+use Rattle.dom_mutation.proofs.Cited.{◌≡◌, ◌<◌, ℕ, length, Bool, true, false, not, ◌||◌, List, [], ◌∷◌, Option, Some, None, refl, sym, ap, ◌∙◌, arith}
+use Rattle.dom_mutation.proofs.Cited.{true≢false, subst, IsTrue, if◌then◌else◌, option_map_or, NodeName, Plan, observed, remove_plan, adopt_plan}
+use Rattle.dom_mutation.proofs.Cited.{insert_plan, replace_plan, setting_attribute, unsetting_attribute, of_range, plan_of_range, extracting, Word}
+use Rattle.dom_mutation.proofs.Cited.{DomString, Part, range_at, deleting, insert_node_refusal, insertion_parent, start_reference, cannot_take_node}
+use Rattle.dom_mutation.proofs.Cited.{inserting_into_range, Range, Step, make, set_document, set_range, after, replacing_data, replacing_all_data}
+use Rattle.dom_mutation.proofs.Cited.{replacing_children, splitting, normalizing, setting_text, Node, has_node, kind_of, has_data, is_document, is_text}
+use Rattle.dom_mutation.proofs.Cited.{is_shadow, is_inclusive_ancestor, pre_insert_refusal, replace_refusal, HasBounds, IsWithin, EndsIn, HasEnds}
+use Rattle.dom_mutation.proofs.Cited.{IsPart, has_node-times, parent-of_range, inside-no_ancestor, times-has_node, roots-equal, Keeps, keeps-removing}
+use Rattle.dom_mutation.proofs.Cited.{keeps-adopting, keeps-inserting, keeps-replacing, keeps-setting_attribute, keeps-unsetting_attribute}
+use Rattle.dom_mutation.proofs.Cited.{keeps-replacing_data, keeps-splitting, keeps-normalizing, keeps-setting_text, keeps-extracting, keeps-deleting}
+use Rattle.dom_mutation.proofs.Cited.{keeps-inserting_into_range, leads-deleting, leads-extracting, leads-inserting_into_range, MayGo, leads-removing}
+use Rattle.dom_mutation.proofs.Cited.{leads-adopting, leads-inserting, ends-at, leads-replacing, leads-setting_attribute, leads-unsetting_attribute}
+use Rattle.dom_mutation.proofs.Cited.{leads-replacing_data, leads-splitting, leads-normalizing, leads-setting_text, MadeIn, not_taken, by_cases}
+use Rattle.dom_mutation.proofs.Cited.{IsReadyPart, insertion-tested, replacement-tested, blind-into_range}
 use Rattle.dom_worlds.proofs.RangeLemmas.{under-at, RangeUnder, reach, nowhere, room-of, make-keeps, set_document-keeps, set_range-keeps, removal-keeps}
 use Rattle.dom_worlds.proofs.RangeLemmas.{adoption-keeps, insertion-keeps, replacement-keeps, attribute-keeps, attribute_removal-keeps, data-keeps, split-keeps}
 use Rattle.dom_worlds.proofs.RangeLemmas.{normalization-keeps, text_content-keeps, deletion-keeps, extraction-keeps, range_insertion-keeps}
 use Rattle.dom_mutation.proofs.NoData.{no_data-keeps}
-use Rattle.dom_mutation.proofs.ReadyEnds.{bare, bare-part, bare-bounds, bounds-bare, bare-tables, bare-after, made-bare, ends-after}
+use Rattle.dom_mutation.proofs.ReadyEnds.{bare, bare-part, bare-bounds, bounds-bare, bare-tables, bare-step, bare-after, made-bare, ends-after}
 use Rattle.dom_mutation.proofs.ReadyRoots.{LoneRoots, lone-rules, lone-before, lone-after}
-use Rattle.dom_mutation.proofs.BarePlans.{bare-inserting_into_range}
 
 -- Steps that fit, and keep the bounds and the shadow roots.
 pub record KeepReady (p : Part) (steps : List Step) : Type 0 where
@@ -32,47 +30,10 @@ pub record KeepReady (p : Part) (steps : List Step) : Type 0 where
 pub ready-after : (p : Part) (steps : List Step) → IsPart p → IsReadyPart p → KeepReady p steps → IsReadyPart (after p steps)
 ready-after p steps i h k = record { bounds = k.bounds; ends = ends-after p steps i k.made h.ends; roots = k.roots }
 
--- what passed the tests of a placing
-pub record MayPlace (ts : Trees) (parent x : NodeName) : Type 0 where
-  pub apart : is_inclusive_ancestor ts x parent ≡ false
-  pub opened : has_data (kind_of ts parent) ≡ false
-  pub plain : is_shadow (kind_of ts x) ≡ false
-
-inserted-plain : (k : Kind) → may_be_inserted k ≡ true → is_shadow k ≡ false
-inserted-plain Shadow h = absurd (true≢false (sym h))
-inserted-plain Document h = refl
-inserted-plain Fragment h = refl
-inserted-plain Element h = refl
-inserted-plain Text h = refl
-inserted-plain Comment h = refl
-
--- by the tests
-tested : (ts : Trees) (parent x : NodeName) (is_lost : Bool) (others : List Node) →
-    first_refusal (placing_tests ts parent x is_lost others) ≡ None → MayPlace ts parent x
-tested ts parent x is_lost others h =
-    let tests = placing_tests ts parent x is_lost others in
-    let a = next-test (not (may_be_parent (kind_of ts parent))) Hierarchy (drop 1 tests) h in
-    let b = next-test (is_inclusive_ancestor ts x parent) Hierarchy (drop 2 tests) a.1 in
-    let c = next-test is_lost NotFound (drop 3 tests) b.1 in
-    let d = next-test (not (may_be_inserted (kind_of ts x))) Hierarchy (drop 4 tests) c.1 in
-    record {
-      apart = b.0;
-      opened = parent-open (kind_of ts parent) (not-false (may_be_parent (kind_of ts parent)) a.0);
-      plain = inserted-plain (kind_of ts x) (not-false (may_be_inserted (kind_of ts x)) d.0);
-    }
-
--- of an insertion and a replacement
-pub insertion-tested : (ts : Trees) (parent x : NodeName) (child : Option NodeName) → pre_insert_refusal ts parent x child ≡ None → MayPlace ts parent x
-insertion-tested ts parent x child h = tested ts parent x (option_map_or (λ c. not (has_parent ts parent c)) child false) (child_nodes ts parent) h
-
-replacement-tested : (ts : Trees) (parent x child : NodeName) → replace_refusal ts parent x child ≡ None → MayPlace ts parent x
-replacement-tested ts parent x child h =
-    tested ts parent x (not (has_parent ts parent child)) (filter (λ (n : Node). not (name_eq n.name child)) (child_nodes ts parent)) h
-
 -- In a part that is ready.
 module _ (p : Part) (i : IsPart p) (h : IsReadyPart p) where
   -- shadow roots, through a plan
-  lone-plan : (f : Plan) → Keeps (lone-rules p) f → LoneRoots (after p (f p)).trees
+  lone-plan : (f : Plan) → Keeps (lone-rules p).moves f → LoneRoots (after p (f p)).trees
   lone-plan f k = lone-after p (f p) i h.roots (k p (lone-before p i h.roots))
 
   -- what goes below a node: it is there, and no inclusive ancestor of that
@@ -110,18 +71,19 @@ module _ (p : Part) (i : IsPart p) (h : IsReadyPart p) where
       }
 
   -- a plan, by what is known of it
-  ready-by : (f : Plan) → MadeIn p (f p) → HasBounds (after p (f p)) → Keeps (lone-rules p) f → KeepReady p (f p)
+  ready-by : (f : Plan) → MadeIn p (f p) → HasBounds (after p (f p)) → Keeps (lone-rules p).moves f → KeepReady p (f p)
   ready-by f made bounds k = record { made = made; bounds = bounds; roots = lone-plan f k }
 
   -- a removal and an adoption
   pub ready-removing : (x : NodeName) → KeepReady p (remove_plan observed x p)
   ready-removing x =
-      ready-by (remove_plan observed x) (leads-removing observed x p i).made (removal-keeps observed x p i h.bounds) (keeps-removing (lone-rules p) observed x)
+      ready-by (remove_plan observed x) (leads-removing observed x p i).made (removal-keeps observed x p i h.bounds)
+      (keeps-removing (lone-rules p).moves observed x)
 
   pub ready-adopting : (d x : NodeName) → IsTrue (has_node p.trees x) → KeepReady p (adopt_plan d x p)
   ready-adopting d x t =
       ready-by (adopt_plan d x) (leads-adopting d x p i (i.owned x (has_node-times p.trees x t))).made (adoption-keeps d x p i t h.bounds)
-      (keeps-adopting (lone-rules p) d x)
+      (keeps-adopting (lone-rules p).moves d x tt)
 
   module _ (x parent : NodeName) (t : IsTrue (has_node p.trees x)) (s : IsTrue (has_node p.trees parent)) where
     -- an insertion
@@ -132,7 +94,7 @@ module _ (p : Part) (i : IsPart p) (h : IsReadyPart p) where
         ready-by (insert_plan observed x parent before) (leads-inserting observed x parent before i (may-go x parent t s a)).made
         (insertion-keeps observed x parent before p
         (record { part = i; there = t; parent_there = s; apart = a; opened = o; bounds = h.bounds }))
-        (keeps-inserting (lone-rules p) observed x parent before m)
+        (keeps-inserting (lone-rules p).moves observed x parent before m)
 
     -- a replacement
     pub ready-replacing : (child : NodeName) → replace_refusal p.trees parent x child ≡ None → KeepReady p (replace_plan parent x child p)
@@ -141,7 +103,7 @@ module _ (p : Part) (i : IsPart p) (h : IsReadyPart p) where
         ready-by (replace_plan parent x child) (leads-replacing parent x child p i (may-go x parent t s m.apart)).made
         (replacement-keeps parent x child p
         (record { part = i; there = t; parent_there = s; apart = m.apart; opened = m.opened; bounds = h.bounds }))
-        (keeps-replacing (lone-rules p) parent x child m.plain)
+        (keeps-replacing (lone-rules p).moves parent x child m.plain)
 
   -- attributes
   pub ready-attribute : (x : NodeName) (a : Word) (v : DomString) → KeepReady p (setting_attribute x a v p)
@@ -211,7 +173,7 @@ module _ (p : Part) (i : IsPart p) (h : IsReadyPart p) where
   -- a deletion and an extraction
   ready-contents : (k : ℕ) (f : Range NodeName → Plan) → ((r : Range NodeName) → HasEnds p.trees r → MadeIn p (f r p)) →
       ((r : Range NodeName) → HasEnds p.trees r → IsWithin p.trees r.start → HasBounds (after p (f r p))) →
-      ((r : Range NodeName) → Keeps (lone-rules p) (f r)) → KeepReady p (plan_of_range p k f)
+      ((r : Range NodeName) → Keeps (lone-rules p).moves (f r)) → KeepReady p (plan_of_range p k f)
   ready-contents k f made bounds keeps =
       ready-of_range k f
       (λ r e. let ends = range-ends k r e in ready-by (f r) (made r ends) (bounds r ends (range-within k r e)) (keeps r))
@@ -236,7 +198,7 @@ module _ (p : Part) (i : IsPart p) (h : IsReadyPart p) where
       let start = has_node-times p.trees r.start.node (range-ends k r e).start in
       let g = may-go x (insertion_parent p.trees r) t (times-has_node p.trees (insertion_parent p.trees r) (parent-of_range p r start)) m.apart in
       let tables = bare-tables p h.ends in
-      let same = bare-inserting_into_range k r x p in
+      let same = blind-into_range bare bare-step k r x p in
       let steps = inserting_into_range k r x p in
       ready-by (inserting_into_range k r x)
       (made-bare p steps (subst (MadeIn (bare p)) same

@@ -1,14 +1,12 @@
 -- Steps that place no shadow root, and make none, leave each shadow root without a parent: which nodes are shadow roots is said by the
 -- part before them.
-use Rattle.dom_mutation.proofs.Cited.{◌≡◌, ◌≤◌, true, false, List, drop, Option, Some, None, refl, sym, ap, ◌∙◌, arith, true≢false, subst, if◌then◌else◌, ⊤}
-use Rattle.dom_mutation.proofs.Cited.{AllByRecursion, option_map_or, and_parts, Shadow, NodeName, common_ancestor, name_eq, is_in, first_of, Part, next_name}
-use Rattle.dom_mutation.proofs.Cited.{Step, make, place, take_out, set_document, set_attribute, replace_data, part_step, leave, after, Trees, none, tree, Node}
-use Rattle.dom_mutation.proofs.Cited.{no_node, node_in, kind_of, is_shadow, has_data, parent_of, children_of, subtree, times_in, trees_below}
-use Rattle.dom_mutation.proofs.Cited.{inclusive_descendants, map_nodes, with_name, with_document, with_data_replaced, with_attribute, name_eq-same}
-use Rattle.dom_mutation.proofs.Cited.{name_eq-true, IsPart, AllNodes, IsShadowAt, common_below, whole-pieces, KeepsNames, some-keeps, attribute-keeps}
-use Rattle.dom_mutation.proofs.Cited.{part-step, Allowed, IsOwn, own-step, next-other, IsKept, kept-after, shadow-kind, kind-root, found-absent, roots-there}
-use Rattle.dom_mutation.proofs.Cited.{no_parent-root, read-all, nodes-then, nodes-named, nodes-with_node, nodes-placed, nodes-taken_out, nodes-map_nodes}
-use Rattle.dom_mutation.proofs.Cited.{root-below_none, all-then, by_cases, node-read, name-node_in, fragment-no_shadow, root-alone, by_times}
+use Rattle.dom_mutation.proofs.Cited.{◌≡◌, ◌≤◌, true, false, List, drop, Option, None, refl, sym, ap, ◌∙◌, arith, true≢false, subst, ⊤, AllByRecursion}
+use Rattle.dom_mutation.proofs.Cited.{and_parts, Shadow, NodeName, common_ancestor, name_eq, first_of, Part, next_name, Step, make, place, part_step}
+use Rattle.dom_mutation.proofs.Cited.{after, Trees, none, tree, Node, no_node, node_in, kind_of, is_shadow, has_data, parent_of, children_of, subtree}
+use Rattle.dom_mutation.proofs.Cited.{times_in, trees_below, Asked, name_eq-same, name_eq-true, IsPart, AllNodes, IsShadowAt, common_below}
+use Rattle.dom_mutation.proofs.Cited.{whole-pieces, part-step, Allowed, IsOwn, own-step, next-other, IsKept, kept-after, shadow-kind, kind-root}
+use Rattle.dom_mutation.proofs.Cited.{found-absent, roots-there, no_parent-root, read-all, nodes-then, nodes-named, root-below_none, all-then, by_cases}
+use Rattle.dom_mutation.proofs.Cited.{node-read, name-node_in, fragment-no_shadow, root-alone, by_times, NewHas, rules-kept, nodes-step}
 
 -- no shadow root has a parent
 abbrev pub LoneRoots : Trees → Type 0
@@ -34,9 +32,7 @@ module _ (p0 : Part) where
 
   -- the steps that may be made
   abbrev pub MakesNone : Step → Type 0
-  MakesNone (make n) = is_shadow n.kind ≡ false
-  MakesNone (place x parent before) = IsNoShadow x
-  MakesNone s = ⊤
+  MakesNone = Asked (λ n. is_shadow n.kind ≡ false) IsNoShadow (λ a. ⊤) (λ c. ⊤)
 
   -- they place none of them
   none-placed : (s : Step) → MakesNone s → (r : NodeName) → IsShadowHere r → Allowed r s
@@ -44,29 +40,13 @@ module _ (p0 : Part) where
       by_cases (name_eq x r) (λ e. absurd (true≢false (sym is ∙ ap (λ y. is_shadow (kind_of p0.trees y)) (sym (name_eq-true x r e)) ∙ m))) (λ e. e)
   none-placed s m r is = tt
 
-  -- nodes with other contents
-  shadows-mapped : (f : Node → Node) → KeepsNames f → (ts : Trees) → AllNodes WasShadow ts → AllNodes WasShadow (map_nodes f ts)
-  shadows-mapped f h ts i = nodes-map_nodes WasShadow f (λ n g t. subst IsShadowHere (sym (h n).0) (g (sym (h n).1 ∙ t))) ts i
-
   -- there are no others then
   shadows-step : (p : Part) (s : Step) → MakesNone s → AllNodes WasShadow p.trees → AllNodes WasShadow (part_step p s).trees
-  shadows-step p (make n) m i = nodes-with_node WasShadow (with_name (next_name p) n) p.trees (λ e. absurd (true≢false (sym (ap is_shadow e) ∙ m))) i
-  shadows-step p (place x parent before) m i = nodes-placed WasShadow x parent before p.trees i
-  shadows-step p (take_out x) m i = from (parent_of p.trees x)
+  shadows-step p s m i = nodes-step WasShadow (λ n k named kinded g e. subst IsShadowHere (sym named) (g (sym kinded ∙ e))) p s i (new s m)
     where
-      from : (o : Option NodeName) → AllNodes WasShadow (option_map_or (leave p x) o p).trees
-      from None = i
-      from (Some parent) = nodes-taken_out WasShadow x p.trees i
-  shadows-step p (set_document x d) m i =
-      shadows-mapped (λ n. if is_in name_eq n.name (inclusive_descendants p.trees x) then with_document d n else n)
-      (some-keeps (λ (n : Node). is_in name_eq n.name (inclusive_descendants p.trees x)) (with_document d) (λ n. (refl, refl))) p.trees i
-  shadows-step p (set_attribute x a v) m i =
-      shadows-mapped (λ n. if name_eq n.name x then with_attribute a v n else n)
-      (some-keeps (λ (n : Node). name_eq n.name x) (with_attribute a v) (attribute-keeps a v)) p.trees i
-  shadows-step p (replace_data x offset count new) m i =
-      shadows-mapped (λ n. if name_eq n.name x then with_data_replaced offset count new n else n)
-      (some-keeps (λ (n : Node). name_eq n.name x) (with_data_replaced offset count new) (λ n. (refl, refl))) p.trees i
-  shadows-step p s m i = i
+      new : (s : Step) → MakesNone s → NewHas WasShadow p s
+      new (make n) m = λ e. absurd (true≢false (sym (ap is_shadow e) ∙ m))
+      new s m = tt
 
   -- a shadow root was one
   was-shadow : (p : Part) → StayLone p → (x : NodeName) → is_shadow (kind_of p.trees x) ≡ true → IsShadowHere x
@@ -85,22 +65,14 @@ module _ (p0 : Part) where
       (λ e. absurd (let z = root-below_none p.trees h.part.unique y (h.roots y e).root.alone x in omega arith)) (λ e. e)
 
   -- The rules of plans.
-  pub lone-rules : IsKept StayLone MakesNone IsNoShadow
+  pub lone-rules : IsKept StayLone MakesNone IsNoShadow (λ x. ⊤)
   lone-rules =
-      record {
+      rules-kept (record {
         step = λ p s h m. record {
           part = part-step p s h.part;
           roots = λ r is. own-step r p s (h.roots r is) (none-placed s m r is);
           shadows = shadows-step p s m h.shadows;
         };
-        placing = λ x parent before h. h;
-        making_room = λ parent index count. tt;
-        taking_out = λ x. tt;
-        document = λ x d. tt;
-        data_replaced = λ x offset count new. tt;
-        split = λ x offset new parent index. tt;
-        join = λ x size next parent index. tt;
-        range = λ k range. tt;
         children_told = λ x added removed previous next. tt;
         data_told = λ x old. tt;
         new_text = λ x d text. refl;
@@ -117,7 +89,7 @@ module _ (p0 : Part) where
             (and_parts (name_eq range.start.node range.end.node) (has_data (kind_of p.trees range.start.node)) e).1 ∙
             ap has_data (kind-root range.start.node p (h.roots range.start.node is))))) (λ is. is))
             (nodes-named IsNoShadow (common_below p.trees range) (below-no_shadow p h (common_ancestor p.trees range)));
-      }
+      })
 
   -- a shadow root is there
   shadow-there : (x : NodeName) → IsShadowHere x → 1 ≤ times_in p0.trees x
@@ -165,4 +137,4 @@ module _ (p0 : Part) where
 
   -- such steps leave shadow roots without parents
   pub lone-after : (steps : List Step) → IsPart p0 → LoneRoots p0.trees → AllByRecursion MakesNone steps → LoneRoots (after p0 steps).trees
-  lone-after steps i h all = lone-then (after p0 steps) (kept-after lone-rules p0 steps (lone-before i h) all)
+  lone-after steps i h all = lone-then (after p0 steps) (kept-after lone-rules.moves p0 steps (lone-before i h) all)

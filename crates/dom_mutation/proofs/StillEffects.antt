@@ -53,23 +53,6 @@ module _ (p : Part) where
 
   -- so does each command but the one that drops a live range
   pub effect-still : (c : Command) → DropsNone c → KeepsEffect p (effect p c)
-  effect-still (Command.new_element a) d = tt
-  effect-still (Command.new_text a) d = tt
-  effect-still (Command.new_comment a) d = tt
-  effect-still Command.new_fragment d = tt
-  effect-still Command.new_document d = tt
-  effect-still (Command.append a b) d = tt
-  effect-still (Command.insert a b c) d = tt
-  effect-still (Command.replace a b c) d = tt
-  effect-still (Command.remove a) d = tt
-  effect-still (Command.adopt a b) d = tt
-  effect-still (Command.normalize a) d = tt
-  effect-still (Command.set_attribute a b c) d = tt
-  effect-still (Command.unset_attribute a b) d = tt
-  effect-still (Command.set_data a b) d = tt
-  effect-still (Command.replace_data a b c e) d = tt
-  effect-still (Command.split a b) d = tt
-  effect-still (Command.set_text a b) d = tt
   effect-still Command.range_new d =
       record {
         trees = refl;
@@ -90,9 +73,6 @@ module _ (p : Part) where
   effect-still (Command.range_text k) d =
       of-some (range_at p k) (λ (r : Range NodeName). answers p (a_string (range_text_of p.trees r))) (answers p nothing)
       (λ r. same p refl refl refl refl refl) (same p refl refl refl refl refl)
-  effect-still (Command.extract k) d = tt
-  effect-still (Command.delete k) d = tt
-  effect-still (Command.insert_node k x) d = tt
   effect-still (Command.iterator_new x f) d =
       record { trees = refl; tables = record { ranges = λ j h. h; iterators = still-more p.iterators _; walkers = λ j h. h; observers = λ j h. h } }
   effect-still (Command.walker_new x f) d =
@@ -122,4 +102,4 @@ module _ (p : Part) where
       record { trees = refl; tables = record { ranges = λ j h. h; iterators = λ j h. h; walkers = λ j h. h; observers = still-set p.record_queues k [] } }
   effect-still (Command.take k) d =
       record { trees = refl; tables = record { ranges = λ j h. h; iterators = λ j h. h; walkers = λ j h. h; observers = still-set p.record_queues k [] } }
-  effect-still c d = same _ refl refl refl refl refl
+  effect-still c d = search (same)

@@ -1,21 +1,15 @@
 -- What every step leaves in an owner's part, whether it fits there or not: kinds, and what the owner has beside its trees.
 use Rattle.dom_mutation.proofs.Cited.{◌≡◌, ◌≤◌, ◌<◌, ℕ, zero, suc, true, List, [], ◌∷◌, ◌++◌, fold, map, Option, Some, None, refl, sym, ap, ◌∙◌, arith}
-use Rattle.dom_mutation.proofs.Cited.{true≢false, subst, find, unwrap_or, slice_get, slice_set, option_map, is_some, if◌then◌else◌, AllByRecursion}
-use Rattle.dom_mutation.proofs.Cited.{option_flatten, option_map_or, cond-true, cond-false, slice_get-map, Kind, NodeName, name_eq, is_in, Part, next_name}
-use Rattle.dom_mutation.proofs.Cited.{queue_of, Boundary, Range, map_ends, Step, make, make_room, place, take_out, set_document, set_attribute, replace_data}
-use Rattle.dom_mutation.proofs.Cited.{split_at, join_at, set_range, queue_record, part_step, leave, after, interested_in, record_in, Trees, Node, nodes}
-use Rattle.dom_mutation.proofs.Cited.{node_in, no_node, kind_of, has_node, parent_of, inclusive_descendants, map_nodes, with_name, with_document}
-use Rattle.dom_mutation.proofs.Cited.{with_data_replaced, with_attribute, name_eq-true, AllNodes, IsPart, has_node-times, count-grows, read-all}
-use Rattle.dom_mutation.proofs.Cited.{nodes-with_node, nodes-taken_out, nodes-placed, nodes-map_nodes, nodes-listed, nodes-then, KeepsNames, some-keeps}
-use Rattle.dom_mutation.proofs.Cited.{attribute-keeps, found-there, by_cases, HasStill, HasStillTables}
+use Rattle.dom_mutation.proofs.Cited.{true≢false, subst, find, unwrap_or, slice_get, slice_set, option_map, is_some, AllByRecursion, option_flatten}
+use Rattle.dom_mutation.proofs.Cited.{option_map_or, cond-true, cond-false, slice_get-map, Kind, NodeName, name_eq, Part, next_name, queue_of, Boundary}
+use Rattle.dom_mutation.proofs.Cited.{Range, map_ends, Step, make, make_room, place, take_out, set_document, set_attribute, replace_data, split_at}
+use Rattle.dom_mutation.proofs.Cited.{join_at, set_range, queue_record, part_step, leave, after, interested_in, record_in, Trees, Node, nodes, node_in}
+use Rattle.dom_mutation.proofs.Cited.{no_node, kind_of, has_node, parent_of, name_eq-true, AllNodes, IsPart, has_node-times, count-grows, read-all}
+use Rattle.dom_mutation.proofs.Cited.{NewHas, nodes-listed, nodes-then, found-there, by_cases, HasStill, HasStillTables, nodes-step, is_some-map}
 
 -- Places of lists.
 still-map : {X Y : Type 0} (f : X → Y) (xs : List X) (k : ℕ) → is_some (slice_get xs k) ≡ true → is_some (slice_get (map f xs) k) ≡ true
-still-map {X = X} f xs k h = ap is_some (slice_get-map f xs k) ∙ (same (slice_get xs k) ∙ h)
-  where
-    same : (o : Option X) → is_some (option_map f o) ≡ is_some o
-    same None = refl
-    same (Some x) = refl
+still-map f xs k h = ap is_some (slice_get-map f xs k) ∙ (is_some-map f (slice_get xs k) ∙ h)
 
 -- one that is written
 pub still-set : {X : Type 0} (xs : List X) (j : ℕ) (x : X) → HasStill xs (slice_set xs j x)
@@ -42,9 +36,8 @@ still-moved : (f : Boundary NodeName → Boundary NodeName) (rs : List (Option (
 still-moved f rs k h = ap (λ o. is_some (option_flatten o)) (slice_get-map (option_map (map_ends f)) rs k) ∙ (same (slice_get rs k) ∙ h)
   where
     same : (o : Option (Option (Range NodeName))) → is_some (option_flatten (option_map (option_map (map_ends f)) o)) ≡ is_some (option_flatten o)
-    same None = refl
     same (Some None) = refl
-    same (Some (Some r)) = refl
+    same o = refl
 
 -- where one gets ends
 still-given : (rs : List (Option (Range NodeName))) (j : ℕ) (r : Range NodeName) (k : ℕ) →
@@ -60,11 +53,7 @@ pub still-mapped : (rs : List (Option (Range NodeName))) (j : ℕ) (f : Range No
     is_some (option_flatten (slice_get rs k)) ≡ true →
     is_some (option_flatten (slice_get (slice_set rs j (option_map f (option_flatten (slice_get rs j)))) k)) ≡ true
 still-mapped [] j f k h = h
-still-mapped (x ∷ rs) zero f zero h = same x ∙ h
-  where
-    same : (o : Option (Range NodeName)) → is_some (option_map f o) ≡ is_some o
-    same None = refl
-    same (Some r) = refl
+still-mapped (x ∷ rs) zero f zero h = is_some-map f x ∙ h
 still-mapped (x ∷ rs) zero f (suc k) h = h
 still-mapped (x ∷ rs) (suc j) f zero h = h
 still-mapped (x ∷ rs) (suc j) f (suc k) h = still-mapped rs j f k h
@@ -119,32 +108,14 @@ tables-step p (queue_record c) =
 abbrev pub IsKindAt : NodeName → Kind → Node → Type 0
 IsKindAt x k n = name_eq n.name x ≡ true → n.kind ≡ k
 
--- nodes with other contents
-kinds-mapped : (x : NodeName) (k : Kind) (f : Node → Node) → KeepsNames f → (ts : Trees) → AllNodes (IsKindAt x k) ts → AllNodes (IsKindAt x k) (map_nodes f ts)
-kinds-mapped x k f h ts = nodes-map_nodes (IsKindAt x k) f (λ n g e. (h n).1 ∙ g (sym (ap (λ y. name_eq y x) (h n).0) ∙ e)) ts
-
 -- after a step
 kinds-step : (p : Part) (s : Step) (x : NodeName) (k : Kind) → x.number < p.node_count → AllNodes (IsKindAt x k) p.trees →
     AllNodes (IsKindAt x k) (part_step p s).trees
-kinds-step p (make n) x k few h =
-    nodes-with_node (IsKindAt x k) (with_name (next_name p) n) p.trees
-    (λ e. absurd (let same : p.node_count ≡ x.number = ap (λ (y : NodeName). y.number) (name_eq-true (next_name p) x e) in omega arith)) h
-kinds-step p (place y parent before) x k few h = nodes-placed (IsKindAt x k) y parent before p.trees h
-kinds-step p (take_out y) x k few h = from (parent_of p.trees y)
+kinds-step p s x k few h = nodes-step (IsKindAt x k) (λ n m named kinded g e. kinded ∙ g (sym (ap (λ y. name_eq y x) named) ∙ e)) p s h (new s)
   where
-    from : (o : Option NodeName) → AllNodes (IsKindAt x k) (option_map_or (leave p y) o p).trees
-    from None = h
-    from (Some parent) = nodes-taken_out (IsKindAt x k) y p.trees h
-kinds-step p (set_document y d) x k few h =
-    kinds-mapped x k (λ n. if is_in name_eq n.name (inclusive_descendants p.trees y) then with_document d n else n)
-    (some-keeps (λ (n : Node). is_in name_eq n.name (inclusive_descendants p.trees y)) (with_document d) (λ n. (refl, refl))) p.trees h
-kinds-step p (set_attribute y a v) x k few h =
-    kinds-mapped x k (λ n. if name_eq n.name y then with_attribute a v n else n)
-    (some-keeps (λ (n : Node). name_eq n.name y) (with_attribute a v) (attribute-keeps a v)) p.trees h
-kinds-step p (replace_data y offset count new) x k few h =
-    kinds-mapped x k (λ n. if name_eq n.name y then with_data_replaced offset count new n else n)
-    (some-keeps (λ (n : Node). name_eq n.name y) (with_data_replaced offset count new) (λ n. (refl, refl))) p.trees h
-kinds-step p s x k few h = h
+    new : (s : Step) → NewHas (IsKindAt x k) p s
+    new (make n) = λ e. absurd (let same : p.node_count ≡ x.number = ap (λ (y : NodeName). y.number) (name_eq-true (next_name p) x e) in omega arith)
+    new s = tt
 
 -- the kind that is read, of a node that is there
 found-kind : (x : NodeName) (k : Kind) (ns : List Node) (m : Node) → AllByRecursion (IsKindAt x k) ns → find (λ (n : Node). name_eq n.name x) ns ≡ Some m →

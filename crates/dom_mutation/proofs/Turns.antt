@@ -2,8 +2,8 @@
 use Rattle.dom_mutation.proofs.Cited.{get_or, drop-cons, add-one, suc, ◌+◌, ◌≡◌, ℕ, ◌<◌, false, List, [], ◌∷◌, drop, length, map, Option, Some, option_map}
 use Rattle.dom_mutation.proofs.Cited.{refl, sym, ap, subst, ◌∙◌, AllByRecursion, ForSome, NodeName, name_eq, first_of, is_in, parent_of, inclusive_ancestors}
 use Rattle.dom_mutation.proofs.Cited.{is_inclusive_ancestor, Plan, Observing, in_turn, placing, remove_plan, name_at, DocState, planned, name_in, owner_in}
-use Rattle.dom_mutation.proofs.Cited.{trees_in, MayMove, IsChild, KeepsPaths, NoneAbove, IsAlone, all_drop, lacks_to, planned_turn, alone_made, plans_removing}
-use Rattle.dom_mutation.proofs.Cited.{plans_placing}
+use Rattle.dom_mutation.proofs.Cited.{trees_in, MayMove, IsChild, KeepsPaths, NoneAbove, IsAlone, all_drop, lacks_to, planned_turn, alone_made}
+use Rattle.dom_mutation.proofs.Cited.{keeps-placing, keeps-removing, own_moves}
 use Rattle.dom_mutation.proofs.Placed.{Counted, before_lacks, removal_keeps}
 
 -- ---- placing
@@ -78,9 +78,9 @@ module _ (parent : ℕ) (before : Option ℕ) (all : List ℕ) (d : DocState) wh
         };
         alone = subst (λ (s : DocState). IsAlone s.world o) (sym at)
             (alone_made o (turn (name_in d k)) e.world places.alone
-            (plans_placing o (name_in d parent) (option_map (name_in d) before) (name_in d k) may.owner));
+            (keeps-placing (own_moves o) (name_in d parent) (option_map (name_in d) before) (name_in d k) may.owner));
         state = ap (planned o (in_turn turn (map (name_in d) rest))) at ∙ planned_turn o turn (name_in d k) (map (name_in d) rest) e places.alone
-            (plans_placing o (name_in d parent) (option_map (name_in d) before) (name_in d k) may.owner) ∙ places.state;
+            (keeps-placing (own_moves o) (name_in d parent) (option_map (name_in d) before) (name_in d k) may.owner) ∙ places.state;
       }
 
   -- nodes that may be placed
@@ -135,9 +135,9 @@ module _ (how : Observing) (top : ℕ) (all : List ℕ) (d : DocState) where
       record {
         names = names ∙ empties.names;
         alone = subst (λ (s : DocState). IsAlone s.world (owner_in d top)) (sym at)
-            (alone_made (owner_in d top) (remove_plan how (name_in d k)) e.world empties.alone (plans_removing (owner_in d top) how (name_in d k)));
+            (alone_made (owner_in d top) (remove_plan how (name_in d k)) e.world empties.alone (keeps-removing (own_moves (owner_in d top)) how (name_in d k)));
         state = ap (planned (owner_in d top) (in_turn (remove_plan how) (map (name_in d) rest))) at ∙ planned_turn (owner_in d top) (remove_plan how)
-            (name_in d k) (map (name_in d) rest) e empties.alone (plans_removing (owner_in d top) how (name_in d k)) ∙ empties.state;
+            (name_in d k) (map (name_in d) rest) e empties.alone (keeps-removing (own_moves (owner_in d top)) how (name_in d k)) ∙ empties.state;
         paths = λ y h.
             let was = empties.paths y h in
             let off = ap (λ (ns : List NodeName). is_in name_eq (name_at ns k) (inclusive_ancestors (trees_in e k) y)) empties.names

@@ -12,11 +12,7 @@ use Rattle.dom_admission.proofs.Refusing.{IsNaming, namings}
 -- the refusal of an adoption is that of the command
 pub adoption-is : (k : Kind) → adoption_refusal k ≡ first_refusal ((is_shadow k, Hierarchy) ∷ (is_document k, NotSupported) ∷ [])
 adoption-is Document = refl
-adoption-is Fragment = refl
-adoption-is Shadow = refl
-adoption-is Element = refl
-adoption-is Text = refl
-adoption-is Comment = refl
+adoption-is k = refl
 
 -- the name of the node that was made last
 pub name-last : {more : List NodeName} {made : NodeName} {key : ℕ} (names : List NodeName) (x : NodeName) → more ≡ names ++ x ∷ [] → key ≡ length names →

@@ -6,7 +6,8 @@ use Rattle.dom_base.specs.contracts.OwnerPartialEq.TheImpl as OwnerImpl
 use Rattle.dom_observers.specs.declared.observers.Observers.TheInside.{Inside}
 use Rattle.dom_observers.specs.declared.table.Table.{Table}
 use Rattle.dom_observers.specs.Definitions.{TablesOf, no_tables, table_of, TablesByOwner, tables_of, all_tables, ChangesTables, KeepsTables}
-use Rattle.dom_observers.proofs.Tables.{none_from, is_some-map}
+use Rattle.dom_laws.proofs.Laws.{is_some-map}
+use Rattle.dom_laws.proofs.Laws.{was_none}
 
 -- a look-up among images, by a test that agrees
 lookup-map : {K X Y : Type 0} (f : X → Y) (p q : K → Bool) → ((k : K) → p k ≡ q k) → (es : List (K × X)) →
@@ -126,7 +127,7 @@ module _ (q : Inside) {all : TablesByOwner} (view : all_tables q ≡ all) where
         subst (λ (old : TablesByOwner). KeepsTables old (all_tables r)) view
         (changes-kept o (all_tables q) (all_tables r)
         (changes-same o (all_tables q) (all_tables r)
-        (new ∙ sym (tables_of-none q o (none_from (get OwnerImpl.ghosts.eq q.tables o) off))) (written q r o t at)))
+        (new ∙ sym (tables_of-none q o (was_none (get OwnerImpl.ghosts.eq q.tables o) off))) (written q r o t at)))
 
 -- an owner that is there has an entry
 pub lookup-get : (q : Inside) (o : Owner) → is_some (lookup (owner_eq o) (all_tables q)) ≡ is_some (get OwnerImpl.ghosts.eq q.tables o)

@@ -108,8 +108,7 @@ chosen-named : (names : List NodeName) (c : Change ℕ) (b : Bool)
     → named_change (name_at names) (cond b c (without_old c)) ≡ cond b (named_change (name_at names) c) (without_old (named_change (name_at names) c))
 chosen-named names c true = refl
 chosen-named names (child_list x added removed before after) false = refl
-chosen-named names (attributes x a old) false = refl
-chosen-named names (character_data x old) false = refl
+chosen-named names c false = refl
 
 -- What a change says to registrations on a path.
 module _ (names : List NodeName) (apart : TellApart names) (path : List ℕ) (rs : List (Registration ℕ)) (c : Change ℕ)
@@ -190,9 +189,8 @@ transient_copy_of same x r = record { node = x; observer = r.observer; options =
 source-named : (names : List NodeName) (s : Source ℕ) (x : ℕ)
     → named_source (name_at names) (cond (is_transient s) copied_from_transient (copied_from x)) ≡ cond
     (is_transient (named_source (name_at names) s)) copied_from_transient (copied_from (name_at names x))
-source-named names asked_for x = refl
 source-named names (copied_from y) x = refl
-source-named names copied_from_transient x = refl
+source-named names s x = refl
 
 copies-named : (names : List NodeName) (x : ℕ) (rs : List (Registration ℕ))
     → map (named_registration (name_at names)) (map (transient_copy_of eqb x) rs) ≡ map (transient_copy_of name_eq (name_at names x))
@@ -258,9 +256,8 @@ notice_under names n = (n.0, map (named_change (name_at names)) n.1)
 
 -- a source is transient or not, whatever its node's name
 transient-named : (names : List NodeName) (s : Source ℕ) → is_transient (named_source (name_at names) s) ≡ is_transient s
-transient-named names asked_for = refl
 transient-named names (copied_from x) = refl
-transient-named names copied_from_transient = refl
+transient-named names s = refl
 
 emptied-named : (names : List NodeName) (queues : List (List (Change ℕ))) (ks : List ℕ)
     → map (map (named_change (name_at names))) (fold (λ list k. set list k []) queues ks) ≡ fold (λ list k. set list k [])

@@ -6,7 +6,7 @@ use Rattle.dom_base.proofs.Std.{length-set, map-append, filter_map-append}
 use Rattle.dom_model.proofs.Model.{ObserveWords, Registration, asked_for, is_transient, is_asked_for, stems_from, with_options, with_registration}
 use Rattle.dom_observers.specs.declared.registered.Registered.{Registered}
 use Rattle.dom_observers.specs.declared.removal.Removal.{Removal}
-use Rattle.dom_observers.specs.declared.removal.Removal.TheVariants.{Of, TransientsOf, CopiesOf}
+use Rattle.dom_observers.specs.declared.removal.Removal.TheVariants.{Of}
 use Rattle.dom_observers.specs.declared.watched.Watched.{Watched}
 use Rattle.dom_observers.specs.Definitions.{registration_of, unless_gone, those_there, there_in, goes, places_at, places_from, is_marked, is_above, AreThinned}
 use Rattle.dom_observers.specs.Definitions.{AreNoted, AreKept}
@@ -118,8 +118,7 @@ any-at p (r ∷ rs) (suc i) e = by (unless_gone r) (any-at p rs i e)
 -- one goes as before
 goes-options : (removal : Removal) (t : Registration ℕ) (o : ObserveWords) → goes removal (record t { options = o }) ≡ goes removal t
 goes-options (Of k) t o = refl
-goes-options (TransientsOf ks) t o = refl
-goes-options (CopiesOf k x) t o = refl
+goes-options removal t o = refl
 
 -- Another one on the same node stands in a place.
 module _ (x : ℕ) (r s : Registered) (node : s.node ≡ r.node) where

@@ -93,8 +93,7 @@ module _ {M : Type 0} (P : M → Type 0) where
   record_speaks : (c : Change M) → IsChangeAt P c → (b : Bool) → IsChangeAt P (if b then c else without_old c)
   record_speaks c h true = h
   record_speaks (child_list x added removed before after) h false = h
-  record_speaks (attributes x a old) h false = h
-  record_speaks (character_data x old) h false = h
+  record_speaks c h false = h
 
   given_all : (add : ℕ → Change M) → ((k : ℕ) → IsChangeAt P (add k)) → (ks : List ℕ) (queues : List (List (Change M))) → AreAll (AreAll (IsChangeAt P)) queues
       → AreAll (AreAll (IsChangeAt P)) (fold (λ qs k. slice_set qs k (queue_at qs k ++ add k ∷ [])) queues ks)

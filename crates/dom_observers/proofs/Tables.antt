@@ -69,16 +69,6 @@ pub unwrapped : {Z : Type 0} (r : Option (Vec Change Z)) (none : Vec Change Z) (
 unwrapped None none queues k e empty = ap (map change_of) empty ∙ ap (λ o. unwrap_or o []) e
 unwrapped (Some v) none queues k e empty = ap (λ o. unwrap_or o []) e
 
--- an option that a map keeps
-pub is_some-map : {A B : Type 0} (f : A → B) (r : Option A) → is_some (option_map f r) ≡ is_some r
-is_some-map f None = refl
-is_some-map f (Some x) = refl
-
--- nothing is there, or something
-pub none_from : {X : Type 0} (o : Option X) → is_some o ≡ false → o ≡ None
-none_from None e = refl
-none_from (Some x) e = absurd (true≢false e)
-
 pub there_from : {X : Type 0} (xs : List X) (k : ℕ) → is_some (slice_get xs k) ≡ true → k < length xs
 there_from [] k e = absurd (true≢false (sym e))
 there_from (x ∷ xs) zero e = omega arith

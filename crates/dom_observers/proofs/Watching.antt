@@ -165,9 +165,8 @@ module _ {w : Watched} {rs : List Registered} (noted : AreNoted w rs) where
       where
         by : (below on : Bool) → cond (below && on) true (is_marked w.above x) ≡ false → (is_marked w.above x ≡ false) × ((on && below) ≡ false)
         by true true h = absurd (false≢true (sym h))
-        by true false h = (h, refl)
         by false true h = (h, refl)
-        by false false h = (h, refl)
+        by below on h = (h, refl)
 
     -- what stands in the place
     is_next : (i : ℕ) (t : Registration ℕ) → i ≡ w.noted → there_in rs i ≡ Some t → t ≡ r

@@ -13,6 +13,7 @@ use Rattle.dom_parts.proofs.AttachedWorlds.{count_none, component_absent}
 use Rattle.dom_parts.proofs.DocInvariant.{are_hosts}
 use Rattle.dom_parts.proofs.HostsOfOwners.{count_hosts, own-host, other-host, owner_in as component_in_owners, few_hosts}
 use Rattle.dom_parts.proofs.Worlds.{In, part_at, there_in}
+use Rattle.dom_laws.proofs.Laws.{was_none}
 
 -- a node is a host by its key where it is one by its name
 hosted_key : (names : List NodeName) → TellApart names → (hosts : List ShadowHost) → HostsAreNodes names hosts → (k : ℕ) → k < length names →
@@ -48,10 +49,6 @@ module _ (names : List NodeName) where
   owner_node earlier [] o made nodes i = absurd i
   owner_node earlier (h ∷ hosts) o made nodes (inl e) = (h.root, nodes.1, ap (λ (x : NodeName). x.owner) made.0.root ∙ e)
   owner_node earlier (h ∷ hosts) o made nodes (inr i) = owner_node (earlier ++ h ∷ []) hosts o made.1 nodes.2 i
-
-none_there : {X : Type 0} (o : Option X) → is_some o ≡ false → o ≡ None
-none_there None e = refl
-none_there (Some x) e = cc
 
 -- the refusal from what is looked up
 abbrev pub refusal_from : Bool → Bool → ℕ → Bool → Option Refusal
@@ -210,7 +207,7 @@ module _ (f : NamedTrees) (was : AllTables) (held : IsDoc f.names f.trees was) (
   unfolding MayAttach
   accepted e =
       let parts = accepted_parts hosted may (count_hosts f.names was.slots.hosts o) room (refusal_is ∙ sym e) in
-      (none_there (root_of_host was.slots.hosts host) parts.0, parts.1)
+      (was_none (root_of_host was.slots.hosts host) parts.0, parts.1)
 
   pub refused_host : hosted ≡ true → Some NotSupported ≡ attaching_refusal (part_of d.world (owner_in d host)) (name_in d host)
   refused_host e = ap (λ b. refusal_from b may (count_hosts f.names was.slots.hosts o) room) (sym e) ∙ refusal_is

@@ -1,43 +1,42 @@
 -- What the proofs of this crate cite of std, of the definitions, and of the crates below.
 pub use Rattle.dom_base.proofs.Std.{[], add-one, add-zero, All, All-filter, All-head, All-nil, All-tail, AllByRecursion, and_parts, ap, append-nil}
-pub use Rattle.dom_base.proofs.Std.{append_assoc, arith, Bool, cases_Bool, cases_lt, cond, cond-false, cond-true, cons_option, count_by, drop, drop-cons}
-pub use Rattle.dom_base.proofs.Std.{eq-or-lt_of_le, eqb, eqb-true, Err, false, false_from_ne_true, filter, filter-append, filter_map, find, flat_map, fold}
-pub use Rattle.dom_base.proofs.Std.{ForSome, get_or, get_or-append, get_or-append_seam, IfErr, IfOk, if◌then◌else◌, inl, inr, is_none, is_some, IsSome, IsTrue}
-pub use Rattle.dom_base.proofs.Std.{last_or, le-ltb, length, length-map, length-set, length_push, List, list_all, list_any, lt-ltb, ltb, ltb-false, ltb-true}
-pub use Rattle.dom_base.proofs.Std.{map, map-append, map-set, nat_eq, nat_le, nat_lt, None, none-some, not, Ok, on_err_weaker, on_ok_weaker, one-add, OnErr}
-pub use Rattle.dom_base.proofs.Std.{OnOk, Option, option_and_then, option_flatten, option_map, option_map_or, option_to_list, position, position_or_len, refl}
-pub use Rattle.dom_base.proofs.Std.{Result, rules, same_Some, slice_get, slice_get-map, slice_get_within, slice_set, Some, subst, suc, sum_by-append}
-pub use Rattle.dom_base.proofs.Std.{sum_by-cons, sym, true, true≢false, unwrap_or, Vec, zero, zero-add, ℕ, ⊤, ◌&&◌, ◌++◌, ◌+◌, ◌-◌, ◌/◌, ◌<◌, ◌==◌, ◌^◌, ◌||◌}
-pub use Rattle.dom_base.proofs.Std.{◌↔◌, ◌∙◌, ◌∷◌, ◌≡◌, ◌≢◌, ◌≤◌, ◌⊎◌}
-pub use Rattle.dom_model.proofs.Model.{a_count, a_node, a_range, a_walker, accepts, adjusted_iterator, adopt_plan, after, after_insert, after_join}
-pub use Rattle.dom_model.proofs.Model.{after_removal, after_replace_data, after_split, an_iterator, an_observer, ancestors, ancestors_at, answer_at, answers}
-pub use Rattle.dom_model.proofs.Model.{append_once, at, attaching, attribute_value, attributes, between, both_at, boundaries, Boundary, boundary_eq, Change}
-pub use Rattle.dom_model.proofs.Model.{change_node, change_subtree, changes_range, changing_document, character_data, child_list, children_of, collapsed_to}
+pub use Rattle.dom_base.proofs.Std.{append_assoc, arith, Bool, cases_Bool, cases_lt, cond, cond-false, cond-true, cons_option, count_by, drop}
+pub use Rattle.dom_base.proofs.Std.{drop-cons, eq-or-lt_of_le, eqb, eqb-true, Err, false, false_from_ne_true, filter, filter-append, filter_map, find}
+pub use Rattle.dom_base.proofs.Std.{flat_map, fold, ForSome, get_or, get_or-append, get_or-append_seam, IfErr, IfOk, if◌then◌else◌, inl, inr, is_none}
+pub use Rattle.dom_base.proofs.Std.{is_some, IsSome, IsTrue, last_or, le-ltb, length, length-map, length-set, length_push, List, list_all, list_any}
+pub use Rattle.dom_base.proofs.Std.{lt-ltb, ltb, ltb-false, ltb-true, map, map-append, map-set, nat_eq, nat_le, nat_lt, None, none-some, not, Ok}
+pub use Rattle.dom_base.proofs.Std.{on_err_weaker, on_ok_weaker, one-add, OnErr, OnOk, Option, option_and_then, option_flatten, option_map}
+pub use Rattle.dom_base.proofs.Std.{option_map_or, option_to_list, position, position_or_len, refl, Result, rules, same_Some, slice_get, slice_get-map}
+pub use Rattle.dom_base.proofs.Std.{slice_get_within, slice_set, Some, subst, suc, sum_by-append, sum_by-cons, sym, true, true≢false, unwrap_or, Vec}
+pub use Rattle.dom_base.proofs.Std.{zero, zero-add, ℕ, ⊤, ◌&&◌, ◌++◌, ◌+◌, ◌-◌, ◌/◌, ◌<◌, ◌^◌, ◌||◌, ◌↔◌, ◌∙◌, ◌∷◌, ◌≡◌, ◌≢◌, ◌≤◌, ◌⊎◌}
+pub use Rattle.dom_model.proofs.Model.{a_count, a_node, a_range, a_walker, accepts, adjusted_iterator, after, after_insert, after_join, after_removal}
+pub use Rattle.dom_model.proofs.Model.{after_replace_data, after_split, an_iterator, an_observer, ancestors, ancestors_at, answer_at, answers}
+pub use Rattle.dom_model.proofs.Model.{append_once, at, attaching, attribute_value, attributes, between, both_at, boundaries, Boundary, boundary_eq}
+pub use Rattle.dom_model.proofs.Model.{Change, change_node, change_subtree, changes_range, character_data, child_list, children_of, collapsed_to}
 pub use Rattle.dom_model.proofs.Model.{Command, component_at, component_made, component_made-no_page, component_made-other, components_below}
-pub use Rattle.dom_model.proofs.Model.{contiguous_texts_after, distinct, Document, document_below, doing, DomString, Effect, effect, empty_part, emptying}
-pub use Rattle.dom_model.proofs.Model.{Fault, Filter, find_part, First, first_of, fits, followed_by, from_to, has_data, has_document, has_node, host_above}
-pub use Rattle.dom_model.proofs.Model.{host_of, hosts_from, in_turn, inclusive_ancestors, inclusive_descendants, index_of, IndexSize, insert_plan}
-pub use Rattle.dom_model.proofs.Model.{inserting_nodes, interested, interested_in, is_connected, is_document, is_empty, is_fragment, is_given, is_in}
-pub use Rattle.dom_model.proofs.Model.{is_inclusive_ancestor, is_notify_of, is_owned_by, is_reject, is_shown, is_skip, is_taken, is_text, is_there, items_after}
-pub use Rattle.dom_model.proofs.Model.{items_before, Iterator, iterator_next_node, iterator_previous_node, join_at, joining, joins, keeps, kind_at, kind_of}
-pub use Rattle.dom_model.proofs.Model.{Last, last_of, leave, length_of, Limit, made_by, made_by-is, made_by-made, make, make_room, making_room, map_ends}
-pub use Rattle.dom_model.proofs.Model.{map_nodes, MAX_COMPONENTS, max_depth, may_attach, may_attach-from, may_attach-word, may_be_host, MayAttach, Memory}
-pub use Rattle.dom_model.proofs.Model.{micro_task, Move, moved_to, moves_iterator, name_before, name_eq, name_eq-other, name_eq-same, name_eq-true, names_of}
-pub use Rattle.dom_model.proofs.Model.{ne-owner_eq, new_iterator, new_root, new_text_node, new_walker, Next, next_sibling, NextSibling, Node, node_in, node_of}
-pub use Rattle.dom_model.proofs.Model.{node_or_null, NodeName, nodes, nodes_ahead, nodes_passed, NodeWord, none, normalizing_text, nothing, notified}
-pub use Rattle.dom_model.proofs.Model.{notify_task, NotSupported, observed, ObserveWords, Observing, or_else, own, Owner, owner-part_of, owner-part_step}
-pub use Rattle.dom_model.proofs.Model.{owner_depth, owner_eq, owner_eq-false, owner_eq-same, owner_eq-true, Page, Parent, parent_of, Part, part_of}
-pub use Rattle.dom_model.proofs.Model.{part_of-own_step, part_step, part_with_root, past_end, past_limit, place, placed, placed_nodes, placing, placing_tail}
-pub use Rattle.dom_model.proofs.Model.{Plan, pre_insert_refusal, Previous, previous_sibling, PreviousSibling, put_before, put_below, put_part, put_root}
-pub use Rattle.dom_model.proofs.Model.{queue_of, queue_record, queued_notify, Range, range_at, record_in, recorded, reference, Refusal, Refused, Registration}
-pub use Rattle.dom_model.proofs.Model.{registrations_none, rejects, remove_plan, removing_from, replace_data, replace_refusal, replaced, replacing_data}
-pub use Rattle.dom_model.proofs.Model.{root_at, root_of, roots, Said, set_attribute, set_document, set_range, sets_walker, Shadow, shadow_root_of}
-pub use Rattle.dom_model.proofs.Model.{sibling_before, sibling_top, siblings, Skip, skips, slots_among, some_if, split_at, splitting, Step, steps_of, subtree}
-pub use Rattle.dom_model.proofs.Model.{suppressed, take_out, taken_out, target_of, Task, telling, times_in, transients_for, tree, Trees, trees_below, TypeFault}
-pub use Rattle.dom_model.proofs.Model.{Unknown, Value, Verdict, verdict_at, Walker, walker_children, walker_move, walker_nodes, walker_parent, walker_siblings}
-pub use Rattle.dom_model.proofs.Model.{walker_step, with_attribute, with_data_replaced, with_document, with_end, with_name, with_node, with_notify_if}
-pub use Rattle.dom_model.proofs.Model.{with_part, with_removal_signals, with_shadow_document, with_signal, with_signals, with_start, without, without_signals}
-pub use Rattle.dom_model.proofs.Model.{Word, word-made, World, world_after, world_step, ◌and_then◌}
+pub use Rattle.dom_model.proofs.Model.{contiguous_texts_after, distinct, Document, DomString, Effect, effect, empty_part, emptying, Fault, Filter}
+pub use Rattle.dom_model.proofs.Model.{find_part, First, first_of, fits, from_to, has_data, has_node, host_above, host_of, hosts_from, in_turn}
+pub use Rattle.dom_model.proofs.Model.{inclusive_ancestors, inclusive_descendants, index_of, IndexSize, interested, interested_in, is_connected}
+pub use Rattle.dom_model.proofs.Model.{is_document, is_empty, is_in, is_inclusive_ancestor, is_notify_of, is_owned_by, is_reject, is_shown, is_skip}
+pub use Rattle.dom_model.proofs.Model.{is_taken, is_text, is_there, items_after, items_before, Iterator, iterator_next_node, iterator_previous_node}
+pub use Rattle.dom_model.proofs.Model.{join_at, joins, keeps, kind_at, kind_of, Last, last_of, leave, length_of, Limit, made_by, made_by-is}
+pub use Rattle.dom_model.proofs.Model.{made_by-made, make, make_room, making_room, map_ends, MAX_COMPONENTS, max_depth, may_attach, may_attach-from}
+pub use Rattle.dom_model.proofs.Model.{may_attach-word, may_be_host, MayAttach, Memory, micro_task, Move, moved_to, moves_iterator, name_eq}
+pub use Rattle.dom_model.proofs.Model.{name_eq-other, name_eq-same, name_eq-true, names_of, ne-owner_eq, new_iterator, new_root, new_walker, Next}
+pub use Rattle.dom_model.proofs.Model.{next_sibling, NextSibling, Node, node_in, node_of, node_or_null, NodeName, nodes, nodes_ahead, nodes_passed}
+pub use Rattle.dom_model.proofs.Model.{NodeWord, none, normalizing_text, nothing, notified, notify_task, NotSupported, ObserveWords, Observing, own}
+pub use Rattle.dom_model.proofs.Model.{Owner, owner-part_of, owner-part_step, owner_depth, owner_eq, owner_eq-false, owner_eq-same, owner_eq-true, Page}
+pub use Rattle.dom_model.proofs.Model.{Parent, parent_of, Part, part_of, part_of-own_step, part_step, part_with_root, past_end, past_limit, place}
+pub use Rattle.dom_model.proofs.Model.{placed, placing, Plan, pre_insert_refusal, Previous, previous_sibling, PreviousSibling, put_part, queue_of}
+pub use Rattle.dom_model.proofs.Model.{queue_record, queued_notify, Range, range_at, record_in, recorded, reference, Refusal, Refused, Registration}
+pub use Rattle.dom_model.proofs.Model.{registrations_none, rejects, remove_plan, replace_data, replace_refusal, replaced, replacing_data, root_at}
+pub use Rattle.dom_model.proofs.Model.{root_of, roots, Said, set_attribute, set_document, set_range, sets_walker, Shadow, shadow_root_of, sibling_top}
+pub use Rattle.dom_model.proofs.Model.{siblings, Skip, skips, slots_among, some_if, split_at, Step, steps_of, subtree, suppressed, take_out, taken_out}
+pub use Rattle.dom_model.proofs.Model.{target_of, Task, times_in, transients_for, tree, Trees, trees_below, TypeFault, Unknown, Value, Verdict}
+pub use Rattle.dom_model.proofs.Model.{verdict_at, Walker, walker_children, walker_move, walker_nodes, walker_parent, walker_siblings, walker_step}
+pub use Rattle.dom_model.proofs.Model.{with_attribute, with_data_replaced, with_document, with_end, with_name, with_node, with_notify_if, with_part}
+pub use Rattle.dom_model.proofs.Model.{with_removal_signals, with_shadow_document, with_signal, with_signals, with_start, without_signals, Word}
+pub use Rattle.dom_model.proofs.Model.{word-made, World, world_after, world_step, ◌and_then◌}
 pub use Rattle.dom_laws.proofs.Laws.{above-itself, above_added, after-in, all_drop, behind_all, Each, each_all, In, is_in-from, keeps_changed}
 pub use Rattle.dom_laws.proofs.Laws.{keeps_changed_below, keeps_placed, KeepsAbove, name_eq-from, Once, path_gone, times_count, was_some}
 pub use Rattle.dom_node_trees.proofs.NamesByKey.{names_grown}

@@ -12,16 +12,13 @@ use Rattle.dom_parts.proofs.Worlds.{part_at, part_off, there_same, changed}
 use Rattle.dom_parts.proofs.OwnNodes.{next_own, previous_own, move_own}
 use Rattle.dom_parts.proofs.DocInvariant.{held_with, single_owners, still_named}
 use Rattle.dom_parts.proofs.RangedKeeping.{ranges_stay}
+use Rattle.dom_laws.proofs.Laws.{is_some-map}
 
 -- an item that is written where it stands
 same_item : {X : Type 0} (xs : List X) (k : ℕ) (x : X) → slice_get xs k ≡ Some x → slice_set xs k x ≡ xs
 same_item [] k x e = refl
 same_item (z ∷ xs) zero x e = ap (λ y. y ∷ xs) (sym (same_Some z x e))
 same_item (z ∷ xs) (suc k) x e = ap (λ ys. z ∷ ys) (same_item xs k x e)
-
-is_some_map : {X Y : Type 0} (f : X → Y) (o : Option X) → is_some (option_map f o) ≡ is_some o
-is_some_map f None = refl
-is_some_map f (Some x) = refl
 
 -- the part of an owner has its tables in names
 module _ (names : List NodeName) (ts : Trees) (tables : AllTables) (held : IsDoc names ts tables) (o : Owner) where
@@ -44,13 +41,13 @@ module _ (names : List NodeName) (ts : Trees) (tables : AllTables) (held : IsDoc
   has_iterator k =
       ap (λ is. is_some (slice_get is k)) iterators_in
       ∙ (ap is_some (slice_get-map (iterator_view names) (tables.each o).iterators k) ∙
-      is_some_map (iterator_view names) (slice_get (tables.each o).iterators k))
+      is_some-map (iterator_view names) (slice_get (tables.each o).iterators k))
 
   pub has_walker : (k : ℕ) → is_some (slice_get (part_of (world_from names ts tables) o).walkers k) ≡ is_some (slice_get (tables.each o).walkers k)
   has_walker k =
       ap (λ ws. is_some (slice_get ws k)) walkers_in
       ∙ (ap is_some (slice_get-map (walker_view names) (tables.each o).walkers k) ∙
-      is_some_map (walker_view names) (slice_get (tables.each o).walkers k))
+      is_some-map (walker_view names) (slice_get (tables.each o).walkers k))
 
   -- and then the owner is there
   there_by : {X : Type 0} (read : KeyedTables → List X) → read no_keyed_tables ≡ [] → (k : ℕ) →

@@ -6,7 +6,8 @@ use Rattle.dom_parts.proofs.Cited.{Node, with_node, with_name, make, part_of, is
 use Rattle.dom_parts.proofs.Cited.{ne-owner_eq, NamedTrees, name_at, next_name, count_of, trees_of_owner, IsOwnChange, TellApart, added, named_ranges}
 use Rattle.dom_parts.proofs.Cited.{RangeList, RangeLists, ranges_of, IsKey, speaks_none, Tables, part_with, tables_view, AllTables, no_slots, first_tables}
 use Rattle.dom_parts.proofs.Cited.{AreFirst, with_live, DocState, named_trees, shown_tables, contents, world_from, state_from, nothing_left, IsDoc, attached_of}
-use Rattle.dom_parts.proofs.Cited.{AreSlotsOf, StandsOnce, HasOneMore, slots-more, names_grown, true≢false}
+use Rattle.dom_parts.proofs.Cited.{AreSlotsOf, StandsOnce, HasOneMore, slots-more, names_grown, none-some, true≢false}
+use Rattle.dom_slots.specs.declared.index.Bearer.TheVariants.{Only}
 use Rattle.dom_model.proofs.Model.{next_name as part_next}
 use Rattle.dom_parts.proofs.HostedSteps.{names_pushed, made_renamed, attached_renamed, plain_step}
 use Rattle.dom_parts.proofs.Worlds.{part_at}
@@ -217,7 +218,8 @@ no_slots_of f = record {
   hosts = tt;
   table = record { nodes = λ k. All-nil (λ j. j < length f.names); lists = λ k within. refl; beyond = λ k far. refl };
   bare = λ r e. absurd (true≢false (sym e));
-  alone = λ r a e. absurd (true≢false (sym e));
+  index = record { covered = λ r k h root within hosted. absurd (none-some h hosted); inside = λ h k only. absurd (none-some (Only k) only) };
+  parked = λ p is. absurd (none-some p is);
 }
 
 -- without nodes, where the page alone is there

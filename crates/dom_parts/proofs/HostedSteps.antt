@@ -1,13 +1,13 @@
 -- Steps in the world of what is held with hosts: where one owner's part changes as the step says, and the slots are
 -- signalled that the hosts tell, the world is the one after the step.
-use Rattle.dom_parts.proofs.Cited.{◌≡◌, ℕ, ◌<◌, ◌≤◌, Bool, true, false, List, [], ◌∷◌, ◌++◌, Option, Some, None, filter, fold, length, refl, sym, ap, subst}
-use Rattle.dom_parts.proofs.Cited.{◌∙◌, inl, inr, arith, option_map, if◌then◌else◌, option_map_or, cases_Bool, length_push, get_or-append, NodeName, Owner}
-use Rattle.dom_parts.proofs.Cited.{Page, MAX_COMPONENTS, Word, DomString, name_eq, owner_eq, append_once, node_of, Trees, parent_of, Change, Part, with_signal}
-use Rattle.dom_parts.proofs.Cited.{Step, make, make_room, place, take_out, set_document, set_attribute, replace_data, split_at, join_at, set_range}
-use Rattle.dom_parts.proofs.Cited.{queue_record, part_step, leave, is_taken, World, MayAttach, is_there, component_made, queued_notify, world_step}
-use Rattle.dom_parts.proofs.Cited.{with_signals, with_removal_signals, with_notify_if, owner_eq-true, owner_eq-false, ShadowHost, HostsAreNodes, signals_at}
-use Rattle.dom_parts.proofs.Cited.{step_signals, Place, Removal, Attribute, signals-shown, name_at, AreOwned, read_own, Contents, Tables, part_in, world_of}
-use Rattle.dom_parts.proofs.Cited.{maker_of, hosts_of, AreMadeBehind, host_names, attached_of, AreHostsOf, shadows_in, signal_in, signals_in}
+use Rattle.dom_parts.proofs.Cited.{◌≡◌, ℕ, ◌<◌, ◌≤◌, Bool, true, false, List, [], ◌∷◌, ◌++◌, Option, Some, None, filter, fold, length, refl, sym, ap}
+use Rattle.dom_parts.proofs.Cited.{subst, ◌∙◌, inl, inr, arith, option_map, if◌then◌else◌, option_map_or, cases_Bool, length_push, get_or-append}
+use Rattle.dom_parts.proofs.Cited.{NodeName, Owner, Page, MAX_COMPONENTS, Word, DomString, name_eq, owner_eq, append_once, node_of, Trees, parent_of}
+use Rattle.dom_parts.proofs.Cited.{Change, Part, with_signal, Step, make, place, take_out, set_document, set_attribute, queue_record, part_step, leave}
+use Rattle.dom_parts.proofs.Cited.{is_taken, World, MayAttach, is_there, component_made, queued_notify, world_step, with_signals, with_removal_signals}
+use Rattle.dom_parts.proofs.Cited.{with_notify_if, owner_eq-true, owner_eq-false, ShadowHost, HostsAreNodes, signals_at, step_signals, Place, Removal}
+use Rattle.dom_parts.proofs.Cited.{Attribute, signals-shown, name_at, AreOwned, read_own, Contents, Tables, part_in, world_of, maker_of, hosts_of}
+use Rattle.dom_parts.proofs.Cited.{AreMadeBehind, host_names, attached_of, AreHostsOf, shadows_in, signal_in, signals_in}
 use Rattle.dom_model.proofs.Model.{stepped}
 use Rattle.dom_parts.proofs.Worlds.{IsChangeOf, part_at, changed, there_same}
 use Rattle.dom_parts.proofs.HostedWorlds.{single_hosted, trees_hosted, world_shown}
@@ -95,21 +95,12 @@ module _ (ns ms : List NodeName) (keeps : KeepsNames ns ms) where
 
 -- a step keeps the hosts of its owner's part
 pub attached_step : (p : Part) (s : Step) → (part_step p s).attached ≡ p.attached
-attached_step p (make n) = refl
-attached_step p (make_room parent index count) = refl
-attached_step p (place x parent before) = refl
 attached_step p (take_out x) = by (parent_of p.trees x)
   where
     by : (o : Option NodeName) → (option_map_or (leave p x) o p).attached ≡ p.attached
     by None = refl
     by (Some parent) = refl
-attached_step p (set_document x d) = refl
-attached_step p (set_attribute x a v) = refl
-attached_step p (replace_data x offset count new) = refl
-attached_step p (split_at x offset new parent index) = refl
-attached_step p (join_at first size next parent index) = refl
-attached_step p (set_range k r) = refl
-attached_step p (queue_record c) = refl
+attached_step p s = refl
 
 -- so what is held has the same hosts after it
 pub hosts_stepped : {a b : Contents} {hosts : List ShadowHost} {o : Owner} (s : Step) → AreHostsOf a hosts → is_there (world_of a) o ≡ true
@@ -158,17 +149,12 @@ module _ (a : Contents) (hosts : List ShadowHost) (held : AreHostsOf a hosts) (o
   plain_step b s plain change = by s plain (stepped_hosted b s change)
     where
       by : (s : Step) → IsPlain s → world_of b ≡ stepped o (world_of a) s → world_of b ≡ world_step o (world_of a) s
-      by (make n) p e = e
-      by (make_room parent index count) p e = e
       by (place x parent before) p e = absurd p
       by (take_out x) p e = absurd p
       by (set_document x d) p e = absurd p
       by (set_attribute x n v) p e = absurd p
-      by (replace_data x offset count new) p e = e
-      by (split_at x offset new parent index) p e = e
-      by (join_at first size next parent index) p e = e
-      by (set_range k r) p e = e
       by (queue_record c) p e = absurd p
+      by s p e = e
 
   -- a record: where an observer takes it the owner's notification is queued
   pub record_hosted : (b : Contents) (c : Change NodeName) → IsChangeOf a b o (part_step (part_in a o) (queue_record c))

@@ -6,7 +6,6 @@ mod AttachedWorlds
 pub mod BoundedPlans
 mod Connected
 mod Cursors
-mod EveryNode
 mod DocInvariant
 mod HeldNodes
 mod HostedDocuments

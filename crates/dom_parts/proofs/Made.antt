@@ -1,17 +1,15 @@
 -- Plans made one after another in a world, by an owner whose own steps do in its part what they do in a part alone.
-use Rattle.dom_parts.proofs.Cited.{◌≡◌, List, [], ◌∷◌, ◌++◌, refl, sym, ap, subst, ◌∙◌, AllByRecursion, Owner, Step, after, part_step, Part, World, part_of}
-use Rattle.dom_parts.proofs.Cited.{world_after, Plan, ◌and_then◌, in_turn, owner-part_of, AreOf, DocState, made, planned, SetsOwnDocuments, IsOwnPart, PlansOwn}
+use Rattle.dom_parts.proofs.Cited.{◌≡◌, List, ◌∷◌, ◌++◌, sym, ap, subst, ◌∙◌, AllByRecursion, Owner, Step, after, Part, World, part_of, world_after}
+use Rattle.dom_parts.proofs.Cited.{Plan, ◌and_then◌, in_turn, owner-part_of, AreOf, DocState, made, planned, SetsOwnDocuments, IsOwnPart, PlansOwn}
 use Rattle.dom_parts.proofs.Cited.{IsAlone}
 use Rattle.dom_parts.proofs.OwnSteps.{after_more, made_then_alone}
-use Rattle.dom_parts.proofs.OwnPlans.{all_own_both, own_after}
+use Rattle.dom_parts.proofs.OwnPlans.{own_moves}
+use Rattle.dom_parts.proofs.Cited.{after-append}
+use Rattle.dom_worlds.proofs.ListLemmas.{all-append}
+use Rattle.dom_worlds.proofs.PlanLemmas.{kept-after}
 
 abbrev state_with : DocState → World → DocState
 state_with d w = record d { world = w }
-
--- steps in a part after others
-pub after_append : (p : Part) (steps more : List Step) → after p (steps ++ more) ≡ after (after p steps) more
-after_append p [] more = refl
-after_append p (s ∷ steps) more = after_append (part_step p s) steps more
 
 module _ (o : Owner) where
   own_part : (w : World) → IsAlone w o → IsOwnPart o (part_of w o)
@@ -22,10 +20,11 @@ module _ (o : Owner) where
   alone_after steps w alone own =
       let is = alone.steps steps own in
       record {
-        own = subst (λ (p : Part). AreOf o p.trees) (sym is) (own_after o (part_of w o) steps (own_part w alone)).own;
+        own = subst (λ (p : Part). AreOf o p.trees) (sym is) (kept-after (own_moves o) (part_of w o) steps (own_part w alone) own).own;
         steps = λ more h.
             ap (λ v. part_of v o) (sym (after_more o w steps more))
-            ∙ (alone.steps (steps ++ more) (all_own_both o steps more own h) ∙ (after_append (part_of w o) steps more ∙ ap (λ p. after p more) (sym is)));
+            ∙ (alone.steps (steps ++ more) (all-append (SetsOwnDocuments o) steps more own h)
+            ∙ (after-append (part_of w o) steps more ∙ ap (λ p. after p more) (sym is)));
       }
 
   -- a plan

@@ -1,13 +1,14 @@
 -- One owner's observers change: what holds of all owners' then, and the world then.
-use Rattle.dom_parts.proofs.Cited.{◌≡◌, ◌≢◌, ℕ, inl, inr, true, false, true≢false, List, Option, Some, None, option_map, map, refl, sym, ap, subst, ◌∙◌}
-use Rattle.dom_parts.proofs.Cited.{is_some, slice_get, if◌then◌else◌, cases_Bool, cond-true, cond-false, slice_get-map, NodeName, Owner, owner_eq, Trees}
-use Rattle.dom_parts.proofs.Cited.{Command, effect, Value, Said, Part, part_of, with_part, is_there, Effect, owner_eq-same, owner_eq-true, ne-owner_eq, name_at}
-use Rattle.dom_parts.proofs.Cited.{count_of, trees_of_owner, iterator_view, walker_view, TablesOf, named_tables, named_change, IsKey, SpeaksOf, named_ranges}
-use Rattle.dom_parts.proofs.Cited.{ranges_of, part_with, tables_with, AllTables, with_observers, shown_tables, contents, world_from, IsDoc, MakesSaying}
-use Rattle.dom_parts.proofs.Cited.{attached_of}
+use Rattle.dom_parts.proofs.Cited.{◌≡◌, ◌≢◌, ℕ, inl, inr, true, false, true≢false, List, map, refl, sym, ap, subst, ◌∙◌, is_some, slice_get}
+use Rattle.dom_parts.proofs.Cited.{if◌then◌else◌, cases_Bool, cond-true, cond-false, slice_get-map, NodeName, Owner, owner_eq, Trees, Command, effect}
+use Rattle.dom_parts.proofs.Cited.{Value, Said, Part, part_of, with_part, is_there, Effect, owner_eq-same, owner_eq-true, ne-owner_eq, name_at}
+use Rattle.dom_parts.proofs.Cited.{count_of, trees_of_owner, iterator_view, walker_view, TablesOf, named_tables, named_change, IsKey, SpeaksOf}
+use Rattle.dom_parts.proofs.Cited.{named_ranges, ranges_of, part_with, tables_with, AllTables, with_observers, shown_tables, contents, world_from}
+use Rattle.dom_parts.proofs.Cited.{IsDoc, MakesSaying, attached_of}
 use Rattle.dom_observers.specs.Definitions.{no_tables as no_observers}
 use Rattle.dom_parts.proofs.Worlds.{IsChangeOf, there_same, part_at, part_off, changed}
 use Rattle.dom_parts.proofs.DocInvariant.{held_observers, single_owners}
+use Rattle.dom_laws.proofs.Laws.{is_some-map}
 
 module _ (names : List NodeName) (ts : Trees) (tables : AllTables) (held : IsDoc names ts tables) (o : Owner) where
   -- the owner's part with these
@@ -24,16 +25,12 @@ module _ (names : List NodeName) (ts : Trees) (tables : AllTables) (held : IsDoc
         ap (λ r. (named_tables (name_at names) r).record_queues) (sym (held.unobserved o off))
   ]
 
-  some_of : {X Y : Type 0} (g : X → Y) (m : Option X) → is_some (option_map g m) ≡ is_some m
-  some_of g None = refl
-  some_of g (Some x) = refl
-
   pub has_observer : (k : ℕ) → is_some (slice_get (part_of (world_from names ts tables) o).record_queues k) ≡ is_some
       (slice_get (tables.observers o).record_queues k)
   has_observer k =
       ap (λ qs. is_some (slice_get qs k)) queues_in
       ∙ ap is_some (slice_get-map (map (named_change (name_at names))) (tables.observers o).record_queues k)
-      ∙ some_of (map (named_change (name_at names))) (slice_get (tables.observers o).record_queues k)
+      ∙ is_some-map (map (named_change (name_at names))) (slice_get (tables.observers o).record_queues k)
 
   -- whoever has an observer is there
   pub there_observer : (k : ℕ) → is_some (slice_get (tables.observers o).record_queues k) ≡ true → is_there (world_from names ts tables) o ≡ true

@@ -1,12 +1,9 @@
 -- An owner's steps do in its own part what they do in a part alone, where they set the node documents of its own nodes.
-use Rattle.dom_parts.proofs.Cited.{◌≡◌, Bool, true, false, List, [], ◌∷◌, ◌++◌, Option, Some, None, refl, sym, ap, ◌∙◌, if◌then◌else◌, AllByRecursion}
-use Rattle.dom_parts.proofs.Cited.{option_map_or, NodeName, Owner, name_eq, is_in, Trees, none, tree, Node, subtree, parent_of, inclusive_descendants}
-use Rattle.dom_parts.proofs.Cited.{with_name, with_node, placed, taken_out, map_nodes, with_document, with_attribute, with_data_replaced, Plan, ◌and_then◌}
-use Rattle.dom_parts.proofs.Cited.{Part, Step, make, make_room, place, take_out, set_document, set_attribute, replace_data, split_at, join_at, set_range}
-use Rattle.dom_parts.proofs.Cited.{queue_record, part_step, after, leave, World, part_of, world_step, world_after, owner-part_of, part_of-own_step, Ground}
-use Rattle.dom_parts.proofs.Cited.{ground-world_step, part-own_step, AreOf, made, SetsOwnDocuments}
-use Rattle.dom_model.proofs.Model.{next_name}
-use Rattle.dom_parts.proofs.EveryNode.{EachNode, each_subtree, each_placed, each_taken, each_put_root, each_mapped}
+use Rattle.dom_parts.proofs.Cited.{◌≡◌, List, [], ◌∷◌, ◌++◌, refl, sym, ap, ◌∙◌, AllByRecursion, NodeName, Owner, Trees, none, tree, Node, subtree}
+use Rattle.dom_parts.proofs.Cited.{Plan, ◌and_then◌, Part, Step, make, set_document, part_step, after, World, part_of, world_step, world_after}
+use Rattle.dom_parts.proofs.Cited.{owner-part_of, part_of-own_step, Ground, ground-world_step, part-own_step, AreOf, made, SetsOwnDocuments}
+use Rattle.dom_worlds.proofs.TreeLemmas.{NewHas, nodes-step, nodes-subtree}
+use Rattle.dom_worlds.specs.Definitions.{AllNodes}
 
 -- ---- a step keeps nodes an owner's
 
@@ -15,53 +12,24 @@ module _ (o : Owner) where
   abbrev IsOwn : Node → Type 0
   IsOwn n = n.name.owner ≡ o
 
-  own_each : (ts : Trees) → AreOf o ts → EachNode IsOwn ts
+  pub own_each : (ts : Trees) → AreOf o ts → AllNodes IsOwn ts
   own_each none h = tt
   own_each (tree n c r) h = (h.0, own_each c h.1, own_each r h.2)
 
-  each_own : (ts : Trees) → EachNode IsOwn ts → AreOf o ts
+  each_own : (ts : Trees) → AllNodes IsOwn ts → AreOf o ts
   each_own none h = tt
   each_own (tree n c r) h = (h.0, each_own c h.1, each_own r h.2)
 
   pub own_subtree : (ts : Trees) (x : NodeName) → AreOf o ts → AreOf o (subtree ts x)
-  own_subtree ts x h = each_own (subtree ts x) (each_subtree IsOwn ts x (own_each ts h))
-
-  own_mapped : (f : Node → Node) → ((n : Node) → (f n).name ≡ n.name) → (ts : Trees) → AreOf o ts → AreOf o (map_nodes f ts)
-  own_mapped f keeps ts h = each_own (map_nodes f ts) (each_mapped IsOwn f (λ n is. ap (λ (x : NodeName). x.owner) (keeps n) ∙ is) ts (own_each ts h))
-
-  -- a change of some nodes keeps their names
-  name_if : (b : Bool) (m n : Node) → m.name ≡ n.name → (if b then m else n).name ≡ n.name
-  name_if true m n e = e
-  name_if false m n e = refl
+  own_subtree ts x h = each_own (subtree ts x) (nodes-subtree IsOwn ts x (own_each ts h))
 
   pub own_step : (p : Part) (s : Step) → p.owner ≡ o → AreOf o p.trees → AreOf o (part_step p s).trees
-  own_step p (make n) is own =
-      let new = with_name (next_name p) n in
-      each_own (with_node new p.trees) (each_put_root IsOwn (next_name p) (tree new none none) p.trees (is, tt, tt) (own_each p.trees own))
-  own_step p (make_room parent index count) is own = own
-  own_step p (place x parent before) is own = each_own (placed x parent before p.trees) (each_placed IsOwn x parent before p.trees (own_each p.trees own))
-  own_step p (take_out x) is own = by (parent_of p.trees x)
+  own_step p s is own = each_own (part_step p s).trees
+      (nodes-step IsOwn (λ n m e k i. ap (λ (x : NodeName). x.owner) e ∙ i) p s (own_each p.trees own) (new s))
     where
-      by : (m : Option NodeName) → AreOf o (option_map_or (leave p x) m p).trees
-      by None = own
-      by (Some parent) = each_own (taken_out x p.trees) (each_taken IsOwn x p.trees (own_each p.trees own))
-  own_step p (set_document x d) is own =
-      own_mapped (λ n. if is_in name_eq n.name (inclusive_descendants p.trees x) then with_document d n else n)
-      (λ n. name_if (is_in name_eq n.name (inclusive_descendants p.trees x)) (with_document d n) n refl) p.trees own
-  own_step p (set_attribute x a v) is own =
-      own_mapped (λ n. if name_eq n.name x then with_attribute a v n else n) (λ n. name_if (name_eq n.name x) (with_attribute a v n) n (by v n))
-      p.trees own
-    where
-      by : (v : Option (List Rattle.std.specs.Prelude.ℕ)) (n : Node) → (with_attribute a v n).name ≡ n.name
-      by None n = refl
-      by (Some value) n = refl
-  own_step p (replace_data x offset count new) is own =
-      own_mapped (λ n. if name_eq n.name x then with_data_replaced offset count new n else n)
-      (λ n. name_if (name_eq n.name x) (with_data_replaced offset count new n) n refl) p.trees own
-  own_step p (split_at x offset new parent index) is own = own
-  own_step p (join_at first size next parent index) is own = own
-  own_step p (set_range k r) is own = own
-  own_step p (queue_record c) is own = own
+      new : (s : Step) → NewHas IsOwn p s
+      new (make n) = is
+      new s = tt
 
 -- ---- the steps
 

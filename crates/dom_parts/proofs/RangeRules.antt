@@ -1,12 +1,9 @@
 -- Each rule for boundary points rewrites those of the owner of the changed nodes alone.
-use Rattle.dom_parts.proofs.Cited.{◌≡◌, ◌≢◌, ℕ, ◌+◌, ◌-◌, Bool, true, false, not, cond, ◌&&◌, ◌||◌, eqb, nat_lt, nat_le, sym, ap, ◌∙◌, NodeName, Owner, name_eq}
-use Rattle.dom_parts.proofs.Cited.{Trees, is_inclusive_ancestor, Boundary, at, boundary_eq, after_insert, after_removal, after_replace_data, after_split}
-use Rattle.dom_parts.proofs.Cited.{after_join, name_eq-other, AreOwned, IsRuleOf}
+use Rattle.dom_parts.proofs.Cited.{◌≡◌, ◌≢◌, ℕ, ◌+◌, ◌-◌, Bool, true, false, not, cond, ◌&&◌, ◌||◌, eqb, nat_lt, nat_le, sym, ap, ◌∙◌, NodeName, Owner}
+use Rattle.dom_parts.proofs.Cited.{name_eq, Trees, is_inclusive_ancestor, Boundary, at, boundary_eq, after_insert, after_removal, after_replace_data}
+use Rattle.dom_parts.proofs.Cited.{after_split, after_join, AreOwned, IsRuleOf}
 use Rattle.dom_parts.proofs.Keeping.{apart_above}
-
--- nodes of different owners are different
-other_name : (x y : NodeName) → x.owner ≢ y.owner → name_eq x y ≡ false
-other_name x y other = name_eq-other x y (λ e. other (ap (λ (z : NodeName). z.owner) e))
+use Rattle.dom_worlds.proofs.ShadowTreeLemmas.{other-owner}
 
 -- one of two points of an owner
 either_own : (o : Owner) (t : Bool) (b c : Boundary NodeName) → b.node.owner ≡ o → c.node.owner ≡ o → (cond t b c).node.owner ≡ o
@@ -16,7 +13,7 @@ either_own o false b c h g = g
 module _ (o : Owner) where
   -- a point of another owner is not at a node of this one
   apart : (x : NodeName) → x.owner ≡ o → (b : Boundary NodeName) → b.node.owner ≢ o → name_eq b.node x ≡ false
-  apart x own b other = other_name b.node x (λ e. other (e ∙ own))
+  apart x own b other = other-owner b.node x (λ e. other (e ∙ own))
 
   pub removal_rule : {ts : Trees} → AreOwned ts → (x parent : NodeName) (index : ℕ) → x.owner ≡ o → parent.owner ≡ o →
       IsRuleOf o (after_removal name_eq (is_inclusive_ancestor ts x) parent index)

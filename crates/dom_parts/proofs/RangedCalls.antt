@@ -117,9 +117,8 @@ module _ (c : Contents) (t : RangeLists) (ranges : AreRangesOf c t) (o : Owner) 
     where
       flat : (m : Option (Option (Range ℕ))) →
           option_flatten (option_map (option_map (named_range c.names)) m) ≡ option_map (named_range c.names) (option_flatten m)
-      flat None = refl
       flat (Some None) = refl
-      flat (Some (Some r)) = refl
+      flat m = refl
 
   -- and its ends
   pub points_effect : (k : ℕ) (r : Range ℕ) → range_in (ranges_of t o) k ≡ Some r

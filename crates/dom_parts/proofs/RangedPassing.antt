@@ -1,19 +1,20 @@
 -- Calls that pass a command on to the table of live ranges: what they ask, what holds after them, and that they do what the
 -- model says of the command.
-use Rattle.dom_parts.proofs.Cited.{◌≡◌, ℕ, ◌<◌, ◌≤◌, ◌^◌, ◌⊎◌, inl, inr, Bool, true, false, true≢false, cond, List, [], ◌∷◌, ◌++◌, length, Option, Some, None}
-use Rattle.dom_parts.proofs.Cited.{Result, Ok, Err, is_some, refl, sym, ap, subst, ◌∙◌, ⊤, not, ◌&&◌, if◌then◌else◌, IsSome, IfOk, IfErr, OnOk, OnErr, ◌↔◌}
-use Rattle.dom_parts.proofs.Cited.{option_map, slice_set, cases_Bool, false_from_ne_true, on_ok_weaker, Fault, Refused, Refusal, Limit, Unknown, IndexSize}
-use Rattle.dom_parts.proofs.Cited.{NodeName, Owner, Command, NodeWord, effect, past_limit, past_end, Effect, node_of, owner_eq, owner_eq-true, Value, nothing}
-use Rattle.dom_parts.proofs.Cited.{a_range, boundaries, Part, range_at, Range, at, from_to, length_of, part_of, is_there, named_boundary, named_range}
-use Rattle.dom_parts.proofs.Cited.{named_ranges, start_set, end_set, have_one_root, is_key_before, RangeList, RangeLists, EachRange, BothEnds, ranges_of}
-use Rattle.dom_parts.proofs.Cited.{range_in, range_from, with_ranges, collapsed_range, Points, stand-at, StandOnce, StandAlone, NamedTrees, name_at, Contents}
-use Rattle.dom_parts.proofs.Cited.{part_in, world_of, AreEndsOf, SetsEnd, DocState, contents, world_from, state_from, IsDoc, Makes, name_in, owner_in}
-use Rattle.dom_parts.proofs.Cited.{AllTables, with_live, IsOwnPoint, AreRangesOf, ranged}
+use Rattle.dom_parts.proofs.Cited.{◌≡◌, ℕ, ◌<◌, ◌≤◌, ◌^◌, ◌⊎◌, inl, inr, Bool, true, false, true≢false, cond, List, [], ◌∷◌, ◌++◌, length, Some, None}
+use Rattle.dom_parts.proofs.Cited.{Result, Ok, Err, is_some, refl, sym, ap, subst, ◌∙◌, ⊤, not, ◌&&◌, if◌then◌else◌, IsSome, IfOk, IfErr, OnOk, OnErr}
+use Rattle.dom_parts.proofs.Cited.{◌↔◌, option_map, slice_set, cases_Bool, false_from_ne_true, on_ok_weaker, Fault, Refused, Refusal, Limit, Unknown}
+use Rattle.dom_parts.proofs.Cited.{IndexSize, NodeName, Owner, Command, NodeWord, effect, past_limit, past_end, Effect, node_of, owner_eq}
+use Rattle.dom_parts.proofs.Cited.{owner_eq-true, Value, nothing, a_range, boundaries, Part, range_at, Range, at, from_to, length_of, part_of, is_there}
+use Rattle.dom_parts.proofs.Cited.{named_boundary, named_range, named_ranges, start_set, end_set, have_one_root, is_key_before, RangeList, RangeLists}
+use Rattle.dom_parts.proofs.Cited.{EachRange, BothEnds, ranges_of, range_in, range_from, with_ranges, collapsed_range, Points, stand-at, StandOnce}
+use Rattle.dom_parts.proofs.Cited.{StandAlone, NamedTrees, name_at, Contents, part_in, world_of, AreEndsOf, SetsEnd, DocState, contents, world_from}
+use Rattle.dom_parts.proofs.Cited.{state_from, IsDoc, Makes, name_in, owner_in, AllTables, with_live, IsOwnPoint, AreRangesOf, ranged}
 use Rattle.dom_parts.proofs.DocInvariant.{single_owners, held_live}
 use Rattle.dom_parts.proofs.RangedCalls.{set_makes, set_ranges, make_effect, drop_effect, collapse_effect, points_effect, start_effect, end_effect}
 use Rattle.dom_parts.proofs.RangedCalls.{range_read, made_own, made_few, dropped_own, rewritten_own, written_few}
 use Rattle.dom_parts.proofs.RangedRefusals.{limit_read, end_read}
 use Rattle.dom_parts.proofs.Worlds.{part_at, part_off, there_same}
+use Rattle.dom_laws.proofs.Laws.{is_some-map}
 
 -- the same ranges in another list of lists
 ranges_equal : (c : Contents) (t u : RangeLists) → ((q : Owner) → ranges_of u q ≡ ranges_of t q) → AreRangesOf c t → AreRangesOf (ranged u c) u
@@ -30,10 +31,6 @@ pub record EndIsSet (f : NamedTrees) (tables : AllTables) (d : DocState) (o : Ow
   pub held : IsDoc f.names f.trees (with_live tables u)
   pub says : SetsEnd o command node offset r d (state_from f.names f.trees (with_live tables u))
 
-pub some_of : {X Y : Type 0} (g : X → Y) (m : Option X) → is_some (option_map g m) ≡ is_some m
-some_of g None = refl
-some_of g (Some x) = refl
-
 module _ (f : NamedTrees) {tables : AllTables} (held : IsDoc f.names f.trees tables) {d : DocState}
     (is_d : state_from f.names f.trees tables ≡ d) (o : Owner) where
   abbrev c : Contents
@@ -48,7 +45,7 @@ module _ (f : NamedTrees) {tables : AllTables} (held : IsDoc f.names f.trees tab
       subst (λ (e : DocState). is_some (range_in own k) ≡ is_some (range_at (part_of e.world o) k)) is_d
       (elim (cases_Bool (is_there (world_from f.names f.trees tables) o)) [
         | inl there ↦ sym (ap (λ p. is_some (range_at p k)) (part_at c o there) ∙
-            (ap is_some (range_read c tables.ranges held.ranges o k) ∙ some_of (named_range f.names) (range_in own k)))
+            (ap is_some (range_read c tables.ranges held.ranges o k) ∙ is_some-map (named_range f.names) (range_in own k)))
         | inr off ↦ ap (λ rs. is_some (range_in rs k)) (held.ranges.absent o off) ∙ ap (λ p. is_some (range_at p k)) (sym (part_off c o off))
       ])
 

@@ -15,9 +15,8 @@ use Rattle.dom_parts.proofs.Observed.{with_seen, held_seen, change_seen}
 
 -- the target of a change in names
 target_named : (g : ℕ → NodeName) (c : Change ℕ) → target_of (named_change g c) ≡ g (target_of c)
-target_named g (child_list x added removed before after) = refl
 target_named g (attributes x a old) = refl
-target_named g (character_data x old) = refl
+target_named g c = refl
 
 -- a change's target is one of its nodes
 target_at : (P : ℕ → Type 0) (c : Change ℕ) → IsChangeAt P c → P (target_of c)

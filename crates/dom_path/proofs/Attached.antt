@@ -1,9 +1,9 @@
 -- Hosts that belong to less deep owners than their shadow roots: their shadow trees lie in one another as a path asks.
-use Rattle.dom_path.proofs.Cited.{◌≡◌, ℕ, zero, suc, ◌≤◌, ◌<◌, true, false, List, [], ◌∷◌, find, Option, Some, None, refl, sym, ap, ◌∙◌, arith, true≢false}
-use Rattle.dom_path.proofs.Cited.{IsTrue, is_some, option_map, AllByRecursion, cond-true, cond-false, NodeName, name_eq, owner_depth, parent_of, root_of}
-use Rattle.dom_path.proofs.Cited.{name_eq-same, name_eq-true, by_cases, NamedTrees, name_at, stays_own, ShadowHost, host_named, root_named, ShadowTrees}
-use Rattle.dom_path.proofs.Cited.{shadows, IsHosted, IsAttached, AreApart, AreAttached, host_above_at, EndsWithin}
-use Rattle.dom_path.proofs.Places.{ends-outside}
+use Rattle.dom_path.proofs.Cited.{◌≡◌, ℕ, suc, ◌≤◌, ◌<◌, true, false, List, [], ◌∷◌, find, Option, Some, None, refl, sym, ap, ◌∙◌, arith, true≢false}
+use Rattle.dom_path.proofs.Cited.{IsTrue, is_some, option_map, AllByRecursion, cond-true, cond-false, NodeName, name_eq, owner_depth, parent_of}
+use Rattle.dom_path.proofs.Cited.{root_of, name_eq-same, name_eq-true, by_cases, NamedTrees, name_at, stays_own, ShadowHost, host_named, root_named}
+use Rattle.dom_path.proofs.Cited.{ShadowTrees, shadows, IsHosted, IsAttached, AreApart, AreAttached, host_above_at}
+use Rattle.dom_path.proofs.Places.{ends-all}
 
 -- A host that is found by its root is one of the hosts.
 record IsFound (names : List NodeName) (P : ShadowHost → Type 0) (root host : NodeName) : Type 0 where
@@ -68,21 +68,6 @@ module _ (f : NamedTrees) (hosts : List ShadowHost) (depth : ℕ) (are : AreAtta
       let within = k.such.within in
       (omega (arith, own, its, less), omega (arith, own, within))
 
-  ends : (d : ℕ) (x : NodeName) → owner_depth x.owner ≤ d → EndsWithin s d x
-  ends zero x h = by (host_above_at s x) refl
-    where
-      by : (o : Option NodeName) → host_above_at s x ≡ o → host_above_at s x ≡ None
-      by None e = e
-      by (Some host) e = let less = (deeper x host e).0 in absurd (omega (arith, less, h))
-  ends (suc d) x h = λ host e. let less = (deeper x host e).0 in ends d host (omega (arith, less, h))
-
-  nested : (x : NodeName) → EndsWithin s depth x
-  nested x = by (host_above_at s x) refl
-    where
-      by : (o : Option NodeName) → host_above_at s x ≡ o → EndsWithin s depth x
-      by None e = ends-outside s depth x e
-      by (Some host) e = ends depth x (deeper x host e).1
-
   roots : (root : NodeName) → IsTrue (is_some (host_named f.names hosts root)) → parent_of f.trees root ≡ None
   roots root h = by (host_named f.names hosts root) refl h
     where
@@ -91,4 +76,8 @@ module _ (f : NamedTrees) (hosts : List ShadowHost) (depth : ℕ) (are : AreAtta
       by (Some host) e k = let at = found f.names (IsAttached f depth) root hosts are.each e in ap (parent_of f.trees) at.root_is ∙ at.such.alone
 
   pub attached-hosted : IsHosted f hosts depth
-  attached-hosted = record { nested = nested; theirs = λ host root e. theirs-apart f.names host root hosts are.apart e; roots = roots }
+  attached-hosted = record {
+    nested = ends-all s (λ x host e. (deeper x host e).0) depth (λ x host e. (deeper x host e).1);
+    theirs = λ host root e. theirs-apart f.names host root hosts are.apart e;
+    roots = roots;
+  }

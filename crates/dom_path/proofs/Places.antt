@@ -1,10 +1,10 @@
 -- The trees on an event's way by keys, and what is seen from them, are those by names.
 use Rattle.dom_path.proofs.Cited.{◌≡◌, ℕ, zero, suc, ◌<◌, Bool, true, false, not, ◌&&◌, ◌||◌, List, [], ◌∷◌, length, map, find, flat_map, Option, Some, None}
-use Rattle.dom_path.proofs.Cited.{refl, sym, ap, subst, ◌∙◌, arith, append-nil, nat_eq, option_map, option_to_list, unwrap_or, slice_get, is_some}
+use Rattle.dom_path.proofs.Cited.{refl, sym, ap, subst, ◌∙◌, arith, append-nil, nat_eq, option_map, option_to_list, unwrap_or, slice_get, is_some, ◌≤◌}
 use Rattle.dom_path.proofs.Cited.{if◌then◌else◌, AllByRecursion, option_map_or, cond-true, cond-false, NodeName, name_eq, is_in, root_of, NamedTrees, name_at}
 use Rattle.dom_path.proofs.Cited.{TellApart, ShadowHost, host_named, ShadowTrees, shadows, key-test, is_some-named, Tree, IsHosted, AreNested, roots_up}
 use Rattle.dom_path.proofs.Cited.{roots_around, hiding_host, outer_of, seen_up, seen_from, IsTreeOf, AreTrees, EndsWithin, chain_at, host_above_at}
-use Rattle.dom_path.proofs.Cited.{is_hidden_at, seen_at}
+use Rattle.dom_path.proofs.Cited.{is_hidden_at, seen_at, owner_depth}
 use Rattle.dom_path.proofs.Nesting.{hides, hiding-is, outer-is, outer-below}
 
 -- ---- the chain of hosts of a node
@@ -30,6 +30,23 @@ module _ (s : ShadowTrees) where
   ends-outside zero x e = e
   ends-outside (suc depth) x e = λ h g. let both : None ≡ Some h = sym e ∙ g in cc
 
+  -- where each host stands in fewer of them than its node, all ways up end
+  module _ (deeper : (x host : NodeName) → host_above_at s x ≡ Some host → owner_depth host.owner < owner_depth x.owner) where
+    ends-from : (depth : ℕ) (x : NodeName) → owner_depth x.owner ≤ depth → EndsWithin s depth x
+    ends-from zero x h = by (host_above_at s x) refl
+      where
+        by : (o : Option NodeName) → host_above_at s x ≡ o → host_above_at s x ≡ None
+        by None e = e
+        by (Some host) e = let less = deeper x host e in absurd (omega (arith, less, h))
+    ends-from (suc depth) x h = λ host e. let less = deeper x host e in ends-from depth host (omega (arith, less, h))
+
+    pub ends-all : (depth : ℕ) → ((x host : NodeName) → host_above_at s x ≡ Some host → owner_depth x.owner ≤ depth) → (x : NodeName) → EndsWithin s depth x
+    ends-all depth within x = by (host_above_at s x) refl
+      where
+        by : (o : Option NodeName) → host_above_at s x ≡ o → EndsWithin s depth x
+        by None e = ends-outside depth x e
+        by (Some host) e = ends-from depth x (within x host e)
+
 -- the test of a key among others is that of its name
 in-named : (names : List NodeName) → TellApart names → (k : ℕ) (ks : List ℕ) → k < length names → AllByRecursion (λ j. j < length names) ks
     → is_in nat_eq k ks ≡ is_in name_eq (name_at names k) (map (name_at names) ks)
@@ -39,15 +56,13 @@ in-named names distinct k (j ∷ ks) h g = λ i. key-test names distinct k j h g
 -- a host, unless the tree is around the viewer
 pick : (o : Option NodeName) (b : Bool) → (if b then None else o) ≡ (if is_some o && not b then o else None)
 pick None true = refl
-pick None false = refl
 pick (Some x) true = refl
-pick (Some x) false = refl
+pick o b = refl
 
 picked : (o : Option NodeName) (b : Bool) → is_some (if b then None else o) ≡ (is_some o && not b)
 picked None true = refl
-picked None false = refl
 picked (Some x) true = refl
-picked (Some x) false = refl
+picked o b = refl
 
 pick-named : (names : List NodeName) (o : Option ℕ) (b : Bool) →
     option_map (name_at names) (if b then None else o) ≡ (if b then None else option_map (name_at names) o)

@@ -1,9 +1,9 @@
 -- The items of a path by keys, and what the event shows at each, are by names the path of the event in the trees with hosts.
-use Rattle.dom_path.proofs.Cited.{◌≡◌, ℕ, ◌<◌, length, Bool, true, false, not, List, [], ◌∷◌, map, filter, Option, Some, None, option_map, refl, sym, ap, ◌∙◌}
-use Rattle.dom_path.proofs.Cited.{nat_eq, if◌then◌else◌, AllByRecursion, option_map_or, cond-true, cond-false, NodeName, name_eq, by_cases, NamedTrees, name_at}
-use Rattle.dom_path.proofs.Cited.{TellApart, ShadowHost, ShadowTrees, shadows, is_assigned_at, key-test, Item, Tree, IsItemOf, IsBuilt, GoesOn, IsHosted}
-use Rattle.dom_path.proofs.Cited.{HasNodes, ShowsNodes, item_named, view_named, AreInTrees, item_at, items_at, view_of, GoesUp, IsPath, IsPathShown, AreTrees}
-use Rattle.dom_path.proofs.Cited.{key_if, is_hidden_item, shown_nodes, view_in, is_hidden_at}
+use Rattle.dom_path.proofs.Cited.{◌≡◌, ℕ, ◌<◌, length, Bool, true, false, not, List, [], ◌∷◌, map, filter, Option, Some, None, option_map, refl, sym}
+use Rattle.dom_path.proofs.Cited.{ap, ◌∙◌, nat_eq, if◌then◌else◌, AllByRecursion, option_map_or, cond-true, cond-false, NodeName, name_eq, by_cases}
+use Rattle.dom_path.proofs.Cited.{NamedTrees, name_at, TellApart, ShadowHost, ShadowTrees, shadows, is_assigned_at, key-test, Item, Tree, IsItemOf}
+use Rattle.dom_path.proofs.Cited.{IsBuilt, GoesOn, IsHosted, HasNodes, ShowsNodes, item_named, view_named, item_at, items_at, view_of, GoesUp, IsPath}
+use Rattle.dom_path.proofs.Cited.{IsPathShown, AreTrees, key_if, is_hidden_item, shown_nodes, view_in, is_hidden_at}
 use Rattle.dom_path.proofs.Places.{hidden-named}
 
 -- a key that is there or not, by its name
@@ -120,11 +120,6 @@ module _ (f : NamedTrees) (hosts : List ShadowHost) (t : NodeName) (r : Option N
   pub nodes-within : (items : List Item) → AllByRecursion (IsItemOf f hosts t r trees) items → AllByRecursion (HasNodes f.names) items
   nodes-within [] h = tt
   nodes-within (i ∷ items) h = (record { node = h.0.node; event_target = h.0.target_node; related = h.0.related_node }, nodes-within items h.1)
-
-  -- their trees are there
-  pub trees-within : (items : List Item) → AllByRecursion (IsItemOf f hosts t r trees) items → AreInTrees trees items
-  trees-within [] h = tt
-  trees-within (i ∷ items) h = (h.0.within, trees-within items h.1)
 
   -- and so are the nodes of what is shown
   path-within : (items : List Item) → AllByRecursion (IsItemOf f hosts t r trees) items → (viewer : ℕ) →

@@ -1,15 +1,16 @@
 -- What is read of trees with hosts is what is read of a world that has just these: roots, chains of hosts, event parents, and what is
 -- hidden. So the trees with hosts of such a world are as a path asks.
-use Rattle.dom_path.proofs.Cited.{◌≡◌, inl, inr, ℕ, zero, suc, ◌≤◌, Bool, true, false, ◌&&◌, ◌||◌, not, List, ◌∷◌, map, find, Option, Some, None, unwrap_or}
-use Rattle.dom_path.proofs.Cited.{refl, sym, ap, ◌∙◌, arith, if◌then◌else◌, is_some, option_map, option_to_list, IsTrue, option_and_then, option_or, cases_Bool}
-use Rattle.dom_path.proofs.Cited.{both_ways, NodeName, Owner, name_eq, is_in, owner_depth, max_depth, is_node, is_hidden_from, retarget, retarget_related}
-use Rattle.dom_path.proofs.Cited.{event_parent, slot_of, is_assigned_to, Trees, Node, is_shadow, has_node, node_in, parent_of, root_of, World, component_at}
-use Rattle.dom_path.proofs.Cited.{shadow_root_of, some_if, host_above, host_chain, kind_at, node_at, parent_at, root_at, depth-maker, name_eq-true, IsNodeAt}
-use Rattle.dom_path.proofs.Cited.{above-host, below-host, hosts-alone, chain-below, hidden-by_chain, shadow-name, hosted, hosted-maker, hosted-owned, hosted-is}
-use Rattle.dom_path.proofs.Cited.{component-host, shadow_roots-are_roots, NamedTrees, read_own, stays_own, name_eq-from, ShadowHost, host_named, root_named}
-use Rattle.dom_path.proofs.Cited.{ShadowTrees, shadows, IsShownBy, slot_at, is_assigned_at, slot-shown, some_if-dropped, some_if-kept, IsHosted, IsWorldOf}
-use Rattle.dom_path.proofs.Cited.{host_above_at, EndsWithin, chain_at, is_hidden_at, seen_at, related_at, event_parent_at, ends_at, is_empty_at}
-use Rattle.dom_path.proofs.Places.{chain-alone, chain-host, ends-outside}
+use Rattle.dom_path.proofs.Cited.{◌≡◌, inl, inr, ℕ, zero, suc, ◌≤◌, Bool, true, false, ◌&&◌, ◌||◌, not, List, ◌∷◌, map, find, Option, Some, None}
+use Rattle.dom_path.proofs.Cited.{unwrap_or, refl, sym, ap, ◌∙◌, arith, if◌then◌else◌, is_some, option_map, option_to_list, IsTrue, option_or}
+use Rattle.dom_path.proofs.Cited.{cases_Bool, both_ways, NodeName, Owner, name_eq, is_in, owner_depth, max_depth, is_node, is_hidden_from, retarget}
+use Rattle.dom_path.proofs.Cited.{retarget_related, event_parent, slot_of, is_assigned_to, Trees, Node, is_shadow, has_node, node_in, parent_of}
+use Rattle.dom_path.proofs.Cited.{root_of, World, component_at, shadow_root_of, host_above, host_chain, kind_at, parent_at, root_at, depth-maker}
+use Rattle.dom_path.proofs.Cited.{name_eq-true, IsNodeAt, above-host, below-host, hosts-alone, chain-below, hidden-by_chain, shadow-name, hosted}
+use Rattle.dom_path.proofs.Cited.{hosted-maker, hosted-owned, hosted-is, component-host, shadow_roots-are_roots, NamedTrees, read_own, name_eq-from}
+use Rattle.dom_path.proofs.Cited.{ShadowHost, host_named, root_named, ShadowTrees, shadows, IsShownBy, slot_at, is_assigned_at, slot-shown, IsHosted}
+use Rattle.dom_path.proofs.Cited.{IsWorldOf, EndsWithin, chain_at, is_hidden_at, seen_at, related_at, event_parent_at, ends_at, is_empty_at}
+use Rattle.dom_path.proofs.Cited.{parent-shown, node-shown, root-shown, host-shown}
+use Rattle.dom_path.proofs.Places.{chain-alone, chain-host, ends-all}
 
 module _ (f : NamedTrees) (hosts : List ShadowHost) (w : World) (is : IsWorldOf f hosts w) where
   abbrev s : ShadowTrees
@@ -18,34 +19,12 @@ module _ (f : NamedTrees) (hosts : List ShadowHost) (w : World) (is : IsWorldOf 
   shown : IsShownBy s w
   shown = is.shown
 
-  root-is : (x : NodeName) → root_at w x ≡ root_of f.trees x
-  root-is x = ap (λ (ts : Trees). root_of ts x) (shown.trees x.owner) ∙ sym (read_own f.trees shown.owned x.owner x refl).root
-
-  node-is : (x : NodeName) → node_at w x ≡ node_in f.trees x
-  node-is x = ap (λ (ts : Trees). node_in ts x) (shown.trees x.owner) ∙ sym (read_own f.trees shown.owned x.owner x refl).node
-
-  parent-is : (x : NodeName) → parent_at w x ≡ parent_of f.trees x
-  parent-is x = ap (λ (ts : Trees). parent_of ts x) (shown.trees x.owner) ∙ sym (read_own f.trees shown.owned x.owner x refl).parent
-
   pub kind-is : (x : NodeName) → is_shadow (kind_at w x) ≡ is_shadow (node_in f.trees x).kind
-  kind-is x = ap (λ (n : Node). is_shadow n.kind) (node-is x)
+  kind-is x = ap (λ (n : Node). is_shadow n.kind) (node-shown s w shown x)
 
   -- a node of the forest is one of the world
   pub there-is : (x : NodeName) → has_node f.trees x ≡ true → IsNodeAt w x
   there-is x h = ap (λ (ts : Trees). has_node ts x) (shown.trees x.owner) ∙ sym (read_own f.trees shown.owned x.owner x refl).presence ∙ h
-
-  -- the host of a node's root
-  host-is : (x : NodeName) → host_above w x ≡ host_above_at s x
-  host-is x =
-      let r = root_of f.trees x in
-      let o = Rattle.dom_model.specs.World.host_of w x.owner in
-      let its = shadow_root_of x.owner in
-      ap (λ y. option_and_then (some_if (name_eq y its)) o) (root-is x) ∙ elim (cases_Bool (name_eq r its)) [
-        | inl e ↦ some_if-kept o (name_eq r its) e ∙ (sym (shown.hosts x.owner) ∙ ap s.host_of (sym (name_eq-true r its e)))
-        | inr e ↦
-            let owner : r.owner ≡ x.owner = (stays_own f.trees shown.owned x.owner x refl).root in
-            some_if-dropped o (name_eq r its) e ∙ sym (shown.only r (λ same. both_ways _ e (name_eq-from r its (same ∙ ap shadow_root_of owner))))
-      ]
 
   -- ---- chains of hosts
 
@@ -70,35 +49,24 @@ module _ (f : NamedTrees) (hosts : List ShadowHost) (w : World) (is : IsWorldOf 
     where
       by : ((y : NodeName) → owner_depth y.owner ≤ depth → host_chain w y ≡ chain_at s depth y) → (o : Option NodeName) → host_above w x ≡ o →
           host_chain w x ≡ chain_at s (suc depth) x
-      by again None e = hosts-alone (owner_depth x.owner) w x e ∙ sym (chain-alone s (suc depth) x (sym (host-is x) ∙ e))
+      by again None e = hosts-alone (owner_depth x.owner) w x e ∙ sym (chain-alone s (suc depth) x (sym (host-shown s w shown x) ∙ e))
       by again (Some host) e =
           let below = below-host w is.reached.world x host e in
           let deeper = below.deeper in
-          chain-below w x host below ∙ ap (λ ys. x ∷ ys) (again host (omega (arith, h, deeper))) ∙ sym (chain-host s depth x host (sym (host-is x) ∙ e))
+          chain-below w x host below ∙ ap (λ ys. x ∷ ys) (again host (omega (arith, h, deeper))) ∙
+          sym (chain-host s depth x host (sym (host-shown s w shown x) ∙ e))
 
   chain-is : (x : NodeName) → host_chain w x ≡ chain_at s max_depth x
   chain-is x = by (host_above w x) refl
     where
       by : (o : Option NodeName) → host_above w x ≡ o → host_chain w x ≡ chain_at s max_depth x
-      by None e = hosts-alone (owner_depth x.owner) w x e ∙ sym (chain-alone s max_depth x (sym (host-is x) ∙ e))
+      by None e = hosts-alone (owner_depth x.owner) w x e ∙ sym (chain-alone s max_depth x (sym (host-shown s w shown x) ∙ e))
       by (Some host) e = chain-from max_depth x (not_deeper x host e)
 
   -- and they end
-  ends-from : (depth : ℕ) (x : NodeName) → owner_depth x.owner ≤ depth → EndsWithin s depth x
-  ends-from zero x h = by (host_above w x) refl
-    where
-      by : (o : Option NodeName) → host_above w x ≡ o → host_above_at s x ≡ None
-      by None e = sym (host-is x) ∙ e
-      by (Some host) e = let deeper = (below-host w is.reached.world x host e).deeper in absurd (omega (arith, h, deeper))
-  ends-from (suc depth) x h = λ host e. let deeper =
-      (below-host w is.reached.world x host (host-is x ∙ e)).deeper in ends-from depth host (omega (arith, h, deeper))
-
   ends-is : (x : NodeName) → EndsWithin s max_depth x
-  ends-is x = by (host_above w x) refl
-    where
-      by : (o : Option NodeName) → host_above w x ≡ o → EndsWithin s max_depth x
-      by None e = ends-outside s max_depth x (sym (host-is x) ∙ e)
-      by (Some host) e = ends-from max_depth x (not_deeper x host e)
+  ends-is = ends-all s (λ x host e. let deeper = (below-host w is.reached.world x host (host-shown s w shown x ∙ e)).deeper in omega (arith, deeper)) max_depth
+      (λ x host e. not_deeper x host (host-shown s w shown x ∙ e))
 
   -- a host is that of its shadow root
   theirs-is : (host root : NodeName) → root_named f.names hosts host ≡ Some root → host_named f.names hosts root ≡ Some host
@@ -118,7 +86,7 @@ module _ (f : NamedTrees) (hosts : List ShadowHost) (w : World) (is : IsWorldOf 
         let same = name_eq-true root (shadow_root_of root.owner) e in
         let there : is_some (Rattle.dom_model.specs.World.host_of w root.owner) ≡ true =
         ap is_some (sym (shown.hosts root.owner)) ∙ ap (λ r. is_some (host_named f.names hosts r)) (sym same) ∙ h in
-        sym (parent-is root) ∙ ap (parent_at w) same ∙ (shadow_roots-are_roots false w is.reached root.owner there).2
+        sym (parent-shown s w shown root) ∙ ap (parent_at w) same ∙ (shadow_roots-are_roots false w is.reached root.owner there).2
     | inr e ↦
         let none : host_named f.names hosts root ≡ None = shown.only root (λ same. both_ways _ e (name_eq-from root (shadow_root_of root.owner) same)) in
         let both : false ≡ true = ap is_some (sym none) ∙ h in
@@ -134,7 +102,8 @@ module _ (f : NamedTrees) (hosts : List ShadowHost) (w : World) (is : IsWorldOf 
   -- what is hidden
   pub hidden-is : (x y : NodeName) → is_hidden_from w x y ≡ is_hidden_at s max_depth x y
   hidden-is x y =
-      hidden-by_chain w is.reached.world x y ∙ (λ j. is_some (host-is y j) && not (is_in name_eq (root-is y j) (map (λ z. root-is z j) (chain-is x j))))
+      hidden-by_chain w is.reached.world x y ∙ (λ j. is_some (host-shown s w shown y j) &&
+      not (is_in name_eq (root-shown s w shown y j) (map (λ z. root-shown s w shown z j) (chain-is x j))))
 
   -- what is seen
   pub seen-is : (a x : NodeName) → retarget w a x ≡ seen_at s max_depth x a
@@ -173,12 +142,12 @@ module _ (f : NamedTrees) (hosts : List ShadowHost) (w : World) (is : IsWorldOf 
       from true e =
           ap (λ (b : Bool). if b then (if composed || not (name_eq x (root_at w first)) then Rattle.dom_model.specs.World.host_of w x.owner else
           None) else option_or (slot_of w x) (parent_at w x)) e
-          ∙ (λ j. if composed || not (name_eq x (root-is first j)) then shadow-host composed first x e j else None)
+          ∙ (λ j. if composed || not (name_eq x (root-shown s w shown first j)) then shadow-host composed first x e j else None)
           ∙ sym (ap (λ (b : Bool). if b then (if composed || not (name_eq x (root_of f.trees first)) then s.host_of x else None) else option_or
           (slot_at s x) (parent_of f.trees x)) (sym (kind-is x) ∙ e))
       from false e =
           ap (λ (b : Bool). if b then (if composed || not (name_eq x (root_at w first)) then Rattle.dom_model.specs.World.host_of w x.owner else
           None) else option_or (slot_of w x) (parent_at w x)) e
-          ∙ (λ j. option_or (slot-shown s w shown x j) (parent-is x j))
+          ∙ (λ j. option_or (slot-shown s w shown x j) (parent-shown s w shown x j))
           ∙ sym (ap (λ (b : Bool). if b then (if composed || not (name_eq x (root_of f.trees first)) then s.host_of x else None) else option_or
           (slot_at s x) (parent_of f.trees x)) (sym (kind-is x) ∙ e))

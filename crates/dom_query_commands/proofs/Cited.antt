@@ -26,7 +26,7 @@ pub use Rattle.dom_admission.proofs.Refusing.{IsNaming, namings}
 pub use Rattle.dom_admission.specs.Turned.{with_turn}
 pub use Rattle.dom_admission.specs.declared.admission.Operand.TheVariants.{Any, Element, Observer, Parent, Walker}
 pub use Rattle.dom_laws.proofs.Laws.{after-in, before-in, by_times, filter-same, In, In-right, is_in-from, last_split, Once, times-elsewhere, times-here}
-pub use Rattle.dom_laws.proofs.Laws.{times-more, times_count, times_in-none}
+pub use Rattle.dom_laws.proofs.Laws.{times-more, times_count, times_in-none, above-parent, from_first, from_next, Has, parent-of_child}
 pub use Rattle.dom_model.specs.Selectors.{with_attribute}
 pub use Rattle.dom_mutation.specs.Definitions.{change_in, DocState, name_in, notice_in, notices_of, trees_in, with_tasks}
 pub use Rattle.dom_printer.specs.Steps.{attribute_view, attributes_in, attributes_view, data_in, shown, shown_as, shown_steps, step_view, steps_view}
@@ -41,5 +41,6 @@ pub use Rattle.dom_reader.specs.Views.{filter_view, word_view}
 pub use Rattle.dom_selectors.specs.Definitions.{IsRefusalWhere, selector_view}
 pub use Rattle.dom_text.specs.Definitions.{closes, opens, output_text, TreeStep}
 pub use Rattle.dom_tree.proofs.Owned.{read_own, stays_own}
-pub use Rattle.dom_tree.proofs.Standing.{Once-forest, StandAlone, StandOnce}
+pub use Rattle.dom_tree.proofs.Standing.{Once-forest, StandAlone, StandOnce, Has-forest}
 pub use Rattle.dom_tree.specs.Definitions.{AreOwned, name_at, NamedTrees, trees_of_owner}
+pub use Rattle.dom_laws.specs.Siblings.{from_sibling}

@@ -14,14 +14,7 @@ pub record IsAsked (o : Owner) (r : Request) (k : ℕ) : Type 0 where
 
 pub asked : (o : Owner) (r : Request) (k : ℕ) → IsAsked o r k
 asked o asks.Next k = record { naming = search namings; none = λ p. refl; runs = λ w. refl }
-asked o asks.Previous k = record { naming = search namings; none = λ p. refl; runs = λ w. refl }
-asked o asks.Reference k = record { naming = search namings; none = λ p. refl; runs = λ w. refl }
-asked o (asks.Walk move) k = record { naming = search namings; none = λ p. refl; runs = λ w. refl }
-asked o asks.Current k = record { naming = search namings; none = λ p. refl; runs = λ w. refl }
-asked o asks.Disconnect k = record { naming = search namings; none = λ p. refl; runs = λ w. refl }
-asked o (asks.Collapse to_start) k = record { naming = search namings; none = λ p. refl; runs = λ w. refl }
-asked o asks.Drop k = record { naming = search namings; none = λ p. refl; runs = λ w. refl }
-asked o asks.Ends k = record { naming = search namings; none = λ p. refl; runs = λ w. refl }
+asked o r k = record { naming = search namings; none = λ p. refl; runs = λ w. refl }
 
 -- A line has an iterator or a walker made at a root: it names the root alone, is refused by the limit, and does what it does in its owner's
 -- part, which goes by the node that it names.

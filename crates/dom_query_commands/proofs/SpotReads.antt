@@ -3,7 +3,7 @@ use Rattle.dom_query_commands.proofs.Cited.{◌≡◌, inl, inr, ◌≤◌, fals
 use Rattle.dom_query_commands.proofs.Cited.{find, unwrap_or, drop, option_or, option_map, option_map_or, cases_Bool, cond-true, append-nil, find-append}
 use Rattle.dom_query_commands.proofs.Cited.{NodeName, name_eq, first_of, items_after, Trees, none, tree, Node, nodes, names_of, roots, or_else, subtree}
 use Rattle.dom_query_commands.proofs.Cited.{no_node, node_in, trees_below, children_of, times_in, inclusive_ancestors, on_top, parent_of, siblings}
-use Rattle.dom_query_commands.proofs.Cited.{next_sibling, name_eq-same, name_eq-true, name_eq-turned, Once, times-here, times-elsewhere, TreeStep}
+use Rattle.dom_query_commands.proofs.Cited.{next_sibling, name_eq-same, name_eq-turned, Once, times-here, times-elsewhere, TreeStep}
 use Rattle.dom_query_commands.proofs.Spots.{Spot, spot_of, IsSpot, IsRoot, IsChild, closed, spot_of-spot, times-root, times-below, above-root}
 
 -- ---- the first spot of a name, and what is read of the name
@@ -125,15 +125,3 @@ module _ (ts : Trees) (s : Spot) (at : IsSpot ts [] [] s) (once : Once ts) where
       (let below = times-below ts [] [] p at_p s.node.name in let few = once s.node.name in omega arith))
 
 -- ---- names
-
--- what is read by a name has that name
-named : (x : NodeName) (ns : List Node) → (unwrap_or (find (λ n. name_eq n.name x) ns) (no_node x)).name ≡ x
-named x [] = refl
-named x (n ∷ ns) = elim (cases_Bool (name_eq n.name x)) [
-  | inl e ↦ rw e (name_eq-true n.name x e)
-  | inr e ↦ rw e (named x ns)
-]
-
--- the node of a name has that name
-pub node_in-name : (ts : Trees) (x : NodeName) → (node_in ts x).name ≡ x
-node_in-name ts x = named x (nodes ts)

@@ -8,24 +8,23 @@ pub use Rattle.dom_base.proofs.Std.{on_ok_weaker, Option, option_copied, option_
 pub use Rattle.dom_base.proofs.Std.{reverse, reverse-append, same_Some, slice_get, slice_range, Some, string_bytes, string_eq, subst, suc, sym, take, take_all}
 pub use Rattle.dom_base.proofs.Std.{take-append-drop, take-suc, take_more, true, true≢false, unwrap_or, zero, ℕ, ⊤, ◌&&◌, ◌++◌, ◌+◌, ◌-◌, ◌<◌, ◌==◌, ◌↔◌, ◌∙◌}
 pub use Rattle.dom_base.proofs.Std.{◌∷◌, ◌≡◌, ◌≤◌, ◌⊎◌}
-pub use Rattle.dom_model.proofs.Model.{adopt_plan, after, all_whole, at, Attribute, attributes_with, before-less, before-turned, behind_node, both_at}
-pub use Rattle.dom_model.proofs.Model.{boundaries, Boundary, boundary_place, cannot_take_node, Change, changing_document, child_list, child_nodes, children_of}
-pub use Rattle.dom_model.proofs.Model.{clone, clone_count, clone_part, Command, Comment, common_ancestor, cut, cut_end, cut_start, cutting_data, deleting}
-pub use Rattle.dom_model.proofs.Model.{deleting_contents, Document, document_below, doing, Effect, effect, Element, emptying, ending_at, extracting, Fault}
-pub use Rattle.dom_model.proofs.Model.{first_of, first_refusal, Fragment, from_to, has_data, has_document, has_node, has_parent, Hierarchy, in_turn}
-pub use Rattle.dom_model.proofs.Model.{inclusive_ancestors, inclusive_descendants, index_of, insert_node_refusal, insert_plan, inserting_at, inserting_before}
-pub use Rattle.dom_model.proofs.Model.{inserting_into_range, inserting_nodes, insertion_parent, is_before, is_collapsed, is_contained, is_document, is_empty}
-pub use Rattle.dom_model.proofs.Model.{is_fragment, is_in, is_in_one_data, is_inclusive_ancestor, is_shadow, is_text, is_there, items_after, items_before, Kind}
-pub use Rattle.dom_model.proofs.Model.{kind_of, last_of, length_of, Limit, limit_on, made_by_extracting, made_by_insert_node, make, make_room, making_below}
-pub use Rattle.dom_model.proofs.Model.{making_room, may_be_parent, Memory, name_eq, name_eq-other, name_eq-same, name_eq-true, name_eq-turned, names_of}
-pub use Rattle.dom_model.proofs.Model.{new_fragment_node, new_place, next_name, next_sibling, Node, node_in, node_of, NodeName, nodes, none, NotFound, observed}
-pub use Rattle.dom_model.proofs.Model.{Observing, of_range, outermost_contained, own_document, Owner, owner-part_of, Page, parent_of, Part, part_of, part_step}
-pub use Rattle.dom_model.proofs.Model.{past_limit, Pieces, pieces_along, pieces_apart, pieces_behind, pieces_in_front, pieces_of, place, place_of, placed_nodes}
-pub use Rattle.dom_model.proofs.Model.{placing, placing_tests, Plan, plan_of_range, pre_insert_refusal, queue_record, Range, range_at, range_text_of}
-pub use Rattle.dom_model.proofs.Model.{reference_child, Refusal, Refused, remove_plan, removing_from, replacing_data, root_of, roots, same_root, set_document}
-pub use Rattle.dom_model.proofs.Model.{set_range, Shadow, sibling_before, siblings, splitting, start_reference, Step, steps_of, subtree, suppressed, take_out}
-pub use Rattle.dom_model.proofs.Model.{taking, telling, Text, text_eq, text_part, times_in, tree, tree_holding, Trees, trees_below, whole, with_name, World}
-pub use Rattle.dom_model.proofs.Model.{world_after, ◌and_then◌, ◌followed_by◌}
+pub use Rattle.dom_model.proofs.Model.{after, all_whole, at, Attribute, attributes_with, before-less, before-turned, behind_node, both_at, boundaries}
+pub use Rattle.dom_model.proofs.Model.{Boundary, boundary_place, cannot_take_node, Change, child_nodes, children_of, clone, clone_count, clone_part}
+pub use Rattle.dom_model.proofs.Model.{Command, common_ancestor, cut, cut_end, cut_start, cutting_data, deleting, deleting_contents, doing, Effect}
+pub use Rattle.dom_model.proofs.Model.{effect, ending_at, extracting, Fault, first_of, first_refusal, from_to, has_data, has_node, has_parent}
+pub use Rattle.dom_model.proofs.Model.{Hierarchy, in_turn, inclusive_ancestors, inclusive_descendants, index_of, insert_node_refusal, insert_plan}
+pub use Rattle.dom_model.proofs.Model.{inserting_at, inserting_before, inserting_into_range, insertion_parent, is_before, is_collapsed, is_contained}
+pub use Rattle.dom_model.proofs.Model.{is_document, is_in, is_in_one_data, is_inclusive_ancestor, is_shadow, is_text, is_there, items_after}
+pub use Rattle.dom_model.proofs.Model.{items_before, Kind, kind_of, last_of, length_of, Limit, limit_on, made_by_extracting, made_by_insert_node, make}
+pub use Rattle.dom_model.proofs.Model.{making_below, making_room, may_be_parent, Memory, name_eq, name_eq-other, name_eq-same, name_eq-true}
+pub use Rattle.dom_model.proofs.Model.{name_eq-turned, names_of, new_fragment_node, new_place, next_name, next_sibling, Node, node_in, node_of}
+pub use Rattle.dom_model.proofs.Model.{NodeName, nodes, none, NotFound, observed, Observing, of_range, outermost_contained, own_document, Owner}
+pub use Rattle.dom_model.proofs.Model.{owner-part_of, Page, parent_of, Part, part_of, part_step, past_limit, Pieces, pieces_along, pieces_apart}
+pub use Rattle.dom_model.proofs.Model.{pieces_behind, pieces_in_front, pieces_of, place_of, placing, placing_tests, Plan, plan_of_range}
+pub use Rattle.dom_model.proofs.Model.{pre_insert_refusal, Range, range_at, range_text_of, reference_child, Refusal, Refused, remove_plan}
+pub use Rattle.dom_model.proofs.Model.{replacing_data, root_of, roots, same_root, set_range, Shadow, siblings, splitting, start_reference, Step}
+pub use Rattle.dom_model.proofs.Model.{steps_of, subtree, take_out, taking, text_eq, text_part, times_in, tree, tree_holding, Trees, trees_below, whole}
+pub use Rattle.dom_model.proofs.Model.{with_name, World, world_after, ◌and_then◌, ◌followed_by◌}
 pub use Rattle.dom_attributes.proofs.Attributes.{attributes_in, insert-attributes}
 pub use Rattle.dom_attributes.specs.Attributes.{attribute_from, HaveOwnNames}
 pub use Rattle.dom_laws.proofs.Laws.{above-along, above-below, above-beside, above-from_below, above-here, above-parent, above-present, above-root, above-split}
@@ -42,14 +41,14 @@ pub use Rattle.dom_mutation.proofs.BoundedDocs.{HasBoundedPart, index_limited}
 pub use Rattle.dom_mutation.proofs.Placed.{Counted, once_in, removal_keeps}
 pub use Rattle.dom_mutation.proofs.ReadyCalls.{HasLaws, part-planned, ready-planned, stands-in, stands-then}
 pub use Rattle.dom_mutation.proofs.ReadyEnds.{bare, bare-tables}
-pub use Rattle.dom_mutation.proofs.ReadyPlans.{insertion-tested, KeepReady, ready-deleting, ready-extracting, ready-inserting_into_range}
+pub use Rattle.dom_mutation.proofs.ReadyPlans.{KeepReady, ready-deleting, ready-extracting, ready-inserting_into_range}
 pub use Rattle.dom_mutation.proofs.StillParts.{keeps-steps}
 pub use Rattle.dom_mutation.proofs.Turns.{child_now, Empties, empties_on, may_now, Stays}
 pub use Rattle.dom_mutation.specs.Definitions.{AreReady, DocState, HoldsNode, IsAlone, IsChild, IsOwnNode, IsReadyPart, made, MayMove, name_in, owner_in}
 pub use Rattle.dom_mutation.specs.Definitions.{planned, PlansOwn, stepped, trees_in}
 pub use Rattle.dom_parts.proofs.BoundedPlans.{length_few}
 pub use Rattle.dom_parts.proofs.Made.{made_then, plan_alone, planned_then}
-pub use Rattle.dom_parts.proofs.OwnPlans.{plans_data, plans_each, plans_inserting, plans_removing, plans_splitting, plans_then}
+pub use Rattle.dom_parts.proofs.OwnPlans.{own_moves, own_rules}
 pub use Rattle.dom_range_ops.specs.Definitions.{Adds, AreEnds, AreItems, AreLeaves, ArePaths, AreSpanned, clone_item, clones_after, contained_text, cut_item}
 pub use Rattle.dom_range_ops.specs.Definitions.{cutting, end_item, end_items, EndAlike, extracting_items, first_behind, first_from, from_sibling, HasPaths}
 pub use Rattle.dom_range_ops.specs.Definitions.{heads, inserting_before_tail, inserting_node, inserting_refusal, IsCopyOf, IsOfPoints, IsPieceIn, IsPieceOf}
@@ -69,13 +68,15 @@ pub use Rattle.dom_tree.proofs.Owned.{own_trees, read_own, stays_own}
 pub use Rattle.dom_tree.proofs.Standing.{Has-forest, Once-forest, once_own, StandAlone, StandOnce}
 pub use Rattle.dom_tree.specs.Definitions.{AreOwned, err_of, name_at, NamedTrees, node_from, StandsIn, TellApart, trees_of_owner}
 pub use Rattle.dom_tree.specs.declared.data.NodeData.{NodeData}
-pub use Rattle.dom_worlds.proofs.CommandLemmas.{has_node-times, insertion-apart, next-test}
-pub use Rattle.dom_worlds.proofs.ListLemmas.{all-append, all-then, by_cases}
-pub use Rattle.dom_worlds.proofs.PlanLemmas.{after-append, all-get, AllWhole, AreFit, Changed, common_below, count-step, ends-at, fit-apart, fit-pieces}
-pub use Rattle.dom_worlds.proofs.PlanLemmas.{HasNode, IfSome, IsClonable, Leads, leads-eased, leads-inserting, leads-making_below, leads-nothing, leads-one}
-pub use Rattle.dom_worlds.proofs.PlanLemmas.{leads-removing, leads-replacing_data, leads-splitting, leads-then, MayGo, new-may, new-there, next-absent, old-may}
-pub use Rattle.dom_worlds.proofs.PlanLemmas.{old-still, old-there, OldIn, still, whole-pieces}
-pub use Rattle.dom_worlds.proofs.RangeLemmas.{child-there_in, common-read, data-keeps, insertion-keeps, insertion-open, make-keeps, tail-child}
+pub use Rattle.dom_worlds.proofs.CommandLemmas.{has_node-times, insertion-tested, next-test, IsPlaceable}
+pub use Rattle.dom_worlds.proofs.ListLemmas.{all-append, all-then, by_cases, all-from}
+pub use Rattle.dom_worlds.proofs.PlanLemmas.{AllWhole, AreFit, AreMoved, Changed, HasNode, IfSome, IsClonable, Leads, MayGo, OldIn, after-append}
+pub use Rattle.dom_worlds.proofs.PlanLemmas.{all-get, common_below, count-step, ends-at, fit-apart, fit-pieces, keeps-and_then, keeps-each}
+pub use Rattle.dom_worlds.proofs.PlanLemmas.{keeps-inserting, keeps-removing, keeps-replacing_data, keeps-splitting, kept-after, leads-eased}
+pub use Rattle.dom_worlds.proofs.PlanLemmas.{leads-inserting, leads-making_below, leads-nothing, leads-one, leads-removing, leads-replacing_data}
+pub use Rattle.dom_worlds.proofs.PlanLemmas.{leads-splitting, leads-then, new-may, new-there, next-absent, old-may, old-still, old-there, still}
+pub use Rattle.dom_worlds.proofs.PlanLemmas.{whole-pieces, keeps-making_below, keeps-cutting_data, keeps-deleting_contents}
+pub use Rattle.dom_worlds.proofs.RangeLemmas.{child-there_in, common-read, data-keeps, insertion-keeps, make-keeps, tail-child}
 pub use Rattle.dom_worlds.proofs.ShadowTreeLemmas.{not_taken}
 pub use Rattle.dom_worlds.proofs.TreeLemmas.{ancestor-inside, child-parent, children-childs, inside-no_ancestor, no_parent-root, node-new, nodes-named}
 pub use Rattle.dom_worlds.proofs.TreeLemmas.{nodes-then, root-below_none, times-below, times-has_node}

@@ -1,36 +1,17 @@
 -- The plan of a deletion, step by step.
-use Rattle.dom_range_ops.proofs.Cited.{◌≡◌, ℕ, Bool, true, false, List, [], ◌∷◌, map, Option, is_some, sym, ap, subst, ◌∙◌, ◌-◌, if◌then◌else◌, option_map_or}
-use Rattle.dom_range_ops.proofs.Cited.{cond-true, cond-false, NodeName, Owner, Plan, ◌and_then◌, in_turn, doing, steps_of, remove_plan, observed, plan_of_range}
-use Rattle.dom_range_ops.proofs.Cited.{is_in_one_data, cut_start, cut_end, new_place, both_at, name_eq, range_at, Range, at, is_collapsed, cutting_data}
-use Rattle.dom_range_ops.proofs.Cited.{outermost_contained, deleting_contents, deleting, set_range, replacing_data, Trees, kind_of, has_data, part_of}
-use Rattle.dom_range_ops.proofs.Cited.{world_after, DocState, made, planned, stepped, name_in, owner_in, trees_in, PlansOwn, IsAlone, made_then, planned_then}
-use Rattle.dom_range_ops.proofs.Cited.{plans_then, plans_each, plans_data, plans_removing, Points, IsRangeIn, IsOfPoints, cutting, range_at_points}
+use Rattle.dom_range_ops.proofs.Cited.{◌≡◌, ℕ, true, false, List, [], ◌∷◌, map, Option, is_some, sym, ap, subst, ◌∙◌, ◌-◌, option_map_or, cond-true}
+use Rattle.dom_range_ops.proofs.Cited.{cond-false, NodeName, Owner, Plan, ◌and_then◌, in_turn, doing, remove_plan, observed, plan_of_range}
+use Rattle.dom_range_ops.proofs.Cited.{is_in_one_data, new_place, both_at, name_eq, range_at, Range, at, is_collapsed, cutting_data}
+use Rattle.dom_range_ops.proofs.Cited.{outermost_contained, deleting_contents, deleting, set_range, Trees, part_of, world_after, DocState, made}
+use Rattle.dom_range_ops.proofs.Cited.{planned, stepped, name_in, owner_in, trees_in, IsAlone, made_then, planned_then, Points, IsRangeIn, IsOfPoints}
+use Rattle.dom_range_ops.proofs.Cited.{cutting, range_at_points, keeps-cutting_data, keeps-deleting_contents, keeps-and_then, keeps-each}
+use Rattle.dom_range_ops.proofs.Cited.{keeps-removing, own_moves, own_rules}
 use Rattle.dom_range_ops.proofs.InsertedRanges.{range-kept}
-
--- ---- its steps are its owner's own
 
 module _ (ts : Trees) (r : Range NodeName) where
   -- the plan where both ends are not in one Text or Comment
   abbrev pub apart : Plan
   apart = cutting_data ts r r.start.node and_then in_turn (remove_plan observed) (outermost_contained ts r) and_then cutting_data ts r r.end.node
-
-  module _ (o : Owner) where
-    plans-if : (b : Bool) (f g : Plan) → PlansOwn o f → PlansOwn o g → PlansOwn o (if b then f else g)
-    plans-if true f g a c = a
-    plans-if false f g a c = c
-
-    plans-cut : (x : NodeName) → PlansOwn o (cutting_data ts r x)
-    plans-cut x = plans-if (has_data (kind_of ts x)) (replacing_data x (cut_start r x) (cut_end ts r x - cut_start r x) []) (steps_of [])
-        (plans_data o x (cut_start r x) (cut_end ts r x - cut_start r x) []) (λ p own. tt)
-
-    plans-front : PlansOwn o (cutting_data ts r r.start.node and_then in_turn (remove_plan observed) (outermost_contained ts r))
-    plans-front = plans_then o (cutting_data ts r r.start.node) (in_turn (remove_plan observed) (outermost_contained ts r)) (plans-cut r.start.node)
-        (plans_each o (remove_plan observed) (plans_removing o observed) (outermost_contained ts r))
-
-    pub plans-contents : PlansOwn o (deleting_contents ts r)
-    plans-contents = plans-if (is_in_one_data ts r) (cutting_data ts r r.start.node) apart (plans-cut r.start.node)
-        (plans_then o (cutting_data ts r r.start.node and_then in_turn (remove_plan observed) (outermost_contained ts r))
-        (cutting_data ts r r.end.node) plans-front (plans-cut r.end.node))
 
 -- ---- the steps of a `Doc`
 
@@ -72,12 +53,14 @@ module _ (d : DocState) (points : Points) (h : IsRangeIn d points) (alone : IsAl
       let first = cutting_data ts r r.start.node in
       let removals = in_turn (remove_plan observed) (outermost_contained ts r) in
       let last = cutting_data ts r r.end.node in
+      let cut = keeps-cutting_data (own_rules o) ts r r.start.node in
+      let out = keeps-each (own_moves o) (remove_plan observed) (keeps-removing (own_moves o) observed) (outermost_contained ts r) in
       ap (λ (f : Plan). with_cut points.end.0 last_part (without_nodes points.start.0 ks (planned o f d))) cuts.0
       ∙ ap (λ xs. with_cut points.end.0 last_part (planned o (in_turn (remove_plan observed) xs) (planned o first d))) found
       ∙ ap (λ q. planned q (cutting r.end.node last_part) (planned o removals (planned o first d))) h.owner
       ∙ ap (λ (f : Plan). planned o f (planned o removals (planned o first d))) cuts.1
-      ∙ ap (planned o last) (planned_then o first removals d alone (plans-cut ts r o r.start.node))
-      ∙ planned_then o (first and_then removals) last d alone (plans-front ts r o)
+      ∙ ap (planned o last) (planned_then o first removals d alone cut)
+      ∙ planned_then o (first and_then removals) last d alone (keeps-and_then (own_moves o) first removals cut out)
       ∙ ap (λ (f : Plan). planned o f d) (sym (cond-false (is_in_one_data ts r) first (apart ts r) one))
 
 -- The contents of an owner's live range are deleted.
@@ -91,7 +74,7 @@ module _ (d : DocState) (o : Owner) (k : ℕ) (points : Points) (here : IsOfPoin
   pub deletion-there : is_some (range_at (part_of d.world o) k) ≡ true → is_some (range_at (part_of e.world o) k) ≡ true
   deletion-there =
       subst (λ (q : Owner). is_some (range_at (part_of d.world q) k) ≡ true → is_some (range_at (part_of e.world q) k) ≡ true) here.owner
-      (range-kept contents alone (plans-contents (trees_in d points.start.0) (range_at_points d.names points) (owner_in d points.start.0))
+      (range-kept contents alone (keeps-deleting_contents (own_rules (owner_in d points.start.0)) (trees_in d points.start.0) (range_at_points d.names points))
       (ap (λ (s : DocState). s.world) deleted) k)
 
   -- a node keeps its owner
@@ -110,7 +93,7 @@ module _ (d : DocState) (o : Owner) (k : ℕ) (points : Points) (here : IsOfPoin
       ap (λ (s : DocState). s.world) (put ∙ ap (with_range_at o k place) deleted)
       ∙ ap (λ b. world_after o (made q contents d.world) (set_range k (both_at b) ∷ [])) place_is
       ∙ ap (λ n. world_after n (made q contents d.world) (set_range k (both_at (new_place ts r)) ∷ [])) (sym here.owner)
-      ∙ sym (made_then q contents setting d.world alone (plans-contents ts r q))
+      ∙ sym (made_then q contents setting d.world alone (keeps-deleting_contents (own_rules q) ts r))
       ∙ ap (world_after q d.world) (sym (cond-false (is_collapsed name_eq r) [] ((contents and_then setting) (part_of d.world q)) wide))
       ∙ ap (λ (m : Option (Range NodeName)). world_after q d.world (option_map_or (λ (s : Range NodeName). deleting k s (part_of d.world q)) m []))
       (sym (ap (λ n. range_at (part_of d.world n) k) here.owner ∙ here.there))

@@ -3,7 +3,7 @@ use Rattle.dom_range_ops.proofs.Cited.{◌≡◌, ℕ, false, List, Option, Some
 use Rattle.dom_range_ops.proofs.Cited.{Plan, ◌and_then◌, observed, remove_plan, insert_plan, reference_child, name_eq, at, ending_at, inserting_before}
 use Rattle.dom_range_ops.proofs.Cited.{inserting_at, Trees, next_sibling, inclusive_ancestors, is_inclusive_ancestor, part_of, name_eq-turned, name_at}
 use Rattle.dom_range_ops.proofs.Cited.{DocState, made, planned, name_in, owner_in, trees_in, IsChild, IsAlone, planned_then, parent_path, Lacks, lacks_from}
-use Rattle.dom_range_ops.proofs.Cited.{lacks_to, plans_removing, plans_inserting, Counted, once_in, removal_keeps, Stays, offset_behind}
+use Rattle.dom_range_ops.proofs.Cited.{lacks_to, Counted, once_in, removal_keeps, Stays, offset_behind, keeps-inserting, keeps-removing, own_moves}
 
 -- a state by its names and its world
 pub state-is : (d e : DocState) (o : Owner) (f : Plan) → e.names ≡ d.names → e.world ≡ made o f d.world → e ≡ planned o f d
@@ -39,7 +39,7 @@ module _ (d : DocState) (o : Owner) (k : ℕ) (parent node : ℕ) (alone : IsAlo
       let n = offset_behind ts y x before in
       ended ∙ ap (λ (ns : List NodeName). planned o (ending_at k (at (name_at ns parent) offset)) e) (ap (λ (s : DocState). s.names) is)
       ∙ ap (planned o (end offset)) is
-      ∙ planned_then o put (end offset) d alone (plans_inserting o observed x y before node_own)
+      ∙ planned_then o put (end offset) d alone (keeps-inserting (own_moves o) observed x y before node_own)
       ∙ ap (λ m. planned o (put and_then end m) d) (behind ∙ ap (λ w. offset_behind (part_of d.world w).trees y x before) own)
       ∙ ap (λ b. planned o (insert_plan observed x y b and_then end n) d) (sym (kept-reference ts x (name_in d) reference apart))
 
@@ -55,7 +55,7 @@ module _ (d : DocState) (o : Owner) (k : ℕ) (parent node : ℕ) (alone : IsAlo
       inserted ∙ ap (λ (ns : List NodeName). planned o
       (inserting_before k (name_at ns node) (name_at ns parent) (option_map (name_at ns) reference)) e) (ap (λ (s : DocState). s.names) is)
       ∙ ap (planned o (inserting_before k x y (option_map (name_in d) reference))) is
-      ∙ planned_then o gone (inserting_before k x y (option_map (name_in d) reference)) d alone (plans_removing o observed x)
+      ∙ planned_then o gone (inserting_before k x y (option_map (name_in d) reference)) d alone (keeps-removing (own_moves o) observed x)
       ∙ ap (λ b. planned o (gone and_then inserting_before k x y b) d)
       (referred ∙ ap (λ w. reference_child (part_of d.world w).trees x (option_map (name_in d) child)) own)
 

@@ -3,7 +3,7 @@ use Rattle.dom_range_ops.proofs.Cited.{◌≡◌, ◌<◌, ℕ, Bool, true, fals
 use Rattle.dom_range_ops.proofs.Cited.{Kind, NodeName, Owner, Plan, ◌and_then◌, Part, next_name, range_at, Range, inserting_at, after, splitting, kind_of}
 use Rattle.dom_range_ops.proofs.Cited.{has_node, parent_of, is_inclusive_ancestor, part_of, owner-part_of, IsPart, ancestor-inside, inside-no_ancestor}
 use Rattle.dom_range_ops.proofs.Cited.{child-parent, has_node-times, Changed, leads-splitting, tail-child, DocState, made, planned, name_in, owner_in, trees_in}
-use Rattle.dom_range_ops.proofs.Cited.{IsChild, IsAlone, made_then, plans_splitting, inserting_before_tail}
+use Rattle.dom_range_ops.proofs.Cited.{IsChild, IsAlone, made_then, inserting_before_tail, keeps-splitting, own_rules}
 use Rattle.dom_range_ops.proofs.InsertedParts.{part-now, now-at, kind-kept}
 use Rattle.dom_range_ops.proofs.InsertedRanges.{range-kept}
 use Rattle.dom_range_ops.proofs.TakingDocs.{name-kept, new-name, new-node}
@@ -50,7 +50,7 @@ module _ (m : TailSplit) where
   changed = subst (λ spot. Changed spot p (after p (f p))) up (leads-splitting x offset p part).changed
 
   now : part_of e.world o ≡ after p (f p)
-  now = part-now d e o f alone (plans_splitting o x offset) world
+  now = part-now d e o f alone (keeps-splitting (own_rules o) x offset) world
 
   -- names of the keys from before are kept
   pub split-name : (k : ℕ) → k < length d.names → name_in e k ≡ name_in d k
@@ -65,7 +65,7 @@ module _ (m : TailSplit) where
   -- what is told of a node's kind
   pub split-kind : (is : Kind → Bool) (k : ℕ) → k < length d.names → owner_in d k ≡ o → has_node p.trees (name_in d k) ≡ true →
       is (kind_of p.trees (name_in d k)) ≡ false → is (kind_of (trees_in e k) (name_in e k)) ≡ false
-  split-kind is k less own = kind-kept d e o f alone (plans_splitting o x offset) world is changed k (split-name k less, own)
+  split-kind is k less own = kind-kept d e o f alone (keeps-splitting (own_rules o) x offset) world is changed k (split-name k less, own)
 
   -- what was not above the parent is not
   pub split-apart : has_node p.trees (name_in d node) ≡ true → is_inclusive_ancestor p.trees (name_in d node) y ≡ false →
@@ -78,7 +78,7 @@ module _ (m : TailSplit) where
       ap (λ (q : Part). is_inclusive_ancestor q.trees z y) now ∙
       false_from_ne_true _ (λ h. let some = ancestor-inside (after p (f p)).trees z y h in omega (arith, some, none)) in
       subst (λ v. is_inclusive_ancestor (trees_in e parent) v (name_in e parent) ≡ false) (sym (split-name node node_is))
-      (now-at d e o f alone (plans_splitting o x offset) world (λ ts v. is_inclusive_ancestor ts z v ≡ false) parent (split-name parent parent_is)
+      (now-at d e o f alone (keeps-splitting (own_rules o) x offset) world (λ ts v. is_inclusive_ancestor ts z v ≡ false) parent (split-name parent parent_is)
       parent_own still)
 
   -- the tail is a child of it
@@ -90,13 +90,13 @@ module _ (m : TailSplit) where
         node = new-node d e (next_name p) tail names key;
         owner = ap (λ (z : NodeName). z.owner) tail_name ∙ (owner-part_of d.world o ∙ (sym parent_own ∙ sym (split-owner parent parent_is)));
         child = subst (λ v. parent_of (trees_in e parent) v ≡ Some (name_in e parent)) (sym tail_name)
-            (now-at d e o f alone (plans_splitting o x offset) world (λ ts v. parent_of ts (next_name p) ≡ Some v) parent
+            (now-at d e o f alone (keeps-splitting (own_rules o) x offset) world (λ ts v. parent_of ts (next_name p) ≡ Some v) parent
             (split-name parent parent_is) parent_own found);
       }
 
   -- a live range that was there is there
   pub split-there : (k : ℕ) → is_some (range_at p k) ≡ true → is_some (range_at (part_of e.world o) k) ≡ true
-  split-there = range-kept f alone (plans_splitting o x offset) world
+  split-there = range-kept f alone (keeps-splitting (own_rules o) x offset) world
 
   -- and then the node is inserted before the tail
   pub split-whole : {g : DocState} (k : ℕ) (r : Range NodeName) → r.start.node ≡ x → r.start.offset ≡ offset →
@@ -109,6 +109,6 @@ module _ (m : TailSplit) where
       ∙ ap (λ z. made o (inserting_at k (name_in d node) z (Some (name_in e tail))) e.world) (split-name parent parent_is)
       ∙ ap (λ z. made o (inserting_at k (name_in d node) y (Some z)) e.world) tail_name
       ∙ ap (made o put) world
-      ∙ sym (made_then o f put d.world alone (plans_splitting o x offset))
+      ∙ sym (made_then o f put d.world alone (keeps-splitting (own_rules o) x offset))
       ∙ ap (λ z. made o (splitting z offset and_then put) d.world) (sym at_node)
       ∙ ap (λ n. made o (splitting r.start.node n and_then put) d.world) (sym at_offset)

@@ -1,11 +1,11 @@
 -- A new node of a `Doc` below another one.
 use Rattle.dom_range_ops.proofs.Cited.{◌≡◌, ◌<◌, ℕ, true, false, List, [], ◌∷◌, ◌++◌, length, None, refl, sym, ap, ◌∙◌, arith, length-append, subst}
-use Rattle.dom_range_ops.proofs.Cited.{get_or-append, get_or-append_seam, ForSome, NodeName, Owner, Page, owner-part_of, Plan, ◌and_then◌, doing, observed}
-use Rattle.dom_range_ops.proofs.Cited.{insert_plan, making_below, node_of, Part, next_name, make, part_step, replacing_data, Node, node_in, kind_of, has_data}
-use Rattle.dom_range_ops.proofs.Cited.{is_shadow, has_node, is_inclusive_ancestor, with_name, World, part_of, ancestor-inside, node-new, has_node-times}
-use Rattle.dom_range_ops.proofs.Cited.{next-absent, leads-one, new-may, by_cases, DocState, made, planned, name_in, owner_in, trees_in, MayMove, IsAlone}
-use Rattle.dom_range_ops.proofs.Cited.{PlansOwn, HasBoundedPart, plan_alone, made_then, plans_then, plans_inserting, read_own, NamedTrees, name_at, node_from}
-use Rattle.dom_range_ops.proofs.Cited.{AreOwned, trees_of_owner, NodeData, IsCopyOf}
+use Rattle.dom_range_ops.proofs.Cited.{get_or-append, get_or-append_seam, ForSome, NodeName, Owner, Page, owner-part_of, Plan, ◌and_then◌, doing}
+use Rattle.dom_range_ops.proofs.Cited.{observed, insert_plan, making_below, node_of, Part, next_name, make, part_step, replacing_data, Node, node_in}
+use Rattle.dom_range_ops.proofs.Cited.{kind_of, has_data, is_shadow, has_node, is_inclusive_ancestor, with_name, World, part_of, ancestor-inside}
+use Rattle.dom_range_ops.proofs.Cited.{node-new, has_node-times, next-absent, leads-one, new-may, by_cases, DocState, made, planned, name_in, owner_in}
+use Rattle.dom_range_ops.proofs.Cited.{trees_in, MayMove, IsAlone, HasBoundedPart, plan_alone, made_then, read_own, NamedTrees, name_at, node_from}
+use Rattle.dom_range_ops.proofs.Cited.{keeps-making_below, AreOwned, trees_of_owner, NodeData, IsCopyOf, own_rules}
 
 -- a node keeps its name where others come
 pub name-kept : (d e : DocState) (more : List NodeName) (k : ℕ) → e.names ≡ d.names ++ more → k < length d.names → name_in e k ≡ name_in d k
@@ -21,11 +21,6 @@ new-name d e y k is key = ap (name_in e) key ∙ ap (λ (ns : List NodeName). na
 
 pub new-node : (d e : DocState) (y : NodeName) (k : ℕ) → e.names ≡ d.names ++ y ∷ [] → k ≡ length d.names → k < length e.names
 new-node d e y k is key = let a = ap (λ (ns : List NodeName). length ns) is in let b = length-append d.names (y ∷ []) in omega arith
-
--- a new node below another one stays in its owner's part
-pub plans-below : (o : Owner) (top : NodeName) (n : Node) → n.name.owner ≡ o → PlansOwn o (making_below top n)
-plans-below o top n is = plans_then o (doing (make n)) (insert_plan observed n.name top None) (λ p own. (tt, tt))
-    (plans_inserting o observed n.name top None is)
 
 -- a node was made, with the next name of the owner of a node `top`
 pub record NewNode : Type 0 where
@@ -147,4 +142,4 @@ module _ (d e : DocState) (top node : ℕ) (n : Node) (alone : IsAlone d.world (
       ∙ ap (λ (y : NodeName). made y.owner (replacing_data y from count []) e.world) kept
       ∙ ap (λ r. made r cut e.world) own
       ∙ ap (made o cut) world
-      ∙ sym (made_then o (making_below (name_in d top) n) cut d.world alone (plans-below o (name_in d top) n mine))
+      ∙ sym (made_then o (making_below (name_in d top) n) cut d.world alone (keeps-making_below (own_rules o) (name_in d top) n tt mine))

@@ -3,8 +3,9 @@ use Rattle.dom_range_ops.proofs.Cited.{suc, ◌≡◌, ◌<◌, ◌+◌, ℕ, fa
 use Rattle.dom_range_ops.proofs.Cited.{ap, ◌∙◌, subst, arith, append_assoc, ◌↔◌, IfErr, AllByRecursion, false_from_ne_true, ltb-true, NodeName, Fault, Refused}
 use Rattle.dom_range_ops.proofs.Cited.{Memory, Refusal, Limit, Owner, owner-part_of, past_limit, limit_on, first_refusal, Plan, ◌and_then◌, doing, both_at}
 use Rattle.dom_range_ops.proofs.Cited.{node_of, Part, next_name, range_at, at, make, set_range, part_step, Node, World, part_of, IsPart, all-then, DocState}
-use Rattle.dom_range_ops.proofs.Cited.{made, stepped, name_in, owner_in, IsAlone, PlansOwn, plan_alone, made_then, plans_then, Item, item_in, made_by, top_of}
+use Rattle.dom_range_ops.proofs.Cited.{made, stepped, name_in, owner_in, IsAlone, PlansOwn, plan_alone, made_then, Item, item_in, made_by, top_of}
 use Rattle.dom_range_ops.proofs.Cited.{taking_item, taking_items, clones_after, new_names, MayBeTaken, MayTake, IsPieceOf, Piece}
+use Rattle.dom_range_ops.proofs.Cited.{keeps-and_then, own_moves}
 use Rattle.dom_range_ops.proofs.InsertedRanges.{range-kept}
 use Rattle.dom_range_ops.proofs.TakingDocs.{name-kept, node-kept, new-name, new-node}
 use Rattle.dom_range_ops.proofs.TakingLoops.{plans-item, item-same, piece-kept}
@@ -14,7 +15,7 @@ pub plans-items : {o : Owner} (into : NodeName) {p : Part} → IsPart p → p.ow
     AllByRecursion (MayBeTaken into p.trees) items → (clones : List NodeName) → PlansOwn o (taking_items into clones items)
 plans-items into i is [] h clones = λ q own. tt
 plans-items {o} into i is (item ∷ items) h clones = λ q own.
-    plans_then o (taking_item (top_of into clones) item) (taking_items into (clones_after (next_name q) item clones) items)
+    keeps-and_then (own_moves o) (taking_item (top_of into clones) item) (taking_items into (clones_after (next_name q) item clones) items)
     (plans-item into (top_of into clones) item i is h.0)
     (plans-items into i is items h.1 (clones_after (next_name q) item clones)) q own
 
@@ -126,7 +127,7 @@ module _ (m : Fragment) where
         ap (λ (s : DocState). s.world) (put ∙ ap (λ y. stepped o (set_range k (both_at (at y place.1))) f) (name-then place.0 here))
         ∙ ap (made o (doing (set_range k r))) first
         ∙ sym (made_then o (doing (make n) and_then fill) (doing (set_range k r)) d.world alone
-        (plans_then o (doing (make n)) fill (λ q own. (tt, tt)) own-items))
+        (keeps-and_then (own_moves o) (doing (make n)) fill (λ q own. (tt, tt)) own-items))
 
 -- a fragment has no name to be tested, so where there is room for it, memory alone stops it
 pub room-faults : {X : Type 0} (m : Result X Fault) (have : ℕ) → have < 1000000 → ((r : Refusal) → (m ≡ Err (Refused r)) ↔ (limit_on have 1 ≡ Some r)) →

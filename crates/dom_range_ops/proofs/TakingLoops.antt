@@ -2,20 +2,23 @@
 use Rattle.dom_range_ops.proofs.Cited.{zero, suc, ◌≡◌, ◌<◌, ◌≤◌, ℕ, ◌+◌, ◌-◌, List, [], ◌∷◌, ◌++◌, length, map, drop, None, refl, sym, ap, ◌∙◌, subst, arith}
 use Rattle.dom_range_ops.proofs.Cited.{append_assoc, get_or, drop-cons, add-one, AllByRecursion, NodeName, Owner, owner-part_of, observed, clone_part}
 use Rattle.dom_range_ops.proofs.Cited.{making_below, node_of, Part, next_name, after, replacing_data, node_in, with_name, World, part_of, IsPart}
-use Rattle.dom_range_ops.proofs.Cited.{has_node-times, DocState, made, name_in, owner_in, IsOwnNode, IsAlone, PlansOwn, plan_alone, made_then, plans_then}
-use Rattle.dom_range_ops.proofs.Cited.{plans_inserting, plans_data, Item, whole_item, cut_item, clone_item, end_item, item_in, made_by, top_of, taking_item}
+use Rattle.dom_range_ops.proofs.Cited.{has_node-times, DocState, made, name_in, owner_in, IsOwnNode, IsAlone, PlansOwn, plan_alone, made_then}
+use Rattle.dom_range_ops.proofs.Cited.{Item, whole_item, cut_item, clone_item, end_item, item_in, made_by, top_of, taking_item, keeps-making_below}
 use Rattle.dom_range_ops.proofs.Cited.{taking_items, clones_after, new_names, names_in, MayBeTaken, MayTake, IsPieceOf, Piece, Whole, Cut, Clone, End}
-use Rattle.dom_range_ops.proofs.TakingDocs.{name-kept, node-kept, plans-below}
+use Rattle.dom_range_ops.proofs.Cited.{keeps-and_then, keeps-inserting, keeps-replacing_data, own_moves, own_rules}
+use Rattle.dom_range_ops.proofs.TakingDocs.{name-kept, node-kept}
 use Rattle.dom_range_ops.proofs.TakingParts.{takes-on, count-item, made-more}
 
 -- the steps for an item that may be taken are in its owner's part
 pub plans-item : {o : Owner} (into top : NodeName) {p : Part} (item : Item) → IsPart p → p.owner ≡ o → MayBeTaken into p.trees item →
     PlansOwn o (taking_item top item)
-plans-item {o} into top {p} (whole_item x) i is h = plans_inserting o observed x top None (i.owned x (has_node-times p.trees x h.0.there) ∙ is)
+plans-item {o} into top {p} (whole_item x) i is h = keeps-inserting (own_moves o) observed x top None (i.owned x (has_node-times p.trees x h.0.there) ∙ is)
 plans-item {o} into top (cut_item x from to) i is h = λ q own.
     let n = clone_part (next_name q) from to (node_in q.trees x) in
-    plans_then o (making_below top n) (replacing_data x from (to - from) []) (plans-below o top n own.owner) (plans_data o x from (to - from) []) q own
-plans-item {o} into top (clone_item x) i is h = λ q own. plans-below o top (with_name (next_name q) (node_in q.trees x)) own.owner q own
+    keeps-and_then (own_moves o) (making_below top n) (replacing_data x from (to - from) []) (keeps-making_below (own_rules o) top n tt own.owner)
+    (keeps-replacing_data (own_rules o) x from (to - from) []) q own
+plans-item {o} into top (clone_item x) i is h = λ q own.
+    keeps-making_below (own_rules o) top (with_name (next_name q) (node_in q.trees x)) tt own.owner q own
 plans-item into top end_item i is h = λ q own. tt
 
 -- new names, and more of them

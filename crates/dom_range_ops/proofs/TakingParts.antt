@@ -1,98 +1,45 @@
 -- What may be taken item by item may be so still after each of them.
-use Rattle.dom_range_ops.proofs.Cited.{suc, ◌≡◌, Bool, true, false, not, List, [], ◌∷◌, length, Option, Some, None, refl, ◌∙◌, ⊤, if◌then◌else◌, AllByRecursion}
-use Rattle.dom_range_ops.proofs.Cited.{option_map_or, NodeName, Plan, ◌and_then◌, in_turn, doing, steps_of, Observing, observed, suppressed, telling}
-use Rattle.dom_range_ops.proofs.Cited.{remove_plan, removing_from, has_document, changing_document, adopt_plan, document_below, placed_nodes, emptying}
-use Rattle.dom_range_ops.proofs.Cited.{making_room, placing, sibling_before, inserting_nodes, insert_plan, making_below, is_empty, Change, child_list, Part}
-use Rattle.dom_range_ops.proofs.Cited.{Step, make, make_room, place, take_out, set_document, queue_record, part_step, after, Node, is_fragment, kind_of}
-use Rattle.dom_range_ops.proofs.Cited.{parent_of, index_of, all-append, count-step, ◌≤◌, ◌+◌, ◌-◌, ◌++◌, drop, sym, ap, subst, arith, Kind, Document, Fragment}
-use Rattle.dom_range_ops.proofs.Cited.{Shadow, Element, Text, Comment, clone_part, next_name, replacing_data, Trees, node_in, has_data, is_shadow}
-use Rattle.dom_range_ops.proofs.Cited.{is_inclusive_ancestor, with_name, HasBounds, IsPart, ancestor-inside, inside-no_ancestor, times-has_node, node-new}
-use Rattle.dom_range_ops.proofs.Cited.{insertion-keeps, make-keeps, data-keeps, has_node-times, all-then, by_cases, next-absent, OldIn, old-may, old-still}
-use Rattle.dom_range_ops.proofs.Cited.{leads-making_below, Changed, MayGo, Leads, still, after-append, leads-then, leads-eased, leads-nothing, leads-one}
-use Rattle.dom_range_ops.proofs.Cited.{leads-inserting, new-there, new-may, leads-replacing_data, HasNode, Item, whole_item, cut_item, clone_item, end_item}
-use Rattle.dom_range_ops.proofs.Cited.{made_by, top_of, taking_item, clones_after, IsTaker, IsTaken, MayBeTaken, MayTake}
+use Rattle.dom_range_ops.proofs.Cited.{suc, ℕ, ◌≡◌, true, false, not, List, [], ◌∷◌, Option, Some, None, refl, ◌∙◌, ⊤, AllByRecursion, NodeName}
+use Rattle.dom_range_ops.proofs.Cited.{Observing, observed, making_room, placing, insert_plan, making_below, Change, Part, children_of, Step, make}
+use Rattle.dom_range_ops.proofs.Cited.{take_out, part_step, after, Node, kind_of, count-step, ◌≤◌, ◌+◌, ◌-◌, ◌++◌, drop, sym, ap, subst, arith, Kind}
+use Rattle.dom_range_ops.proofs.Cited.{Shadow, clone_part, next_name, replacing_data, Trees, node_in, has_data, is_shadow, is_inclusive_ancestor}
+use Rattle.dom_range_ops.proofs.Cited.{with_name, HasBounds, IsPart, ancestor-inside, inside-no_ancestor, times-has_node, node-new, insertion-keeps}
+use Rattle.dom_range_ops.proofs.Cited.{make-keeps, data-keeps, has_node-times, all-then, by_cases, next-absent, OldIn, old-may, old-still}
+use Rattle.dom_range_ops.proofs.Cited.{leads-making_below, Changed, MayGo, Leads, still, after-append, leads-then, leads-eased, leads-nothing}
+use Rattle.dom_range_ops.proofs.Cited.{leads-one, leads-inserting, new-there, new-may, leads-replacing_data, HasNode, Item, whole_item, cut_item}
+use Rattle.dom_range_ops.proofs.Cited.{clone_item, end_item, made_by, top_of, taking_item, clones_after, IsTaker, IsTaken, MayBeTaken, MayTake}
+use Rattle.dom_range_ops.proofs.Cited.{all-from, AreMoved, keeps-inserting, kept-after}
 
 -- the step makes no node
 abbrev MakesNone : Step → Type 0
 MakesNone (make n) = ⊥
 MakesNone s = ⊤
 
--- one such step, and some
+-- such a step
 count-one : (p : Part) (s : Step) → MakesNone s → (part_step p s).node_count ≡ p.node_count
 count-one p (make n) h = absurd h
 count-one p (take_out x) h = count-step p (take_out x) (λ m. m)
 count-one p s h = refl
 
-count-none : (p : Part) (steps : List Step) → AllByRecursion MakesNone steps → (after p steps).node_count ≡ p.node_count
-count-none p [] h = refl
-count-none p (s ∷ steps) h = count-none (part_step p s) steps h.1 ∙ count-one p s h.0
-
--- plans of such steps
-abbrev PlansNone : Plan → Type 0
-PlansNone f = (p : Part) → AllByRecursion MakesNone (f p)
-
-none-then : (f g : Plan) → PlansNone f → PlansNone g → PlansNone (f and_then g)
-none-then f g a b p = all-append MakesNone (f p) (g (after p (f p))) (a p) (b (after p (f p)))
-
-none-each : {A : Type 0} (f : A → Plan) → ((x : A) → PlansNone (f x)) → (xs : List A) → PlansNone (in_turn f xs)
-none-each f h [] p = tt
-none-each f h (x ∷ xs) p = all-append MakesNone (f x p) (in_turn f xs (after p (f x p))) (h x p) (none-each f h xs (after p (f x p)))
-
-none-if : (b : Bool) (steps more : List Step) → AllByRecursion MakesNone steps → AllByRecursion MakesNone more →
-    AllByRecursion MakesNone (if b then steps else more)
-none-if true steps more a c = a
-none-if false steps more a c = c
-
-none-map : {A : Type 0} (f : A → List Step) → ((x : A) → AllByRecursion MakesNone (f x)) → (o : Option A) → AllByRecursion MakesNone (option_map_or f o [])
-none-map f h None = tt
-none-map f h (Some x) = h x
-
-none-telling : (how : Observing) (c : Change NodeName) → AllByRecursion MakesNone (telling how c)
-none-telling observed c = (tt, tt)
-none-telling suppressed c = tt
-
-none-removing : (how : Observing) (x : NodeName) → PlansNone (remove_plan how x)
-none-removing how x p = none-map (removing_from how x p.trees) (λ parent. (tt, none-telling how _)) (parent_of p.trees x)
-
-none-adopting : (d x : NodeName) → PlansNone (adopt_plan d x)
-none-adopting d x = none-then (remove_plan observed x) (changing_document d x) (none-removing observed x)
-    (λ p. none-if (not (has_document p.trees d x)) (set_document x d ∷ []) [] (tt, tt) tt)
-
-none-placing : (parent : NodeName) (before : Option NodeName) (x : NodeName) → PlansNone (placing parent before x)
-none-placing parent before x p =
-    let d = document_below p.trees parent in
-    none-then (adopt_plan d x) (doing (place x parent before)) (none-adopting d x) (λ q. (tt, tt)) p
-
-none-emptying : (node : NodeName) (children : List NodeName) → PlansNone (emptying node children)
-none-emptying node children = none-then (in_turn (remove_plan suppressed) children) (doing (queue_record (child_list node [] children None None)))
-    (none-each (remove_plan suppressed) (none-removing suppressed) children) (λ p. (tt, tt))
-
-none-inserting_nodes : (how : Observing) (node : NodeName) (moved : List NodeName) (parent : NodeName) (before : Option NodeName) →
-    PlansNone (inserting_nodes how node moved parent before)
-none-inserting_nodes how node moved parent before p =
-    let told = child_list parent moved [] (sibling_before p.trees parent before) before in
-    let emptied : Plan = if is_fragment (kind_of p.trees node) then emptying node moved else steps_of [] in
-    let room = making_room parent before (length moved) in
-    let each = in_turn (placing parent before) moved in
-    none-then (emptied and_then room and_then each) (steps_of (telling how told))
-    (none-then (emptied and_then room) each
-    (none-then emptied room (empties (is_fragment (kind_of p.trees node)))
-    (λ q. none-map (λ child. make_room parent (index_of q.trees child) (length moved) ∷ []) (λ child. (tt, tt)) before))
-    (none-each (placing parent before) (none-placing parent before) moved)) (λ q. none-telling how told) p
-  where
-    empties : (b : Bool) → PlansNone (if b then emptying node moved else steps_of [])
-    empties true = none-emptying node moved
-    empties false = λ q. tt
-
-none-inserting : (how : Observing) (node parent : NodeName) (before : Option NodeName) → PlansNone (insert_plan how node parent before)
-none-inserting how node parent before p =
-    let moved = placed_nodes p.trees node in
-    none-if (is_empty moved) [] (inserting_nodes how node moved parent before p) tt (none-inserting_nodes how node moved parent before p)
+-- the steps that move nodes are such
+none-moved : (n : ℕ) → AreMoved (λ p. p.node_count ≡ n) MakesNone (λ x. ⊤) (λ x. ⊤)
+none-moved n = record {
+  step = λ p s h m. count-one p s m ∙ h;
+  placing = λ x parent before h. tt;
+  making_room = λ parent index count. tt;
+  taking_out = λ x. tt;
+  document = λ x d h. tt;
+  placed_set = λ x h. tt;
+  children_told = λ x added removed previous next. tt;
+  children = λ p h x. all-from (λ y. ⊤) (λ y. tt) (children_of p.trees x);
+}
 
 -- an insertion
 pub count-inserting : (how : Observing) (node parent : NodeName) (before : Option NodeName) (p : Part) →
     (after p (insert_plan how node parent before p)).node_count ≡ p.node_count
-count-inserting how node parent before p = count-none p (insert_plan how node parent before p) (none-inserting how node parent before p)
+count-inserting how node parent before p =
+    let moved = none-moved p.node_count in
+    kept-after moved p (insert_plan how node parent before p) refl (keeps-inserting moved how node parent before tt p refl)
 
 -- a new node below another one
 pub count-making_below : (into : NodeName) (n : Node) (p : Part) → (after p (making_below into n p)).node_count ≡ suc p.node_count
@@ -248,10 +195,8 @@ count-item top p end_item = omega arith
 
 -- of one item and of others
 pub made-more : (item : Item) (items : List Item) → made_by (item ∷ items) ≡ made_by (item ∷ []) + made_by items
-made-more (whole_item x) items = omega arith
 made-more (cut_item x from to) items = omega arith
-made-more (clone_item x) items = omega arith
-made-more end_item items = omega arith
+made-more item items = omega arith
 
 -- so the others may be taken then
 pub takes-on : {into : NodeName} {clones : List NodeName} {p : Part} {item : Item} {items : List Item} → IsPart p → into.number ≤ p.node_count →
@@ -271,9 +216,5 @@ takes-on {into} {clones} {p} {item} {items} i le m =
 
 -- a Text or a Comment is no shadow root
 pub data-no_shadow : (k : Kind) → has_data k ≡ true → is_shadow k ≡ false
-data-no_shadow Document h = refl
-data-no_shadow Fragment h = refl
 data-no_shadow Shadow h = sym h
-data-no_shadow Element h = refl
-data-no_shadow Text h = refl
-data-no_shadow Comment h = refl
+data-no_shadow k h = refl

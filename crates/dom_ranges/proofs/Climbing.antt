@@ -1,9 +1,8 @@
 -- Going up from keys' nodes in a forest, by their places.
-use Rattle.dom_ranges.proofs.Cited.{◌≡◌, ◌≢◌, ℕ, ◌+◌, ◌<◌, inr, inl, true, false, List, [], ◌∷◌, ◌++◌, length, Option, Some, None, refl, sym, ap, subst, ◌∙◌}
-use Rattle.dom_ranges.proofs.Cited.{arith, ◌||◌, append-nil, append_assoc, length-append, first_of, same_root, parent_of, index_of, inclusive_ancestors}
-use Rattle.dom_ranges.proofs.Cited.{is_inclusive_ancestor, name_eq, name_eq-other, NamedTrees, name_at, TellApart, above-along, In, In-from, is_in-from}
-use Rattle.dom_ranges.proofs.Cited.{above-parent, above-present, above-root, StandOnce, StandAlone, Once-forest, Has-forest, AreBeside, depth_at, is_inside}
-use Rattle.dom_ranges.proofs.Cited.{path_at, Reaches}
+use Rattle.dom_ranges.proofs.Cited.{◌≡◌, ◌≢◌, ℕ, ◌+◌, ◌<◌, inr, inl, true, List, [], ◌∷◌, ◌++◌, length, Option, Some, None, refl, sym, ap, subst, ◌∙◌}
+use Rattle.dom_ranges.proofs.Cited.{arith, append-nil, append_assoc, length-append, first_of, same_root, parent_of, index_of, inclusive_ancestors}
+use Rattle.dom_ranges.proofs.Cited.{is_inclusive_ancestor, NamedTrees, name_at, TellApart, above-along, In, In-from, is_in-from, above-parent}
+use Rattle.dom_ranges.proofs.Cited.{above-present, StandOnce, StandAlone, Once-forest, Has-forest, AreBeside, depth_at, path_at, Reaches}
 use Rattle.dom_model.proofs.Model.{is_in}
 use Rattle.dom_ranges.proofs.Places.{place-present, known, path-child, path-root, path-same, path-tree}
 
@@ -60,20 +59,6 @@ module _ (f : NamedTrees) (once : StandOnce f) (only : StandAlone f) where
         is_in-from (name_at f.names p) (inclusive_ancestors f.trees (name_at f.names x))
         (above-along f.trees (name_at f.names p) (name_at f.names k) (name_at f.names x) single (Has-forest f once x at_x) i
         (In-from (name_at f.names k) (inclusive_ancestors f.trees (name_at f.names x)) up))
-
-  -- a node that is not `top` is in the tree of `top` just if its parent is, and a root is not
-  module _ (distinct : TellApart f.names) (top k : ℕ) (top_is_node : top < length f.names) (node : k < length f.names) (other : k ≢ top) where
-    passes : name_eq (name_at f.names top) (name_at f.names k) ≡ false
-    passes = name_eq-other (name_at f.names top) (name_at f.names k) (λ same. other (distinct k top node top_is_node (sym same)))
-
-    pub inside-up : (p : ℕ) → Some (name_at f.names p) ≡ parent_of f.trees (name_at f.names k) → is_inside f top k ≡ is_inside f top p
-    inside-up p e =
-        let up = above-parent f.trees (name_at f.names k) (name_at f.names p) (Once-forest f once only) (Has-forest f once k node) (sym e) in
-        ap (is_in name_eq (name_at f.names top)) up.0 ∙ ap (λ b. b || is_inside f top p) passes
-
-    pub inside-root : None ≡ parent_of f.trees (name_at f.names k) → is_inside f top k ≡ false
-    inside-root e =
-        ap (is_in name_eq (name_at f.names top)) (above-root f.trees (name_at f.names k) (Has-forest f once k node) (sym e)) ∙ ap (λ b. b || false) passes
 
   -- a root is at the top
   pub depth-root : (k : ℕ) → k < length f.names → None ≡ parent_of f.trees (name_at f.names k) → depth_at f k ≡ 1

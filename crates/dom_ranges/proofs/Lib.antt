@@ -16,7 +16,6 @@ mod Listing
 mod Parts
 mod Moved
 pub mod OwnOrder
-mod Inside
 mod Siblings
 mod Leaving
 mod Staying

@@ -64,17 +64,6 @@ has_own o (tree n c r) have x own h = elim (cases_Bool (owner_eq n.name.owner o)
     behind rest other (inr (inl h)) = absurd (owner_eq-false n.name.owner o other (sym (has_owner n.name.owner c have.0 x h) ∙ own))
     behind rest other (inr (inr h)) = rest h
 
-pub has_all : (o : Owner) (ts : Trees) (x : NodeName) → Has (trees_of_owner o ts) x → Has ts x
-has_all o none x h = h
-has_all o (tree n c r) x h = by (has_all o r x) (owner_eq n.name.owner o) h
-  where
-    by : (Has (trees_of_owner o r) x → Has r x) → (t : Bool) → Has (cond t (tree n c (trees_of_owner o r)) (trees_of_owner o r)) x →
-        (n.name ≡ x) ⊎ (Has c x ⊎ Has r x)
-    by rest true (inl e) = inl e
-    by rest true (inr (inl h)) = inr (inl h)
-    by rest true (inr (inr h)) = inr (inr (rest h))
-    by rest false h = inr (inr (rest h))
-
 -- ---- the order
 
 abbrev odd : ℕ → ℕ

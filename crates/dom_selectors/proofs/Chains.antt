@@ -4,8 +4,8 @@ use Rattle.dom_selectors.proofs.Cited.{true≢false, ◌&&◌, option_to_list, l
 use Rattle.dom_selectors.proofs.Cited.{alone, joined, Combinator, descendant, child, next, later, CompoundPart, compound_matches, complex_matches}
 use Rattle.dom_selectors.proofs.Cited.{combined_with, elements_before, In, In-left, In-right, In-parts, Has, proper-parent, Once, last_compound, elements_to}
 use Rattle.dom_selectors.proofs.Cited.{only_left, IsSearched, MatchesAbove}
-use Rattle.dom_selectors.proofs.JoinedLaws.{or_none}
 use Rattle.dom_selectors.proofs.Earlier.{any-passes, passes-any, stands-matching, IsEarlier, earlier-in, nearest}
+use Rattle.dom_base.proofs.Std.{or-false}
 
 -- d at z answers for c at x, for c at the elements before x and for c above x
 pub record Leads (ts : Trees) (c : Complex) (x : NodeName) (d : Complex) (z : NodeName) : Type 0 where
@@ -45,7 +45,7 @@ matches-parts ts l how k x e = and_parts (compound_matches ts k x) _ e
 
 -- one node at most
 pub one-left : (p : NodeName → Bool) (o : Option NodeName) (y : NodeName) → o ≡ Some y → list_any p (option_to_list o) ≡ p y
-one-left p o y e = ap (λ q. list_any p (option_to_list q)) e ∙ or_none (p y)
+one-left p o y e = ap (λ q. list_any p (option_to_list q)) e ∙ or-false (p y)
 
 -- none
 pub none-left : (p : NodeName → Bool) (o : Option NodeName) → o ≡ None → list_any p (option_to_list o) ≡ false
@@ -59,7 +59,7 @@ record Left (p : NodeName → Bool) (o : Option NodeName) : Type 0 where
 
 left : (p : NodeName → Bool) (o : Option NodeName) → list_any p (option_to_list o) ≡ true → Left p o
 left p None e = absurd (true≢false (sym e))
-left p (Some y) e = record { node = y; is = refl; passes = sym (or_none (p y)) ∙ e }
+left p (Some y) e = record { node = y; is = refl; passes = sym (or-false (p y)) ∙ e }
 
 module _ (ts : Trees) (l : Complex) (k : List CompoundPart) (x : NodeName) (once : Once ts) (has : Has ts x) (hit : compound_matches ts k x ≡ true) where
   -- a step to the parent

@@ -33,7 +33,7 @@ pub use Rattle.dom_selectors.specs.Definitions.{IsPart, IsQuoted, IsSearched, Is
 pub use Rattle.dom_selectors.specs.Definitions.{last_compound, link_view, MatchesAbove, only_left, part_view, plain, SegmentEnds, SegmentIsAbove, selector_view}
 pub use Rattle.dom_selectors.specs.Definitions.{sibling_on, sign, simple_view, single, StopsAt}
 pub use Rattle.dom_selectors.specs.declared.above.Above.{Above}
-pub use Rattle.dom_selectors.specs.declared.selector.Combinator.TheVariants.{Child, Descendant, Later, Next}
+pub use Rattle.dom_selectors.specs.declared.selector.Combinator.TheVariants.{Descendant, Later}
 pub use Rattle.dom_selectors.specs.declared.selector.Link.{Link}
 pub use Rattle.dom_selectors.specs.declared.siblings.Side.{Side}
 pub use Rattle.dom_tree.proofs.AttributeValues.{text_same}

@@ -1,11 +1,11 @@
 -- What is in the grammar is read: tokens and simple selectors.
-use Rattle.dom_selectors.proofs.Cited.{◌≡◌, ℕ, Bool, true, false, [], ◌∷◌, ◌++◌, Option, Some, None, refl, ap, ◌∙◌, append_assoc, arith, ◌||◌, ◌==◌, option_map}
-use Rattle.dom_selectors.proofs.Cited.{take_while, codes, option_and_then, option_or, list_all, cond-true, cond-false, and_parts, eq-eqb, nat_tests}
-use Rattle.dom_selectors.proofs.Cited.{take_while-cons, Word, DomString, begins_name, continues_name, is_name, Simple, AttributeTest, is_space, of_type}
-use Rattle.dom_selectors.proofs.Cited.{of_any_type, of_id, of_class, with_value, first_child, last_child, equals, has_word, begins_with_dash, begins, ends}
-use Rattle.dom_selectors.proofs.Cited.{holds, drop_while, skip_space, read_map, expect, closed_by, read_name, may_stand_quoted, read_quoted, read_value}
-use Rattle.dom_selectors.proofs.Cited.{read_one_of, signs, read_test_of, read_test, read_attribute, read_simple, with_attribute, IsBracketed, IsTested}
-use Rattle.dom_selectors.proofs.Cited.{IsSpaces, IsValue, plain, double, single, sign, IsSimple}
+use Rattle.dom_selectors.proofs.Cited.{◌≡◌, ℕ, Bool, true, false, [], ◌∷◌, ◌++◌, Option, Some, None, refl, ap, ◌∙◌, append_assoc, arith, ◌||◌, ◌==◌}
+use Rattle.dom_selectors.proofs.Cited.{option_map, take_while, codes, option_and_then, option_or, list_all, cond-true, cond-false, and_parts, eq-eqb}
+use Rattle.dom_selectors.proofs.Cited.{nat_tests, take_while-cons, Word, DomString, begins_name, continues_name, is_name, Simple, AttributeTest}
+use Rattle.dom_selectors.proofs.Cited.{is_space, of_type, of_any_type, of_id, of_class, with_value, first_child, last_child, equals, begins, drop_while}
+use Rattle.dom_selectors.proofs.Cited.{skip_space, read_map, expect, closed_by, read_name, may_stand_quoted, read_quoted, read_value, read_one_of}
+use Rattle.dom_selectors.proofs.Cited.{signs, read_test_of, read_test, read_attribute, read_simple, with_attribute, IsBracketed, IsTested, IsSpaces}
+use Rattle.dom_selectors.proofs.Cited.{IsValue, plain, double, single, sign, IsSimple}
 use Rattle.dom_selectors.proofs.TokenLaws.{expect_at}
 
 -- whether the first unit passes
@@ -47,7 +47,7 @@ begins_not_quote : (c : ℕ) → begins_name c ≡ true → ((c == 34) || (c == 
 begins_not_quote c h = grind (arith, nat_tests)
 
 -- it does not go on with white space
-space_not_name : (c : ℕ) → is_space c ≡ true → continues_name c ≡ false
+pub space_not_name : (c : ℕ) → is_space c ≡ true → continues_name c ≡ false
 space_not_name c h = grind (arith, nat_tests)
 
 -- no name goes on with white space, or with what stands behind it
@@ -106,11 +106,7 @@ record Signed (t : AttributeTest) (rest : DomString) : Type 0 where
 
 signed : (t : AttributeTest) (rest : DomString) → Signed t rest
 signed equals rest = record { found = refl; apart = refl; off = refl }
-signed has_word rest = record { found = refl; apart = refl; off = refl }
-signed begins_with_dash rest = record { found = refl; apart = refl; off = refl }
-signed begins rest = record { found = refl; apart = refl; off = refl }
-signed ends rest = record { found = refl; apart = refl; off = refl }
-signed holds rest = record { found = refl; apart = refl; off = refl }
+signed t rest = record { found = refl; apart = refl; off = refl }
 
 -- what is read in brackets behind the name
 abbrev behind_name : Word × DomString → Option (Simple × DomString)

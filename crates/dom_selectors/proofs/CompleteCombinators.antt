@@ -7,8 +7,8 @@ use Rattle.dom_selectors.proofs.Cited.{read_compound, read_combinator, read_link
 use Rattle.dom_selectors.proofs.Cited.{IsCombinator, IsLink, IsComplex, IsSelector, combinator_signs, behind_list}
 use Rattle.dom_selectors.proofs.Shorter.{link-ends, next-ends}
 use Rattle.dom_selectors.proofs.Repeats.{all-one, all-none}
-use Rattle.dom_selectors.proofs.Complete.{head_passes, skip-read}
-use Rattle.dom_selectors.proofs.CompleteLists.{begins_sign, Off, Begins, space_not_name, space_not_part, spaces_off, each-ok, each-read, full-read, full-begins}
+use Rattle.dom_selectors.proofs.Complete.{head_passes, skip-read, space_not_name}
+use Rattle.dom_selectors.proofs.CompleteLists.{begins_sign, Off, Begins, space_not_part, spaces_off, each-ok, each-read, full-read, full-begins}
 
 -- the combinator at the front of units, which become these without white space
 abbrev combinator_at : DomString → DomString → Option (Combinator × DomString)

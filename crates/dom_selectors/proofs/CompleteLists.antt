@@ -8,7 +8,7 @@ use Rattle.dom_selectors.proofs.Cited.{with_attribute, Form, IsSpaces, IsSimple,
 use Rattle.dom_selectors.proofs.Shorter.{Shrinks, simple-ends, part-ends}
 use Rattle.dom_selectors.proofs.Repeats.{all-one, all-none}
 use Rattle.dom_selectors.proofs.FoundCompounds.{some_of}
-use Rattle.dom_selectors.proofs.Complete.{head_passes, skip-read, name-read, name-head, simple-read}
+use Rattle.dom_selectors.proofs.Complete.{head_passes, skip-read, name-read, name-head, simple-read, space_not_name}
 
 -- a unit with which a part begins: `#`, `.`, `[`, `:`
 abbrev begins_part : ℕ → Bool
@@ -45,9 +45,6 @@ part_not_sign c h = grind (arith, nat_tests)
 
 name_not_sign : (c : ℕ) → begins_name c ≡ true → begins_sign c ≡ false
 name_not_sign c h = grind (arith, nat_tests)
-
-pub space_not_name : (c : ℕ) → is_space c ≡ true → continues_name c ≡ false
-space_not_name c h = grind (arith, nat_tests)
 
 pub space_not_part : (c : ℕ) → is_space c ≡ true → begins_part c ≡ false
 space_not_part c h = grind (arith, nat_tests)
@@ -132,14 +129,7 @@ type-read (of_type name ∷ []) front rest h off none =
     (option_or (read_map of_type r) (read_one_of ((codes "*", of_any_type) ∷ []) (name ++ rest))) ([], name ++ rest) in
     ap (λ t. read_type (t ++ rest)) h.0 ∙ ap after (name-read name rest h.1 off)
 type-read (of_any_type ∷ []) front rest h off none = ap (λ t. read_type (t ++ rest)) h
-type-read (of_type name ∷ y ∷ ys) front rest h off none = absurd h
-type-read (of_any_type ∷ y ∷ ys) front rest h off none = absurd h
-type-read (of_id v ∷ ys) front rest h off none = absurd h
-type-read (of_class v ∷ ys) front rest h off none = absurd h
-type-read (with_attribute v ∷ ys) front rest h off none = absurd h
-type-read (with_value v t w ∷ ys) front rest h off none = absurd h
-type-read (first_child ∷ ys) front rest h off none = absurd h
-type-read (last_child ∷ ys) front rest h off none = absurd h
+type-read (x ∷ ys) front rest h off none = absurd h
 
 -- compounds of such parts
 module _ {A : Type 0} (part : Simple → A) (form : Form A) (read : Reader A) (shrinks : Shrinks read)
@@ -199,14 +189,7 @@ module _ {A : Type 0} (part : Simple → A) (form : Form A) (read : Reader A) (s
           subst (λ f. Begins (f ++ (h.back ++ rest))) (sym t) (of_head (h.back ++ rest) head)
       at (of_type name ∷ []) front t joined = subst (λ f. Begins (f ++ (h.back ++ rest))) (sym t.0) (of_name name (h.back ++ rest) t.1)
       at (of_any_type ∷ []) front t joined = subst (λ f. Begins (f ++ (h.back ++ rest))) (sym t) (record { space = refl; sign = refl })
-      at (of_type name ∷ y ∷ ys) front t joined = absurd t
-      at (of_any_type ∷ y ∷ ys) front t joined = absurd t
-      at (of_id v ∷ ys) front t joined = absurd t
-      at (of_class v ∷ ys) front t joined = absurd t
-      at (with_attribute v ∷ ys) front t joined = absurd t
-      at (with_value v s w ∷ ys) front t joined = absurd t
-      at (first_child ∷ ys) front t joined = absurd t
-      at (last_child ∷ ys) front t joined = absurd t
+      at (x ∷ ys) front t joined = absurd t
 
 -- a compound without `:not`
 simples-read : (text : DomString) (ss : List Simple) (rest : DomString) → IsCompoundOf (λ s. s) IsSimple text ss → Off rest →

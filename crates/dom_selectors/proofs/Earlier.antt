@@ -7,7 +7,8 @@ use Rattle.dom_selectors.proofs.Cited.{compound_matches, elements_before, Compou
 use Rattle.dom_selectors.proofs.Cited.{filter-yes, filter-no, Has, has_or_not, Has-above, above-proper, proper-parent, Once, Has-names, above-split, StandOnce}
 use Rattle.dom_selectors.proofs.Cited.{StandAlone, Once-forest, Has-forest, elements_to}
 use Rattle.dom_selectors.proofs.Beside.{before_list, before-at}
-use Rattle.dom_selectors.proofs.JoinedLaws.{from_above, above-parent, or_none}
+use Rattle.dom_selectors.proofs.JoinedLaws.{from_above, above-parent}
+use Rattle.dom_base.proofs.Std.{or-false}
 
 -- ---- tests of some member
 
@@ -204,4 +205,4 @@ earlier_passed {k} {at = at} f p o is miss e =
     let front = elements_before f.trees (name_at f.names k) in
     ap (list_any p) (sym e)
     ∙ sym (ap (λ o'. list_any p (elements_upto f.trees (option_map (name_at f.names) o'))) is
-    ∙ (list_any-append p front (name_at f.names k ∷ []) ∙ (ap (λ b. list_any p front || (b || false)) miss ∙ or_none (list_any p front))))
+    ∙ (list_any-append p front (name_at f.names k ∷ []) ∙ (ap (λ b. list_any p front || (b || false)) miss ∙ or-false (list_any p front))))

@@ -1,8 +1,8 @@
 -- Complex selectors seen from the right, and the ancestors of a node one after another.
-use Rattle.dom_selectors.proofs.Cited.{◌≡◌, ℕ, suc, ◌<◌, Bool, true, false, List, [], ◌∷◌, ◌++◌, length, Option, Some, None, refl, ap, sym, ◌∙◌, arith, ◌||◌}
+use Rattle.dom_selectors.proofs.Cited.{◌≡◌, ℕ, suc, ◌<◌, Bool, false, List, [], ◌∷◌, ◌++◌, length, Option, Some, None, refl, ap, sym, ◌∙◌, arith, ◌||◌}
 use Rattle.dom_selectors.proofs.Cited.{map, fold, list_any, option_map, map-append, fold-append, drop, NodeName, alone, joined, link, Trees, ancestors}
-use Rattle.dom_selectors.proofs.Cited.{parent_of, NamedTrees, name_at, Link, compound_view, combinator_view, link_view, complex_from, StandOnce, StandAlone}
-use Rattle.dom_selectors.proofs.Cited.{Once-forest, Has-forest, Has, above-root, proper-parent, Once}
+use Rattle.dom_selectors.proofs.Cited.{parent_of, NamedTrees, name_at, Link, compound_view, combinator_view, link_view, complex_from, StandOnce}
+use Rattle.dom_selectors.proofs.Cited.{StandAlone, Once-forest, Has-forest, Has, above-root, proper-parent, Once}
 use Rattle.dom_selectors.specs.declared.selector.CompoundPart.{CompoundPart}
 
 -- a last link is the outermost
@@ -56,8 +56,3 @@ above_miss {k} {at = at} f p o is h e =
     ap (list_any p) (sym e)
     ∙ sym (ap (λ o'. list_any p (from_above f.trees (option_map (name_at f.names) o'))) is ∙
     ap (λ b. b || list_any p (ancestors f.trees (name_at f.names k))) h)
-
--- or not at all
-pub or_none : (b : Bool) → (b || false) ≡ b
-or_none true = refl
-or_none false = refl

@@ -55,9 +55,7 @@ stop-above ts (joined l descendant k) z stops w =
     ∙ (ap (list_any (complex_matches ts l)) w.above
     ∙ (list_any-append (complex_matches ts l) w.front (ancestors ts w.node)
     ∙ or_right (list_any (complex_matches ts l) w.front) _ (matches-parts ts l descendant k w.node w.matches).1))
-stop-above ts (joined l child k) z stops w = absurd stops.0
-stop-above ts (joined l next k) z stops w = absurd stops.0
-stop-above ts (joined l later k) z stops w = absurd stops.0
+stop-above ts (joined l how k) z stops w = absurd stops.0
 
 -- ---- chains
 
@@ -153,15 +151,11 @@ pub goes-above : {ts : Trees} {d l e : Complex} {how : Combinator} {k : List Com
     SegmentIsAbove ts l y e z → complex_matches ts d y ≡ complex_matches ts e z
 goes-above {ts} {l} {how = descendant} {k} {y} is stops v =
     ap (λ b. complex_matches ts b y) is ∙ (combined ts l descendant k y (subst (λ b. StopsAt IsDescendant ts b y) is stops).1 ∙ v.same)
-goes-above {ts} {how = child} {y} is stops v = absurd (subst (λ b. StopsAt IsDescendant ts b y) is stops).0
-goes-above {ts} {how = next} {y} is stops v = absurd (subst (λ b. StopsAt IsDescendant ts b y) is stops).0
-goes-above {ts} {how = later} {y} is stops v = absurd (subst (λ b. StopsAt IsDescendant ts b y) is stops).0
+goes-above {ts} {how} {y} is stops v = absurd (subst (λ b. StopsAt IsDescendant ts b y) is stops).0
 
 -- where there is none, nothing matches
 pub none-above : {d l : Complex} {how : Combinator} {k : List CompoundPart} (ts : Trees) (y : NodeName) → d ≡ joined l how k → StopsAt IsDescendant ts d y →
     list_any (complex_matches ts l) (ancestors ts y) ≡ false → complex_matches ts d y ≡ false
 none-above {l} {how = descendant} {k} ts y is stops e =
     ap (λ b. complex_matches ts b y) is ∙ (combined ts l descendant k y (subst (λ b. StopsAt IsDescendant ts b y) is stops).1 ∙ e)
-none-above {how = child} ts y is stops e = absurd (subst (λ b. StopsAt IsDescendant ts b y) is stops).0
-none-above {how = next} ts y is stops e = absurd (subst (λ b. StopsAt IsDescendant ts b y) is stops).0
-none-above {how = later} ts y is stops e = absurd (subst (λ b. StopsAt IsDescendant ts b y) is stops).0
+none-above {how} ts y is stops e = absurd (subst (λ b. StopsAt IsDescendant ts b y) is stops).0

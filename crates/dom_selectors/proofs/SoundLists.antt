@@ -109,9 +109,7 @@ Bare text later = text ≡ codes "~"
 -- with white space around it, it is a combinator
 of_bare : (text said : DomString) (how : Combinator) → Bare said how → IsSpaced text said → IsCombinator text how
 of_bare text said descendant h s = absurd h
-of_bare text said child h s = subst (IsSpaced text) h s
-of_bare text said next h s = subst (IsSpaced text) h s
-of_bare text said later h s = subst (IsSpaced text) h s
+of_bare text said how h s = subst (IsSpaced text) h s
 
 -- a front is not empty where less stands behind it
 not_empty : (front back cs : DomString) → cs ≡ front ++ back → length back < length cs → is_empty front ≡ false

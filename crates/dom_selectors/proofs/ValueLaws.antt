@@ -33,13 +33,12 @@ among word (Some cs) = list_any (text_eq word) (words_from [] cs)
 
 -- nothing is left of a word behind itself alone
 done : (front word : DomString) → text_eq word front ≡ begins (left_of front word) []
-done [] [] = refl
-done [] (x ∷ xs) = refl
-done (c ∷ cs) [] = refl
 done (c ∷ cs) (x ∷ xs) = elim (x == c) as (λ b. (b && text_eq xs cs) ≡ begins (if b then left_of cs xs else None) []) [
   | true ↦ done cs xs
   | false ↦ refl
 ]
+done [] (x ∷ xs) = refl
+done front word = refl
 
 -- what is left behind one unit more
 abbrev left_behind : Option DomString → ℕ → Option DomString

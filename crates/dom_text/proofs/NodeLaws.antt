@@ -9,8 +9,9 @@ use Rattle.dom_text.specs.Definitions.{node, ◌>>=◌, at_end, number_of, behin
 use Rattle.dom_text.specs.Definitions.{node_word_of, only_if, positive_of, between_dots, path_onto}
 use Rattle.dom_text.proofs.WordLaws.{bind_then, some_is, at_end_some, run, behind_run, run_sound, run_complete, chosen, only_if_some, each_from, Passes}
 use Rattle.dom_text.proofs.PartLaws.{SaysPart}
-use Rattle.dom_text.proofs.NumberLaws.{number_sound, number_complete, IsNumber-word_bytes, word_from, longer_word, behind_sound, positive_of_sound}
+use Rattle.dom_text.proofs.NumberLaws.{number_sound, number_complete, IsNumber-word_bytes, word_from, behind_sound, positive_of_sound}
 use Rattle.dom_text.proofs.NumberLaws.{positive_of_complete, IsPositive-bytes, each-append}
+use Rattle.dom_text.proofs.NameLaws.{word_append}
 
 -- ---- paths by their numbers
 
@@ -241,8 +242,8 @@ numbered_word letter l n w h = rw (h.2) (word_from letter h.0 l (IsNumber-word_b
 full_name_word : (w : List ℕ) → IsFullName w → IsWord w
 full_name_word w h =
     let middle : AllByRecursion IsWordByte (codes ":m") = ((omega arith, omega arith), ((omega arith, omega arith), tt)) in
-    let front = longer_word h.2 (codes ":m") (component_is_word h.0 h.2 h.4) middle in
-    rw (h.6) (longer_word (h.2 ++ codes ":m") h.3 front (IsNumber-word_bytes h.1 h.3 h.5))
+    let front = word_append h.2 (codes ":m") (component_is_word h.0 h.2 h.4) middle in
+    rw (h.6) (word_append (h.2 ++ codes ":m") h.3 front (IsNumber-word_bytes h.1 h.3 h.5))
 
 node_word : (o : Owner) (w : List ℕ) (s : NodeWord) → IsNode o s w → IsWord w
 node_word Page w (own n) h = numbered_word 110 (omega arith, omega arith) n w h

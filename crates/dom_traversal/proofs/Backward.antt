@@ -6,7 +6,7 @@ use Rattle.dom_traversal.proofs.Cited.{answer_at, below, below-from_above, child
 use Rattle.dom_traversal.proofs.Cited.{In-left, In-names, In-not, In-parts, In-right, inclusive_ancestors, inclusive_descendants, is_in, is_in-from, is_in-not}
 use Rattle.dom_traversal.proofs.Cited.{is_inclusive_ancestor, is_reject, IsWithin, IsWithin-key, joined, last-hit, last-miss, last_child, last_of, last_split}
 use Rattle.dom_traversal.proofs.Cited.{name_at, name_eq, NamedTrees, no_first, no_last_child, no_previous, NodeName, not_before, parent-of_child, parent_of}
-use Rattle.dom_traversal.proofs.Cited.{previous_places, previous_sibling, proper-parent, Reject, rejects, Skip, StandAlone, StandOnce, stands_in, StandsIn}
+use Rattle.dom_traversal.proofs.Cited.{previous_places, previous_sibling, proper-parent, rejects, Skip, StandAlone, StandOnce, stands_in, StandsIn}
 use Rattle.dom_traversal.proofs.Cited.{subtree, top_places, Trees, up_to_node, up_to_tree, Verdict, Walker, walker_nodes, within-parent, within-root}
 use Rattle.dom_traversal.proofs.Cited.{within-top, ComesBack, entered_by, is_entered, is_passable, KeyedWalker, walker_view}
 use Rattle.dom_traversal.proofs.Climbing.{IsInner, inner-within}
@@ -155,9 +155,8 @@ entered-through : (ts : Trees) (filter : Filter) (x : NodeName) → rejects ts f
 entered-through ts filter x = by (answer_at ts filter x)
   where
     by : (o : Option Verdict) → is_reject o ≡ not (entered_by true o)
-    by None = refl
     by (Some Skip) = refl
-    by (Some Reject) = refl
+    by o = refl
 
 -- where a search backward is, by its key
 pub Returns-key : (f : NamedTrees) → StandOnce f → StandAlone f → (w : KeyedWalker) (k : ℕ) → ComesBack f w k →

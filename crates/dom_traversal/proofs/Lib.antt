@@ -20,5 +20,4 @@ pub mod Items
 mod Standing
 mod Listing
 mod Leaving
-mod Inside
 pub mod Owners

@@ -78,11 +78,6 @@ module _ (q : Inside) {all : AllCursors} (old : AllCursors) (o : Owner) (view : 
       cursors_of r.tables.entries ≡ with_cursors (cursors_of old) o t
   written-kept r t at = written q r o t view at ∙ ap (λ each. with_cursors each o t) keeps
 
--- what is not there
-pub none_from : {X : Type 0} (o : Option X) → is_some o ≡ false → o ≡ None
-none_from None e = refl
-none_from (Some x) e = cc
-
 -- want of memory is no limit
 pub not_limit : (r : Result ℕ Fault) → IsErrAnd r (λ f. f ≡ Memory) → r ≡ Err (Refused Limit) → ⊥
 not_limit (Ok k) h e = cc

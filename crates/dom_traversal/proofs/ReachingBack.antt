@@ -5,7 +5,7 @@ use Rattle.dom_traversal.proofs.Cited.{and_from, and_parts, or_from, or_left, fa
 use Rattle.dom_traversal.proofs.Cited.{above-within, accepts, ahead_of, ancestors, answer_at, below, below-from_above, Filter, filter-no, filter-none, Has}
 use Rattle.dom_traversal.proofs.Cited.{Has-forest, here, In, In-left, In-names, In-parts, In-right, inclusive_ancestors, inclusive_descendants, is_in-from}
 use Rattle.dom_traversal.proofs.Cited.{is_in-not, is_inclusive_ancestor, is_skip, IsWithin, last_of, last_of-end, name_at, name_eq, name_eq-other, NamedTrees}
-use Rattle.dom_traversal.proofs.Cited.{NodeName, Reject, Single, Single-apart, Skip, skips, StandAlone, StandOnce, StandsBelow, subtree, Trees, up_to_tree}
+use Rattle.dom_traversal.proofs.Cited.{NodeName, Single, Single-apart, Skip, skips, StandAlone, StandOnce, StandsBelow, subtree, Trees, up_to_tree}
 use Rattle.dom_traversal.proofs.Cited.{Verdict, Walker, BeginsBackward, entered_by, is_accepted_but, is_candidate, is_entered, is_opened, is_reached, is_stop}
 use Rattle.dom_traversal.proofs.Cited.{KeyedWalker, StepsBehind, stop_above, walker_view}
 use Rattle.dom_traversal.proofs.Opening.{hidden, all-from, all-at, not_around}
@@ -34,9 +34,8 @@ entered-skips : (ts : Trees) (f : Filter) (x : NodeName) → is_entered ts f fal
 entered-skips ts f x = by (answer_at ts f x)
   where
     by : (o : Option Verdict) → entered_by false o ≡ is_skip o
-    by None = refl
     by (Some Skip) = refl
-    by (Some Reject) = refl
+    by o = refl
 
 -- a skipped node is not accepted
 skips-accepts : (ts : Trees) (f : Filter) (x : NodeName) → skips ts f x ≡ true → accepts ts f x ≡ false

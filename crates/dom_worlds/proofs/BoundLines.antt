@@ -1,10 +1,10 @@
 -- Commands and lines keep the ends of ranges within their nodes.
-use Rattle.dom_base.proofs.Std.{◌≡◌, ℕ, ◌+◌, Bool, true, false, not, ◌&&◌, List, [], ◌∷◌, filter, drop, Option, Some, None, option_map, refl, sym, arith, subst}
-use Rattle.dom_base.proofs.Std.{⊤, AllByRecursion, option_map_or, and_parts, not-false, ltb-false}
-use Rattle.dom_model.proofs.Model.{NodeName, Hierarchy, IndexSize, observed, Command, part_refusal, effect, named, past_end, Effect, tables, changes, answers}
-use Rattle.dom_model.proofs.Model.{sets_walker, with_range, collapsed_to, both_at, name_eq, Value, nothing, Part, first_node, range_at, Boundary, same_root}
-use Rattle.dom_model.proofs.Model.{is_before, Range, at, from_to, with_start, with_end, after, Walker, Trees, Node, kind_of, has_data, is_text, child_nodes}
-use Rattle.dom_model.proofs.Model.{length_of, first_refusal, has_parent, may_be_parent, placing_tests, pre_insert_refusal, replace_refusal, parent-open}
+use Rattle.dom_base.proofs.Std.{◌≡◌, ℕ, ◌+◌, Bool, true, false, not, ◌&&◌, [], ◌∷◌, Option, Some, None, option_map, refl, sym, arith, subst, ⊤}
+use Rattle.dom_base.proofs.Std.{AllByRecursion, option_map_or, and_parts, ltb-false}
+use Rattle.dom_model.proofs.Model.{NodeName, IndexSize, observed, Command, part_refusal, effect, named, past_end, Effect, tables, changes, answers}
+use Rattle.dom_model.proofs.Model.{sets_walker, with_range, collapsed_to, both_at, Value, nothing, Part, first_node, range_at, Boundary, same_root}
+use Rattle.dom_model.proofs.Model.{is_before, Range, at, from_to, with_start, with_end, after, Walker, Trees, Node, kind_of, has_data, is_text}
+use Rattle.dom_model.proofs.Model.{length_of, first_refusal}
 use Rattle.dom_worlds.specs.Definitions.{IsPart}
 use Rattle.dom_worlds.proofs.Effects.{next-test, part-accepted, some-effect}
 use Rattle.dom_worlds.proofs.Bounds.{Under, RangeUnder, reach, nowhere, HasRoom, room-make}
@@ -13,28 +13,12 @@ use Rattle.dom_worlds.proofs.RangeBounds.{room-removing, room-adopting, room-ins
 use Rattle.dom_worlds.proofs.RangeBounds.{room-replacing_data}
 use Rattle.dom_worlds.proofs.TableCommands.{append-may, exists-first, insert-may, replace-may}
 use Rattle.dom_worlds.proofs.TextBounds.{text-data, room-splitting, room-normalizing, room-setting_text}
+use Rattle.dom_worlds.proofs.Placings.{insertion-tested, replacement-tested}
 
 -- what an effect leaves
 abbrev pub Roomy : Part → Effect → Type 0
 Roomy p (tables q lines v) = HasRoom nowhere q
 Roomy p (changes steps v) = HasRoom nowhere (after p steps)
-
--- by the first of the tests
-tested-open : (ts : Trees) (parent node : NodeName) (is_lost : Bool) (others : List Node) →
-    first_refusal (placing_tests ts parent node is_lost others) ≡ None → has_data (kind_of ts parent) ≡ false
-tested-open ts parent node is_lost others h =
-    parent-open (kind_of ts parent) (not-false (may_be_parent (kind_of ts parent))
-    (next-test (not (may_be_parent (kind_of ts parent))) Hierarchy (drop 1 (placing_tests ts parent node is_lost others)) h).0)
-
--- of an insertion
-pub insertion-open : (ts : Trees) (parent node : NodeName) (child : Option NodeName) → pre_insert_refusal ts parent node child ≡ None →
-    has_data (kind_of ts parent) ≡ false
-insertion-open ts parent node child h = tested-open ts parent node (option_map_or (λ c. not (has_parent ts parent c)) child false) (child_nodes ts parent) h
-
--- of a replacement
-replacement-open : (ts : Trees) (parent node child : NodeName) → replace_refusal ts parent node child ≡ None → has_data (kind_of ts parent) ≡ false
-replacement-open ts parent node child h =
-    tested-open ts parent node (not (has_parent ts parent child)) (filter (λ (n : Node). not (name_eq n.name child)) (child_nodes ts parent)) h
 
 -- the first node that a command names fits
 fits-first : (b rest : Bool) → (b && rest) ≡ true → b ≡ true
@@ -110,22 +94,21 @@ room-effect p i h (Command.append a x) r s =
     room-inserting observed None (record { part = i; room = h })
     (record {
       go = append-may i a x k;
-      open_parent = insertion-open p.trees (named p a) (named p x) None k.own;
+      open_parent = (insertion-tested p.trees (named p a) (named p x) None k.own).opened;
     })
 room-effect p i h (Command.insert a x c) r s =
     let k = part-accepted p (Command.insert a x c) r in
     room-inserting observed _ (record { part = i; room = h })
     (record {
       go = insert-may i a x c k;
-      open_parent =
-          insertion-open p.trees (named p a) (named p x) (Some (named p c)) k.own;
+      open_parent = (insertion-tested p.trees (named p a) (named p x) (Some (named p c)) k.own).opened;
     })
 room-effect p i h (Command.replace a x c) r s =
     let k = part-accepted p (Command.replace a x c) r in
     room-replacing (named p c) (record { part = i; room = h })
     (record {
       go = replace-may i a x c k;
-      open_parent = replacement-open p.trees (named p a) (named p x) (named p c) k.own;
+      open_parent = (replacement-tested p.trees (named p a) (named p x) (named p c) k.own).opened;
     })
 room-effect p i h (Command.set_data x t) r s =
     let k = part-accepted p (Command.set_data x t) r in

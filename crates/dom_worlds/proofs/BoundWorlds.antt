@@ -15,7 +15,7 @@ use Rattle.dom_worlds.proofs.TableLines.{framed-of, visits-keep, whole-framed}
 use Rattle.dom_worlds.proofs.Turns.{at_end, told_in}
 use Rattle.dom_worlds.proofs.Reached.{reached-of, first-is_reached, IsSound, sound-keeps, sound-of}
 use Rattle.dom_worlds.proofs.Effects.{part-accepted, KeepsBase, base-effect, range-steps}
-use Rattle.dom_worlds.proofs.BoundLines.{Roomy, ForRanges, room-effect, room-same, under-at, insertion-open}
+use Rattle.dom_worlds.proofs.BoundLines.{Roomy, ForRanges, room-effect, room-same, under-at}
 use Rattle.dom_worlds.proofs.Bounds.{RangeUnder, reach, nowhere, HasRoom, room-document}
 use Rattle.dom_worlds.proofs.ChildCounts.{kids}
 use Rattle.dom_worlds.proofs.KeptOffsets.{room-of, bounds-of, takes}
@@ -32,6 +32,7 @@ use Rattle.dom_worlds.proofs.Lists.{by_cases, kept-fold}
 use Rattle.dom_worlds.proofs.Invariants.{Any, Keeps, KeepsTurns, both-keep, both-turns, kept-ending_other, kept-ending_turn, kept-finish, kept-lines, kept-step}
 use Rattle.dom_worlds.proofs.StepKeeps.{OkFor, any-line}
 use Rattle.dom_worlds.proofs.WorldSteps.{kept-world_step}
+use Rattle.dom_worlds.proofs.Placings.{insertion-tested}
 
 -- of a part
 pub one_roots-of : (p : Part) → HasTables p → HasOneRoots p
@@ -196,8 +197,8 @@ for-ranges p i t (Command.insert_node k x) n = λ h.
     room-inserting_into_range k r (record { part = i; room = h }) (range-ends p k t r e).0
     (record {
       go = insert_node-may i t a e;
-      open_parent = insertion-open p.trees parent node
-          (start_reference p.trees r) (not_taken (cannot_take_node p.trees r node) refused valid);
+      open_parent = (insertion-tested p.trees parent node (start_reference p.trees r)
+          (not_taken (cannot_take_node p.trees r node) refused valid)).opened;
     })
     (takes (cannot_take_node p.trees r node) refused valid))
 for-ranges p i t c n = tt

@@ -2,8 +2,8 @@
 -- tree stays.
 use Rattle.dom_base.proofs.Std.{◌≡◌, ◌+◌, ◌≤◌, true, false, List, [], ◌∷◌, ◌++◌, Option, refl, sym, ap, ◌∙◌, arith, true≢false, subst, ◌||◌, AllByRecursion}
 use Rattle.dom_base.proofs.Std.{cond-true, cond-false}
-use Rattle.dom_model.proofs.Model.{NodeName, name_eq, is_in, items_before, Trees, none, tree, Node, nodes, names_of, roots, subtree, or_else, trees_below}
-use Rattle.dom_model.proofs.Model.{inclusive_ancestors, times_in, inclusive_descendants, is_inclusive_ancestor, on_top, without, put_before, put_below, placed}
+use Rattle.dom_model.proofs.Model.{NodeName, name_eq, is_in, items_before, Trees, none, tree, Node, nodes, names_of, roots, subtree, or_else}
+use Rattle.dom_model.proofs.Model.{trees_below, inclusive_ancestors, times_in, is_inclusive_ancestor, on_top, without, put_before, put_below, placed}
 use Rattle.dom_model.proofs.Model.{with_node, name_eq-same, name_eq-turned, name_eq-true}
 use Rattle.dom_worlds.proofs.Lists.{all-then, all-append, by_cases, or-later}
 use Rattle.dom_laws.proofs.Laws.{Once, by_times, times-here, times-elsewhere, times-more, times-parts, once_parts, subtree_gone, path_none}
@@ -267,20 +267,3 @@ before-apart (tree n c r) x u =
             (let h1 = h.1 in let i = inside-elsewhere n c r x y other in let b = inside-absent c x y gone in omega arith),
           )) (items_before name_eq x (names_of (nodes r))) (before-apart r x parts.after)))),
     ))
-
--- The nodes of a tree begin with its root.
-pub descend-begins : (ts : Trees) (a : NodeName) → 1 ≤ times_in ts a → (rest : List NodeName) × (inclusive_descendants ts a ≡ a ∷ rest)
-descend-begins none a h = absurd (omega arith)
-descend-begins (tree n c r) a h =
-    by_cases (name_eq n.name a)
-    (λ e. (names_of (nodes c ++ []), ap (λ t. names_of (nodes t)) (subtree-here n c r a e) ∙ ap (λ y. y ∷ names_of (nodes c ++ [])) (name_eq-true n.name a e)))
-    (λ e. let g = times-elsewhere n c r a e in
-    by_times (times_in c a)
-    (λ z. let at = descend-begins r a (omega arith) in
-    (at.0, ap (λ t. names_of (nodes t)) (subtree-elsewhere n c r a e ∙ ap (λ t. or_else t (subtree r a)) (subtree_gone c a z)) ∙ at.1))
-    (λ z. let at = descend-begins c a z in (at.0, first-of (subtree c a) (subtree r a) a at.0 (subtree-elsewhere n c r a e) at.1)))
-  where
-    first-of : (s t : Trees) (a : NodeName) (rest : List NodeName) → subtree (tree n c r) a ≡ or_else s t → names_of (nodes s) ≡ a ∷ rest →
-        names_of (nodes (subtree (tree n c r) a)) ≡ a ∷ rest
-    first-of none t a rest e h = cc
-    first-of (tree m d q) t a rest e h = ap (λ t. names_of (nodes t)) e ∙ h

@@ -175,7 +175,7 @@ range-makes May p k f h =
     (λ e. subst (λ o. AllByRecursion May (option_map_or f o [])) (sym e) tt)
     (λ range e. subst (λ o. AllByRecursion May (option_map_or f o [])) (sym e) (h range e))
 
-module _ {Inv : Part → Type 0} {May : Step → Type 0} {MayPlace : NodeName → Type 0} (rules : IsKept Inv May MayPlace) where
+module _ {Inv : Part → Type 0} {May : Step → Type 0} {MayPlace : NodeName → Type 0} (rules : IsKept Inv May MayPlace (λ x. ⊤)) where
   -- every command
   pub made-effect : (p : Part) → Inv p → (c : Command) → MayDo May MayPlace p c → Makes May (effect p c)
   made-effect p i (Command.set_attribute a b c) h = keeps-setting_attribute rules (named p a) b c h.0 h.1 p i
@@ -186,10 +186,10 @@ module _ {Inv : Part → Type 0} {May : Step → Type 0} {MayPlace : NodeName �
       range-makes May p a (λ range. inserting_into_range a range (named p b) p)
       (λ range e. keeps-inserting_into_range rules a range (named p b) (h range e) p i)
   made-effect p i c h = search (
-    keeps-pre_inserting,
-    keeps-replacing,
-    keeps-removing,
-    keeps-adopting,
+    keeps-pre_inserting rules.moves,
+    keeps-replacing rules.moves,
+    keeps-removing rules.moves,
+    λ (d x : NodeName). keeps-adopting rules.moves d x tt,
     keeps-normalizing,
     keeps-splitting,
     keeps-setting_text,

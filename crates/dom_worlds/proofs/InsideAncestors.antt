@@ -1,10 +1,10 @@
 -- Which nodes stand in the tree of another one, by ancestors, children and counts.
 use Rattle.dom_base.proofs.Std.{◌≡◌, ◌≤◌, true, false, List, [], ◌∷◌, ◌++◌, Some, None, refl, sym, ap, ◌∙◌, arith, true≢false, subst, drop, ◌||◌}
-use Rattle.dom_base.proofs.Std.{AllByRecursion, cond-true, cond-false}
+use Rattle.dom_base.proofs.Std.{AllByRecursion, cond-true, cond-false, or_right, or_left}
 use Rattle.dom_model.proofs.Model.{NodeName, name_eq, is_in, first_of, Trees, none, tree, Node, nodes, names_of, roots, has_node, subtree, or_else, trees_below}
 use Rattle.dom_model.proofs.Model.{children_of, times_in, inclusive_ancestors, is_inclusive_ancestor, on_top, parent_of, name_eq-same, name_eq-turned}
 use Rattle.dom_model.proofs.Model.{name_eq-true}
-use Rattle.dom_worlds.proofs.Lists.{all-then, by_cases, or-first, or-second, or-later}
+use Rattle.dom_worlds.proofs.Lists.{all-then, by_cases, or-later}
 use Rattle.dom_laws.proofs.Laws.{Once, by_times, times-here, times-elsewhere, times-more, times-parts, times_subtree, once_parts, subtree_gone, path_none}
 use Rattle.dom_worlds.proofs.Trees.{ancestors-present, ancestors-there}
 use Rattle.dom_worlds.proofs.TreeChangeLaws.{subtree-here, subtree-elsewhere, HasRoot, root-first, root-second, times-below}
@@ -26,7 +26,7 @@ not_in-front x [] ys h = refl
 not_in-front x (y ∷ xs) ys h =
     by_cases (is_in name_eq x (y ∷ xs))
     (λ e. absurd (by_cases (name_eq x y)
-    (λ f. true≢false (sym (or-first (name_eq x y) (is_in name_eq x (xs ++ ys)) f) ∙ h))
+    (λ f. true≢false (sym (or_left (name_eq x y) (is_in name_eq x (xs ++ ys)) f) ∙ h))
     (λ f. true≢false (sym (or-later (name_eq x y) (is_in name_eq x xs) f e) ∙ not_in-front x xs ys (not-second (name_eq x y) (is_in name_eq x (xs ++ ys)) h)))))
     (λ e. e)
 
@@ -137,14 +137,14 @@ child-there ts x y e = by_times (times_in ts x) (λ z. absurd (second-none (incl
 -- A node that is counted is a node: a name behind other nodes
 pub in-later : (x : NodeName) (ns ms : List Node) → is_in name_eq x (names_of ms) ≡ true → is_in name_eq x (names_of (ns ++ ms)) ≡ true
 in-later x [] ms h = h
-in-later x (n ∷ ns) ms h = or-second (name_eq x n.name) (is_in name_eq x (names_of (ns ++ ms))) (in-later x ns ms h)
+in-later x (n ∷ ns) ms h = or_right (name_eq x n.name) (is_in name_eq x (names_of (ns ++ ms))) (in-later x ns ms h)
 
 -- a name in front of other nodes
 in-front : (x : NodeName) (ns ms : List Node) → is_in name_eq x (names_of ns) ≡ true → is_in name_eq x (names_of (ns ++ ms)) ≡ true
 in-front x [] ms h = absurd (true≢false (sym h))
 in-front x (n ∷ ns) ms h =
-    by_cases (name_eq x n.name) (λ e. or-first (name_eq x n.name) (is_in name_eq x (names_of (ns ++ ms))) e)
-    (λ e. or-second (name_eq x n.name) (is_in name_eq x (names_of (ns ++ ms)))
+    by_cases (name_eq x n.name) (λ e. or_left (name_eq x n.name) (is_in name_eq x (names_of (ns ++ ms))) e)
+    (λ e. or_right (name_eq x n.name) (is_in name_eq x (names_of (ns ++ ms)))
     (in-front x ns ms (or-later (name_eq x n.name) (is_in name_eq x (names_of ns)) e h)))
 
 -- by its count
@@ -152,9 +152,9 @@ pub times-has_node : (ts : Trees) (x : NodeName) → 1 ≤ times_in ts x → has
 times-has_node none x h = absurd (omega arith)
 times-has_node (tree n c r) x h =
     let others = is_in name_eq x (names_of (nodes c ++ nodes r)) in
-    by_cases (name_eq x n.name) (λ e. or-first (name_eq x n.name) others e)
+    by_cases (name_eq x n.name) (λ e. or_left (name_eq x n.name) others e)
     (λ e. let g = times-elsewhere n c r x (name_eq-turned n.name x ∙ e) in
-    or-second (name_eq x n.name) others
+    or_right (name_eq x n.name) others
     (by_times (times_in c x) (λ z. in-later x (nodes c) (nodes r) (times-has_node r x (omega arith)))
     (λ z. in-front x (nodes c) (nodes r) (times-has_node c x z))))
 

@@ -6,7 +6,6 @@ use Rattle.dom_model.proofs.Model.{insert_node_refusal, inserting_into_range, Ra
 use Rattle.dom_model.proofs.Model.{queue_record, part_step, after, Observing, remove_plan, adopt_plan, insert_plan, replace_plan, setting_attribute}
 use Rattle.dom_model.proofs.Model.{unsetting_attribute, replacing_data, splitting, normalizing, setting_text}
 use Rattle.dom_worlds.specs.Definitions.{EndsWithin, IsWithin, HasBounds, HasEnds, HasTables, IsPart}
-use Rattle.dom_worlds.proofs.BoundLines.{insertion-open}
 use Rattle.dom_worlds.proofs.Bounds.{RangeUnder, reach, nowhere, HasRoom, room-make, room-document, room-record, room-join, room-set}
 use Rattle.dom_worlds.proofs.InsideAncestors.{inside-no_ancestor, times-has_node}
 use Rattle.dom_worlds.proofs.KindLines.{has_node-times}
@@ -23,9 +22,9 @@ use Rattle.dom_worlds.proofs.RangeInsertions.{room-inserting_into_range}
 use Rattle.dom_worlds.proofs.RangePlans.{IsProper, room-deleting}
 use Rattle.dom_worlds.proofs.ExtractionPlans.{room-extracting}
 use Rattle.dom_worlds.proofs.ShadowRoots.{not_taken}
-use Rattle.dom_worlds.proofs.TableCommands.{insertion-apart}
 use Rattle.dom_worlds.proofs.TableRegisters.{parent-of_range}
 use Rattle.dom_worlds.proofs.TextBounds.{text-data, room-splitting, room-normalizing, room-setting_text}
+use Rattle.dom_worlds.proofs.Placings.{insertion-tested}
 
 -- Both forms of the bounds.
 pub room-of : (p : Part) → IsPart p → HasBounds p → HasRoom nowhere p
@@ -211,10 +210,11 @@ range_insertion-keeps k r x p c =
     let parent = insertion_parent p.trees r in
     let refused = pre_insert_refusal p.trees parent x (start_reference p.trees r) in
     let fits = not_taken (cannot_take_node p.trees r x) refused c.valid in
+    let tested = insertion-tested p.trees parent x (start_reference p.trees r) fits in
     let start = (range-ends p k c.tables r c.at_k).0 in
     let m = may-go x parent i c.there (times-has_node p.trees parent (parent-of_range p r start))
-    (insertion-apart p.trees parent x (start_reference p.trees r) fits) in
+    tested.apart in
     bounds-of (after p (inserting_into_range k r x p)) (leads-inserting_into_range k x i c.tables c.at_k m).changed.part
     (room-inserting_into_range k r (record { part = i; room = room-of p i c.bounds }) start
-    (record { go = m; open_parent = insertion-open p.trees parent x (start_reference p.trees r) fits })
+    (record { go = m; open_parent = tested.opened })
     (takes (cannot_take_node p.trees r x) refused c.valid))

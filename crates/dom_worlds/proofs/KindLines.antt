@@ -53,7 +53,7 @@ page-read : (p : Part) → PageKinds p → (x : NodeName) → (node_in p.trees x
 page-read p i x = read-no_shadow p x i.1 (λ b. subst (λ o. MayBeShadow o x) i.0 b)
 
 -- the rules hold
-page-rules : IsKept PageKinds MakesNoShadow (λ x. ⊤)
+page-rules : IsKept PageKinds MakesNoShadow (λ x. ⊤) (λ x. ⊤)
 page-rules =
     rules-kept (record {
       step = λ p s i m. (owner-part_step p s ∙ i.0, kinds-step p s i.1 m);
@@ -87,28 +87,31 @@ component-read k p i x m =
     (sym (name_eq-same r) ∙ ap (λ y. name_eq y r) (sym same) ∙ m))
 
 -- the rules hold
-component-rules : (k : ComponentName) → IsKept (ComponentKinds k) (MayMake (shadow_root_of (Component k))) (IsOther (shadow_root_of (Component k)))
+component-rules : (k : ComponentName) → IsKept (ComponentKinds k) (MayMake (shadow_root_of (Component k))) (IsOther (shadow_root_of (Component k))) (λ x. ⊤)
 component-rules k =
     let r = shadow_root_of (Component k) in
     let root = shadow-rules r in
     record {
-      step = λ p s i m. record { owner = owner-part_step p s ∙ i.owner; own = own-step r p s i.own m.0; kinds = kinds-step p s i.kinds m.1 };
-      placing = λ x parent before h. (h, tt);
-      making_room = λ parent index count. (tt, tt);
-      taking_out = λ x. (tt, tt);
-      document = λ x d. (tt, tt);
+      moves = record {
+        step = λ p s i m. record { owner = owner-part_step p s ∙ i.owner; own = own-step r p s i.own m.0; kinds = kinds-step p s i.kinds m.1 };
+        placing = λ x parent before h. (h, tt);
+        making_room = λ parent index count. (tt, tt);
+        taking_out = λ x. (tt, tt);
+        document = λ x d h. (tt, tt);
+        placed_set = λ x h. tt;
+        children_told = λ x added removed previous next. (tt, tt);
+        children = λ p i x. root.moves.children p i.own x;
+      };
       data_replaced = λ x offset count new. (tt, tt);
       split = λ x offset new parent index. (tt, tt);
       join = λ x size next parent index. (tt, tt);
       range = λ k range. (tt, tt);
-      children_told = λ x added removed previous next. (tt, tt);
       data_told = λ x old. (tt, tt);
       new_text = λ x d text. (tt, text-no_shadow);
       new_fragment = λ x d. (tt, fragment-no_shadow);
       clone = λ p x y i m. (tt, component-read k p i x m);
       clone_part = λ p x y from to i m. (tt, component-read k p i x m);
       new_node = λ p i. next-other r p i.own;
-      children = λ p i x. root.children p i.own x;
       wholes = λ p i range. root.wholes p i.own range;
     }
 

@@ -17,10 +17,12 @@ mod Owners
 mod Chains
 mod Invariants
 mod Effects
+mod Placings
 mod StepKeeps
 mod TreeChangeLaws
 mod PartSteps
 mod Plans
+mod BlindPlans
 mod Rules
 mod ShadowRoots
 mod WorldSteps

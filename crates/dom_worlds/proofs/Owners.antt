@@ -1,13 +1,14 @@
 -- Who made whom, whose host is whose, and who is there.
 use Rattle.dom_base.proofs.Std.{◌≡◌, ◌≢◌, ℕ, ◌<◌, List, length, position, option_map, Option, Some, None, refl, sym, ap, ◌∙◌, arith, subst, zero, suc, ◌≤◌}
 use Rattle.dom_base.proofs.Std.{Bool, true, false, ◌||◌, [], ◌∷◌, ◌++◌, map, filter, unwrap_or, true≢false, is_some, slice_get, ⊤, is_none, option_and_then}
-use Rattle.dom_base.proofs.Std.{option_map_or, position-Some, slice_get-get_or, list_any, cond-true, cond-false, false_from_ne_true}
+use Rattle.dom_base.proofs.Std.{option_map_or, position-Some, slice_get-get_or, list_any, cond-true, cond-false, false_from_ne_true, or_right}
+use Rattle.dom_base.proofs.Std.{or_from, or_left}
 use Rattle.dom_model.proofs.Model.{Owner, Page, NodeName, name_eq, owner_depth, owner_eq, World, part_of, component_at, component_made, made_by, host_of}
 use Rattle.dom_model.proofs.Model.{MayAttach, find_part, put_part, is_there, made_by-made, depth-made, name_eq-true, owner_eq-same, owner_eq-true}
 use Rattle.dom_model.proofs.Model.{owner_eq-false, ne-owner_eq, made_by-is, component_made-number, component_made-no_page, times_in, Part, empty_part, NodeWord}
 use Rattle.dom_model.proofs.Model.{own, foreign, named}
 use Rattle.dom_worlds.specs.Definitions.{IsWorld, IsOf, HasMakers, components_of, is_made_by, is_unmade, owners_in, IsThere, HasOwners}
-use Rattle.dom_worlds.proofs.Lists.{get-below, get-all, get-there, by_cases, which_way, or-later, or-first, or-second, or-neither, or-earlier, by_some_is}
+use Rattle.dom_worlds.proofs.Lists.{get-below, get-all, get-there, by_cases, which_way, or-later, or-earlier, by_some_is}
 use Rattle.dom_worlds.proofs.Lists.{by_some}
 
 -- other worlds with the same hosts
@@ -146,15 +147,15 @@ has-passed f [] o h g = absurd (true≢false (sym h))
 has-passed f (p ∷ os) o h g =
     let deeper : owner_eq p o ≡ false → has_owner (filter f os) o ≡ true = λ e. has-passed f os o (or-later (owner_eq p o) (has_owner os o) e h) g in
     which_way (λ xs. has_owner xs o ≡ true) (f p) (p ∷ filter f os) (filter f os)
-    (λ t. by_cases (owner_eq p o) (or-first (owner_eq p o) (has_owner (filter f os) o)) (λ e. or-second (owner_eq p o) (has_owner (filter f os) o) (deeper e)))
+    (λ t. by_cases (owner_eq p o) (or_left (owner_eq p o) (has_owner (filter f os) o)) (λ e. or_right (owner_eq p o) (has_owner (filter f os) o) (deeper e)))
     (λ t. deeper (false_from_ne_true (owner_eq p o) (λ e. true≢false (sym g ∙ ap f (sym (owner_eq-true p o e)) ∙ t))))
 
 -- is among all
 has-filtered : (f : Owner → Bool) (os : List Owner) (o : Owner) → has_owner (filter f os) o ≡ true → has_owner os o ≡ true
 has-filtered f [] o h = absurd (true≢false (sym h))
 has-filtered f (p ∷ os) o h =
-    by_cases (owner_eq p o) (or-first (owner_eq p o) (has_owner os o))
-    (λ e. or-second (owner_eq p o) (has_owner os o) (has-filtered f os o
+    by_cases (owner_eq p o) (or_left (owner_eq p o) (has_owner os o))
+    (λ e. or_right (owner_eq p o) (has_owner os o) (has-filtered f os o
     (by_cases (f p) (λ t. or-later (owner_eq p o) (has_owner (filter f os) o) e
     (sym (ap (λ xs. has_owner xs o) (cond-true (f p) (p ∷ filter f os) (filter f os) t)) ∙ h))
     (λ t. sym (ap (λ xs. has_owner xs o) (cond-false (f p) (p ∷ filter f os) (filter f os) t)) ∙ h))))
@@ -166,8 +167,8 @@ components-has o (suc n) k h =
     let last = component_made o n in
     let c = component_made o k in
     has-append (components_of o n) (last ∷ []) c
-    ∙ by_cases (owner_eq last c) (λ e. or-second (has_owner (components_of o n) c) (owner_eq last c || false) (or-first (owner_eq last c) false e))
-    (λ e. or-first (has_owner (components_of o n) c) (owner_eq last c || false)
+    ∙ by_cases (owner_eq last c) (λ e. or_right (has_owner (components_of o n) c) (owner_eq last c || false) (or_left (owner_eq last c) false e))
+    (λ e. or_left (has_owner (components_of o n) c) (owner_eq last c || false)
     (components-has o n k (let ne : (n ≢ k) = λ s. owner_eq-false last c e (ap (component_made o) s) in omega (arith, ne))))
 
 -- and nobody else
@@ -176,7 +177,7 @@ components-only o zero c h = absurd (true≢false (sym h))
 components-only o (suc n) c h =
     let last = component_made o n in
     by_cases (owner_eq last c) (λ e. (n, omega arith, owner_eq-true last c e))
-    (λ e. let before = or-earlier (has_owner (components_of o n) c) (owner_eq last c || false) (or-neither (owner_eq last c) false e refl)
+    (λ e. let before = or-earlier (has_owner (components_of o n) c) (owner_eq last c || false) (or_from (owner_eq last c) false e refl)
     (sym (has-append (components_of o n) (last ∷ []) c) ∙ h) in
     let at = components-only o n c before in (at.0, (let below = at.1 in omega arith), at.2))
 
@@ -229,11 +230,11 @@ AreOnce (o ∷ os) = (has_owner os o ≡ false) × AreOnce os
 once-behind : (os : List Owner) (o : Owner) → AreOnce os → has_owner os o ≡ false → AreOnce (os ++ o ∷ [])
 once-behind [] o once off = (refl, tt)
 once-behind (p ∷ os) o once off =
-    let first : owner_eq p o ≡ false = false_from_ne_true (owner_eq p o) (λ e. true≢false (sym (or-first (owner_eq p o) (has_owner os o) e) ∙ off)) in
-    let later : has_owner os o ≡ false = false_from_ne_true (has_owner os o) (λ e. true≢false (sym (or-second (owner_eq p o) (has_owner os o) e) ∙ off)) in
+    let first : owner_eq p o ≡ false = false_from_ne_true (owner_eq p o) (λ e. true≢false (sym (or_left (owner_eq p o) (has_owner os o) e) ∙ off)) in
+    let later : has_owner os o ≡ false = false_from_ne_true (has_owner os o) (λ e. true≢false (sym (or_right (owner_eq p o) (has_owner os o) e) ∙ off)) in
     let other : owner_eq o p ≡ false = ne-owner_eq o p (λ e. owner_eq-false p o first (sym e)) in (
-      has-append os (o ∷ []) p ∙ or-neither (has_owner os p) (owner_eq o p || false) once.0
-          (or-neither (owner_eq o p) false other refl),
+      has-append os (o ∷ []) p ∙ or_from (has_owner os p) (owner_eq o p || false) once.0
+          (or_from (owner_eq o p) false other refl),
       once-behind os o once.1 later,
     )
 

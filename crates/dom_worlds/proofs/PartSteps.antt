@@ -213,7 +213,7 @@ abbrev OfKinds : (Node → Type 0) → Type 0
 OfKinds P = (n m : Node) → m.name ≡ n.name → m.kind ≡ n.kind → P n → P m
 
 -- a new node has it
-abbrev NewHas : (Node → Type 0) → Part → Step → Type 0
+abbrev pub NewHas : (Node → Type 0) → Part → Step → Type 0
 NewHas P p (make n) = P (with_name (next_name p) n)
 NewHas P p s = ⊤
 
@@ -223,7 +223,7 @@ module _ (P : Node → Type 0) (k : OfKinds P) where
   nodes-mapped f h ts i = nodes-map_nodes P f (λ n g. k n (f n) (h n).0 (h n).1 g) ts i
 
   -- every step keeps it
-  nodes-step : (p : Part) (s : Step) → AllNodes P p.trees → NewHas P p s → AllNodes P (part_step p s).trees
+  pub nodes-step : (p : Part) (s : Step) → AllNodes P p.trees → NewHas P p s → AllNodes P (part_step p s).trees
   nodes-step p (make n) i h = nodes-with_node P (with_name (next_name p) n) p.trees h i
   nodes-step p (place x parent before) i h = nodes-placed P x parent before p.trees i
   nodes-step p (take_out x) i h =

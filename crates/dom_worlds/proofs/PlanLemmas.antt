@@ -1,7 +1,11 @@
 -- What other crates cite of steps and plans of a part.
-pub use Rattle.dom_worlds.proofs.Plans.{AllWhole, AreFit, IsKept, Keeps, keeps-adopting, keeps-deleting, keeps-extracting, keeps-inserting}
-pub use Rattle.dom_worlds.proofs.Plans.{keeps-inserting_into_range, keeps-normalizing, keeps-removing, keeps-replacing, keeps-replacing_data}
-pub use Rattle.dom_worlds.proofs.Plans.{keeps-setting_attribute, keeps-setting_text, keeps-splitting, keeps-unsetting_attribute, kept-after}
+pub use Rattle.dom_worlds.proofs.Plans.{AllWhole, AreFit, AreMoved, IsKept, Keeps, keeps-adopting, keeps-and_then, keeps-cutting_data, keeps-deleting}
+pub use Rattle.dom_worlds.proofs.Plans.{keeps-each, keeps-deleting_contents, keeps-emptying, keeps-making_below, keeps-extracting, keeps-in_turn}
+pub use Rattle.dom_worlds.proofs.Plans.{keeps-inserting, keeps-inserting_into_range, keeps-making_room, keeps-normalizing, keeps-normalizing_text}
+pub use Rattle.dom_worlds.proofs.Plans.{keeps-placing, keeps-placing_tail, keeps-removing, keeps-replacing, keeps-replacing_data, keeps-setting_attribute}
+pub use Rattle.dom_worlds.proofs.Plans.{keeps-setting_text, keeps-splitting, keeps-unsetting_attribute, kept-after, made-joins}
+pub use Rattle.dom_worlds.proofs.BlindPlans.{after-beside, blind-adopting, blind-deleting, blind-extracting, blind-into_range, blind-normalizing}
+pub use Rattle.dom_worlds.proofs.BlindPlans.{blind-pre_inserting, blind-replacing, blind-setting_text, blind-splitting}
 pub use Rattle.dom_worlds.proofs.Rules.{rules-kept}
 pub use Rattle.dom_worlds.proofs.ShadowRoots.{IsClonable, any-whole, common_below, fit-apart, fit-pieces, whole-pieces}
 pub use Rattle.dom_worlds.proofs.PlanPlaces.{Changed, Leads, MayGo, after-append, leads-adopting, leads-eased, leads-inserting, leads-nothing, leads-one}

@@ -27,31 +27,36 @@ AreFit W C K (clone x inner rest) = K x × AreFit W C K inner × AreFit W C K re
 abbrev pub AllWhole : (NodeName → Type 0) → Pieces → Type 0
 AllWhole P = AreFit P P P
 
--- What is asked of an invariant of parts, of the steps that are to keep it, and of the nodes that may be placed: steps do
--- keep it, and the steps that plans make are such, each for what plans know of it.
-pub record IsKept (Inv : Part → Type 0) (May : Step → Type 0) (MayPlace : NodeName → Type 0) : Type 0 where
+-- What is asked of an invariant of parts, of the steps that are to keep it, and of the nodes that may be placed and get a node document,
+-- where nodes are moved: steps do keep it, and the steps that move nodes are such, each for what plans know of it.
+pub record AreMoved (Inv : Part → Type 0) (May : Step → Type 0) (MayPlace MaySet : NodeName → Type 0) : Type 0 where
   pub step : (p : Part) (s : Step) → Inv p → May s → Inv (part_step p s)
   pub placing : (x parent : NodeName) (before : Option NodeName) → MayPlace x → May (place x parent before)
   pub making_room : (parent : NodeName) (index count : ℕ) → May (make_room parent index count)
   pub taking_out : (x : NodeName) → May (take_out x)
-  pub document : (x d : NodeName) → May (set_document x d)
+  pub document : (x d : NodeName) → MaySet x → May (set_document x d)
+  pub placed_set : (x : NodeName) → MayPlace x → MaySet x
+  pub children_told : (x : NodeName) (added removed : List NodeName) (previous next : Option NodeName) →
+      May (queue_record (child_list x added removed previous next))
+  pub children : (p : Part) → Inv p → (x : NodeName) → AllByRecursion MayPlace (children_of p.trees x)
+
+-- So it is asked, and of all other steps of plans.
+pub record IsKept (Inv : Part → Type 0) (May : Step → Type 0) (MayPlace MaySet : NodeName → Type 0) : Type 0 where
+  pub moves : AreMoved Inv May MayPlace MaySet
   pub data_replaced : (x : NodeName) (offset count : ℕ) (new : DomString) → May (replace_data x offset count new)
   pub split : (x : NodeName) (offset : ℕ) (new parent : NodeName) (index : ℕ) → May (split_at x offset new parent index)
   pub join : (x : NodeName) (size : ℕ) (next parent : NodeName) (index : ℕ) → May (join_at x size next parent index)
   pub range : (k : ℕ) (range : Range NodeName) → May (set_range k range)
-  pub children_told : (x : NodeName) (added removed : List NodeName) (previous next : Option NodeName) →
-      May (queue_record (child_list x added removed previous next))
   pub data_told : (x : NodeName) (old : Option DomString) → May (queue_record (character_data x old))
   pub new_text : (x : NodeName) (d : Option NodeName) (text : DomString) → May (make (new_text_node x d text))
   pub new_fragment : (x : NodeName) (d : Option NodeName) → May (make (new_fragment_node x d))
   pub clone : (p : Part) (x y : NodeName) → Inv p → MayPlace x → May (make (with_name y (node_in p.trees x)))
   pub clone_part : (p : Part) (x y : NodeName) (from to : ℕ) → Inv p → MayPlace x → May (make (clone_part y from to (node_in p.trees x)))
   pub new_node : (p : Part) → Inv p → MayPlace (next_name p)
-  pub children : (p : Part) → Inv p → (x : NodeName) → AllByRecursion MayPlace (children_of p.trees x)
   pub wholes : (p : Part) → Inv p → (range : Range NodeName) → AllWhole MayPlace (pieces_of p.trees range)
 
 -- Plans that make such steps alone, in a part with the invariant.
-module _ {Inv : Part → Type 0} {May : Step → Type 0} {MayPlace : NodeName → Type 0} (rules : IsKept Inv May MayPlace) where
+module _ {Inv : Part → Type 0} {May : Step → Type 0} {MayPlace MaySet : NodeName → Type 0} (rules : AreMoved Inv May MayPlace MaySet) where
   -- a plan makes such steps
   abbrev pub Keeps : Plan → Type 0
   Keeps f = (p : Part) → Inv p → AllByRecursion May (f p)
@@ -104,27 +109,27 @@ module _ {Inv : Part → Type 0} {May : Step → Type 0} {MayPlace : NodeName �
       ))
 
   -- another node document
-  keeps-changing_document : (d x : NodeName) → Keeps (changing_document d x)
-  keeps-changing_document d x p o = made-only_if (not (has_document p.trees d x)) (set_document x d) (rules.document x d)
+  keeps-changing_document : (d x : NodeName) → MaySet x → Keeps (changing_document d x)
+  keeps-changing_document d x h p o = made-only_if (not (has_document p.trees d x)) (set_document x d) (rules.document x d h)
 
   -- an adoption
-  pub keeps-adopting : (d x : NodeName) → Keeps (adopt_plan d x)
-  keeps-adopting d x = keeps-and_then (remove_plan observed x) (changing_document d x) (keeps-removing observed x) (keeps-changing_document d x)
+  pub keeps-adopting : (d x : NodeName) → MaySet x → Keeps (adopt_plan d x)
+  keeps-adopting d x h = keeps-and_then (remove_plan observed x) (changing_document d x) (keeps-removing observed x) (keeps-changing_document d x h)
 
   -- An insertion places its node or the node's children, and no root is a child.
-  keeps-placing : (parent : NodeName) (before : Option NodeName) (x : NodeName) → MayPlace x → Keeps (placing parent before x)
+  pub keeps-placing : (parent : NodeName) (before : Option NodeName) (x : NodeName) → MayPlace x → Keeps (placing parent before x)
   keeps-placing parent before x h p o =
       keeps-and_then (adopt_plan (document_below p.trees parent) x) (doing (place x parent before))
-      (keeps-adopting (document_below p.trees parent) x) (λ q own. (rules.placing x parent before h, tt)) p o
+      (keeps-adopting (document_below p.trees parent) x (rules.placed_set x h)) (λ q own. (rules.placing x parent before h, tt)) p o
 
   -- a fragment that is emptied
-  keeps-emptying : (node : NodeName) (children : List NodeName) → Keeps (emptying node children)
+  pub keeps-emptying : (node : NodeName) (children : List NodeName) → Keeps (emptying node children)
   keeps-emptying node children =
       keeps-and_then (in_turn (remove_plan suppressed) children) (doing (queue_record (child_list node [] children None None)))
       (keeps-each (remove_plan suppressed) (keeps-removing suppressed) children) (λ q o. (rules.children_told node [] children None None, tt))
 
   -- offsets that grow
-  keeps-making_room : (parent : NodeName) (before : Option NodeName) (count : ℕ) → Keeps (making_room parent before count)
+  pub keeps-making_room : (parent : NodeName) (before : Option NodeName) (count : ℕ) → Keeps (making_room parent before count)
   keeps-making_room parent None count p o = tt
   keeps-making_room parent (Some child) count p o = (rules.making_room parent (index_of p.trees child) count, tt)
 
@@ -166,14 +171,19 @@ module _ {Inv : Part → Type 0} {May : Step → Type 0} {MayPlace : NodeName �
       (keeps-inserting suppressed node parent reference h))
       (λ q own. (rules.children_told parent (placed_nodes p.trees node) (child ∷ []) (previous_sibling p.trees child) reference, tt)) p o
 
+-- Plans of all kinds.
+module _ {Inv : Part → Type 0} {May : Step → Type 0} {MayPlace MaySet : NodeName → Type 0} (rules : IsKept Inv May MayPlace MaySet) where
+  abbrev moves : AreMoved Inv May MayPlace MaySet
+  moves = rules.moves
+
   -- Attributes, data and text.
   pub keeps-setting_attribute : (x : NodeName) (a : Word) (v : DomString) → ((old : Option DomString) → May (queue_record (attributes x a old))) →
-      May (set_attribute x a (Some v)) → Keeps (setting_attribute x a v)
+      May (set_attribute x a (Some v)) → Keeps moves (setting_attribute x a v)
   keeps-setting_attribute x a v h g p o = (h (attribute_value (node_in p.trees x) a), (g, tt))
 
   -- an attribute that goes
   pub keeps-unsetting_attribute : (x : NodeName) (a : Word) → ((old : Option DomString) → May (queue_record (attributes x a old))) →
-      May (set_attribute x a None) → Keeps (unsetting_attribute x a)
+      May (set_attribute x a None) → Keeps moves (unsetting_attribute x a)
   keeps-unsetting_attribute x a h g p o = from (attribute_value (node_in p.trees x) a)
     where
       from : (v : Option DomString) → AllByRecursion May (option_map_or (λ old. queue_record (attributes x a (Some old)) ∷ set_attribute x a None ∷ []) v [])
@@ -181,66 +191,67 @@ module _ {Inv : Part → Type 0} {May : Step → Type 0} {MayPlace : NodeName �
       from (Some old) = (h (Some old), (g, tt))
 
   -- data that are replaced
-  pub keeps-replacing_data : (x : NodeName) (offset count : ℕ) (new : DomString) → Keeps (replacing_data x offset count new)
+  pub keeps-replacing_data : (x : NodeName) (offset count : ℕ) (new : DomString) → Keeps moves (replacing_data x offset count new)
   keeps-replacing_data x offset count new p o =
       let old = (node_in p.trees x).text in
       (rules.data_told x (Some old), (rules.data_replaced x offset (min count (length old - offset)) new, tt))
 
   -- all data
-  pub keeps-replacing_all_data : (x : NodeName) (new : DomString) → Keeps (replacing_all_data x new)
+  pub keeps-replacing_all_data : (x : NodeName) (new : DomString) → Keeps moves (replacing_all_data x new)
   keeps-replacing_all_data x new p o = keeps-replacing_data x 0 (length_of p.trees x) new p o
 
   -- the tail of a split Text
-  keeps-placing_tail : (x : NodeName) (offset : ℕ) (new : NodeName) (parent : Option NodeName) → MayPlace new → Keeps (placing_tail x offset new parent)
+  pub keeps-placing_tail : (x : NodeName) (offset : ℕ) (new : NodeName) (parent : Option NodeName) → MayPlace new →
+      Keeps moves (placing_tail x offset new parent)
   keeps-placing_tail x offset new None h p o = tt
   keeps-placing_tail x offset new (Some parent) h p o =
-      keeps-and_then (insert_plan observed new parent (next_sibling p.trees x)) (doing _)
-      (keeps-inserting observed new parent (next_sibling p.trees x) h) (λ q own. (rules.split x offset new parent (index_of p.trees x), tt)) p o
+      keeps-and_then moves (insert_plan observed new parent (next_sibling p.trees x)) (doing _)
+      (keeps-inserting moves observed new parent (next_sibling p.trees x) h) (λ q own. (rules.split x offset new parent (index_of p.trees x), tt)) p o
 
   -- a split
-  pub keeps-splitting : (x : NodeName) (offset : ℕ) → Keeps (splitting x offset)
+  pub keeps-splitting : (x : NodeName) (offset : ℕ) → Keeps moves (splitting x offset)
   keeps-splitting x offset p o =
       let old = node_in p.trees x in
       let new = next_name p in
       let tail = new_text_node new old.document (drop offset old.text) in
-      keeps-and_then (doing (make tail) and_then placing_tail x offset new (parent_of p.trees x)) (replacing_data x offset (length old.text - offset) [])
-      (keeps-and_then (doing (make tail)) (placing_tail x offset new (parent_of p.trees x))
+      keeps-and_then moves (doing (make tail) and_then placing_tail x offset new (parent_of p.trees x)) (replacing_data x offset (length old.text - offset) [])
+      (keeps-and_then moves (doing (make tail)) (placing_tail x offset new (parent_of p.trees x))
       (λ q own. (rules.new_text new old.document (drop offset old.text), tt))
       (keeps-placing_tail x offset new (parent_of p.trees x) (rules.new_node p o)))
       (keeps-replacing_data x offset (length old.text - offset) []) p o
 
   -- boundaries that move to the first Text
-  made-joins : (ts : Trees) (x parent : NodeName) (size : ℕ) (ys : List NodeName) → AllByRecursion May (joins ts x parent size ys)
+  pub made-joins : (ts : Trees) (x parent : NodeName) (size : ℕ) (ys : List NodeName) → AllByRecursion May (joins ts x parent size ys)
   made-joins ts x parent size [] = tt
   made-joins ts x parent size (y ∷ ys) = (rules.join x size y parent (index_of ts y), made-joins ts x parent (size + length_of ts y) ys)
 
   -- Texts that are joined
-  keeps-joining : (x parent : NodeName) (nexts : List NodeName) → Keeps (joining x parent nexts)
+  keeps-joining : (x parent : NodeName) (nexts : List NodeName) → Keeps moves (joining x parent nexts)
   keeps-joining x parent nexts p o =
       let size = length_of p.trees x in
       let all = flat_map (λ y. (node_in p.trees y).text) nexts in
-      keeps-and_then (replacing_data x size 0 all and_then steps_of (joins p.trees x parent size nexts)) (in_turn (remove_plan observed) nexts)
-      (keeps-and_then (replacing_data x size 0 all) (steps_of (joins p.trees x parent size nexts)) (keeps-replacing_data x size 0 all)
+      keeps-and_then moves (replacing_data x size 0 all and_then steps_of (joins p.trees x parent size nexts)) (in_turn (remove_plan observed) nexts)
+      (keeps-and_then moves (replacing_data x size 0 all) (steps_of (joins p.trees x parent size nexts)) (keeps-replacing_data x size 0 all)
       (λ q own. made-joins p.trees x parent size nexts))
-      (keeps-each (remove_plan observed) (keeps-removing observed) nexts) p o
+      (keeps-each moves (remove_plan observed) (keeps-removing moves observed) nexts) p o
 
   -- a Text that is normalized
-  keeps-normalizing_text : (x : NodeName) → Keeps (normalizing_text x)
+  pub keeps-normalizing_text : (x : NodeName) → Keeps moves (normalizing_text x)
   keeps-normalizing_text x p o =
-      made-if (length_of p.trees x == 0) (remove_plan observed x p)
+      made-if moves (length_of p.trees x == 0) (remove_plan observed x p)
       (option_map_or (λ parent. if is_empty (contiguous_texts_after p.trees x) then [] else joining x parent (contiguous_texts_after p.trees x) p)
       (parent_of p.trees x) [])
-      (keeps-removing observed x p o) (from (parent_of p.trees x))
+      (keeps-removing moves observed x p o) (from (parent_of p.trees x))
     where
       from : (a : Option NodeName) → AllByRecursion May
           (option_map_or (λ parent. if is_empty (contiguous_texts_after p.trees x) then [] else joining x parent (contiguous_texts_after p.trees x) p) a [])
       from None = tt
-      from (Some parent) = made-if (is_empty (contiguous_texts_after p.trees x)) [] (joining x parent (contiguous_texts_after p.trees x) p) tt
+      from (Some parent) = made-if moves (is_empty (contiguous_texts_after p.trees x)) [] (joining x parent (contiguous_texts_after p.trees x) p) tt
           (keeps-joining x parent (contiguous_texts_after p.trees x) p o)
 
   -- all Texts below a node
-  pub keeps-normalizing : (x : NodeName) → Keeps (normalizing x)
-  keeps-normalizing x p o = keeps-each normalizing_text keeps-normalizing_text (filter (λ y. is_text (kind_of p.trees y)) (descendants p.trees x)) p o
+  pub keeps-normalizing : (x : NodeName) → Keeps moves (normalizing x)
+  keeps-normalizing x p o = keeps-each moves normalizing_text keeps-normalizing_text (filter (λ y. is_text (kind_of p.trees y)) (descendants p.trees x)) p o
 
   -- new nodes
   made-makes : (f : NodeName → Node) → ((x : NodeName) → May (make (f x))) → (xs : List NodeName) → AllByRecursion May (map (λ y. make (f y)) xs)
@@ -248,118 +259,123 @@ module _ {Inv : Part → Type 0} {May : Step → Type 0} {MayPlace : NodeName �
   made-makes f h (x ∷ xs) = (h x, made-makes f h xs)
 
   -- children that give way to a Text
-  keeps-replacing_children : (x : NodeName) (new : DomString) → Keeps (replacing_children x new)
+  keeps-replacing_children : (x : NodeName) (new : DomString) → Keeps moves (replacing_children x new)
   keeps-replacing_children x new p o =
       let old = children_of p.trees x in
       let added : List NodeName = if is_empty new then [] else next_name p ∷ [] in
       let made = map (λ y. make (new_text_node y (Some (document_below p.trees x)) new)) added in
       let told = only_if (not (is_empty old && is_empty new)) (queue_record (child_list x added old None None)) in
       let others : AllByRecursion MayPlace added = from (is_empty new) in
-      keeps-and_then (steps_of made and_then in_turn (remove_plan suppressed) old and_then in_turn (λ y. insert_plan suppressed y x None) added) (steps_of told)
-      (keeps-and_then (steps_of made and_then in_turn (remove_plan suppressed) old) (in_turn (λ y. insert_plan suppressed y x None) added)
-      (keeps-and_then (steps_of made) (in_turn (remove_plan suppressed) old)
+      keeps-and_then moves (steps_of made and_then in_turn (remove_plan suppressed) old and_then in_turn (λ y. insert_plan suppressed y x None) added)
+      (steps_of told)
+      (keeps-and_then moves (steps_of made and_then in_turn (remove_plan suppressed) old) (in_turn (λ y. insert_plan suppressed y x None) added)
+      (keeps-and_then moves (steps_of made) (in_turn (remove_plan suppressed) old)
       (λ q own. made-makes (λ y. new_text_node y (Some (document_below p.trees x)) new)
-      (λ y. rules.new_text y (Some (document_below p.trees x)) new) added) (keeps-each (remove_plan suppressed) (keeps-removing suppressed) old))
-      (keeps-in_turn (λ y. insert_plan suppressed y x None) added
-      (all-then MayPlace (λ y. Keeps (insert_plan suppressed y x None)) (λ y h. keeps-inserting suppressed y x None h) added others)))
-      (λ q own. made-only_if (not (is_empty old && is_empty new)) (queue_record (child_list x added old None None))
-      (rules.children_told x added old None None)) p o
+      (λ y. rules.new_text y (Some (document_below p.trees x)) new) added) (keeps-each moves (remove_plan suppressed) (keeps-removing moves suppressed) old))
+      (keeps-in_turn moves (λ y. insert_plan suppressed y x None) added
+      (all-then MayPlace (λ y. Keeps moves (insert_plan suppressed y x None)) (λ y h. keeps-inserting moves suppressed y x None h) added others)))
+      (λ q own. made-only_if moves (not (is_empty old && is_empty new)) (queue_record (child_list x added old None None))
+      (moves.children_told x added old None None)) p o
     where
       from : (b : Bool) → AllByRecursion MayPlace (if b then [] else next_name p ∷ [])
       from true = tt
       from false = (rules.new_node p o, tt)
 
   -- text content
-  pub keeps-setting_text : (x : NodeName) (new : DomString) → Keeps (setting_text x new)
+  pub keeps-setting_text : (x : NodeName) (new : DomString) → Keeps moves (setting_text x new)
   keeps-setting_text x new p o =
-      made-if (has_data (kind_of p.trees x)) (replacing_all_data x new p) (if is_document (kind_of p.trees x) then [] else replacing_children x new p)
-      (keeps-replacing_all_data x new p o) (made-if (is_document (kind_of p.trees x)) [] (replacing_children x new p) tt (keeps-replacing_children x new p o))
+      made-if moves (has_data (kind_of p.trees x)) (replacing_all_data x new p) (if is_document (kind_of p.trees x) then [] else replacing_children x new p)
+      (keeps-replacing_all_data x new p o)
+      (made-if moves (is_document (kind_of p.trees x)) [] (replacing_children x new p) tt (keeps-replacing_children x new p o))
 
   -- Contents of ranges.
-  keeps-making_below : (into : NodeName) (n : Node) → May (make n) → MayPlace n.name → Keeps (making_below into n)
-  keeps-making_below into n m h = keeps-and_then (doing (make n)) (insert_plan observed n.name into None) (λ p o. (m, tt))
-      (keeps-inserting observed n.name into None h)
+  pub keeps-making_below : (into : NodeName) (n : Node) → May (make n) → MayPlace n.name → Keeps moves (making_below into n)
+  keeps-making_below into n m h = keeps-and_then moves (doing (make n)) (insert_plan observed n.name into None) (λ p o. (m, tt))
+      (keeps-inserting moves observed n.name into None h)
 
   -- pieces that are taken into a node
-  keeps-taking : (into : NodeName) (pieces : Pieces) → AllWhole MayPlace pieces → Keeps (taking into pieces)
+  keeps-taking : (into : NodeName) (pieces : Pieces) → AllWhole MayPlace pieces → Keeps moves (taking into pieces)
   keeps-taking into nothing h p o = tt
   keeps-taking into (whole x rest) h p o =
-      keeps-and_then (insert_plan observed x into None) (taking into rest) (keeps-inserting observed x into None h.0) (keeps-taking into rest h.1) p o
+      keeps-and_then moves (insert_plan observed x into None) (taking into rest) (keeps-inserting moves observed x into None h.0)
+      (keeps-taking into rest h.1) p o
   keeps-taking into (cut x from to rest) h p o =
       let n = clone_part (next_name p) from to (node_in p.trees x) in
-      keeps-and_then (making_below into n and_then replacing_data x from (to - from) []) (taking into rest)
-      (keeps-and_then (making_below into n) (replacing_data x from (to - from) [])
+      keeps-and_then moves (making_below into n and_then replacing_data x from (to - from) []) (taking into rest)
+      (keeps-and_then moves (making_below into n) (replacing_data x from (to - from) [])
       (keeps-making_below into n (rules.clone_part p x (next_name p) from to o h.0) (rules.new_node p o))
       (keeps-replacing_data x from (to - from) [])) (keeps-taking into rest h.1) p o
   keeps-taking into (clone x inside rest) h p o =
       let n = with_name (next_name p) (node_in p.trees x) in
-      keeps-and_then (making_below into n and_then taking (next_name p) inside) (taking into rest)
-      (keeps-and_then (making_below into n) (taking (next_name p) inside)
+      keeps-and_then moves (making_below into n and_then taking (next_name p) inside) (taking into rest)
+      (keeps-and_then moves (making_below into n) (taking (next_name p) inside)
       (keeps-making_below into n (rules.clone p x (next_name p) o h.0) (rules.new_node p o)) (keeps-taking (next_name p) inside h.1))
       (keeps-taking into rest h.2) p o
 
   -- an extraction
-  pub keeps-extracting : (k : ℕ) (range : Range NodeName) → Keeps (extracting k range)
+  pub keeps-extracting : (k : ℕ) (range : Range NodeName) → Keeps moves (extracting k range)
   keeps-extracting k range p o =
       let fragment = new_fragment_node (next_name p) (own_document p.trees range.start.node) in
-      keeps-and_then (doing (make fragment) and_then taking (next_name p) (pieces_of p.trees range)) (doing _)
-      (keeps-and_then (doing (make fragment)) (taking (next_name p) (pieces_of p.trees range))
+      keeps-and_then moves (doing (make fragment) and_then taking (next_name p) (pieces_of p.trees range)) (doing _)
+      (keeps-and_then moves (doing (make fragment)) (taking (next_name p) (pieces_of p.trees range))
       (λ q own. (rules.new_fragment (next_name p) (own_document p.trees range.start.node), tt))
       (keeps-taking (next_name p) (pieces_of p.trees range) (rules.wholes p o range)))
       (λ q own. (rules.range k (both_at (new_place p.trees range)), tt)) p o
 
   -- data at an end of a range
-  keeps-cutting_data : (ts : Trees) (range : Range NodeName) (x : NodeName) → Keeps (cutting_data ts range x)
-  keeps-cutting_data ts range x = keeps-if (has_data (kind_of ts x))
+  pub keeps-cutting_data : (ts : Trees) (range : Range NodeName) (x : NodeName) → Keeps moves (cutting_data ts range x)
+  keeps-cutting_data ts range x = keeps-if moves (has_data (kind_of ts x))
       (replacing_data x (cut_start range x) (cut_end ts range x - cut_start range x) []) (steps_of [])
       (keeps-replacing_data x (cut_start range x) (cut_end ts range x - cut_start range x) []) (λ p o. tt)
 
   -- the contents of a range
-  keeps-deleting_contents : (ts : Trees) (range : Range NodeName) → Keeps (deleting_contents ts range)
+  pub keeps-deleting_contents : (ts : Trees) (range : Range NodeName) → Keeps moves (deleting_contents ts range)
   keeps-deleting_contents ts range =
       let first = cutting_data ts range range.start.node in
       let nodes = in_turn (remove_plan observed) (outermost_contained ts range) in
-      keeps-if (is_in_one_data ts range) first (first and_then nodes and_then cutting_data ts range range.end.node)
+      keeps-if moves (is_in_one_data ts range) first (first and_then nodes and_then cutting_data ts range range.end.node)
       (keeps-cutting_data ts range range.start.node)
-      (keeps-and_then (first and_then nodes) (cutting_data ts range range.end.node)
-      (keeps-and_then first nodes (keeps-cutting_data ts range range.start.node)
-      (keeps-each (remove_plan observed) (keeps-removing observed) (outermost_contained ts range))) (keeps-cutting_data ts range range.end.node))
+      (keeps-and_then moves (first and_then nodes) (cutting_data ts range range.end.node)
+      (keeps-and_then moves first nodes (keeps-cutting_data ts range range.start.node)
+      (keeps-each moves (remove_plan observed) (keeps-removing moves observed) (outermost_contained ts range))) (keeps-cutting_data ts range range.end.node))
 
   -- a deletion
-  pub keeps-deleting : (k : ℕ) (range : Range NodeName) → Keeps (deleting k range)
+  pub keeps-deleting : (k : ℕ) (range : Range NodeName) → Keeps moves (deleting k range)
   keeps-deleting k range p o =
-      made-if (is_collapsed name_eq range) [] ((deleting_contents p.trees range and_then doing _) p) tt
-      (keeps-and_then (deleting_contents p.trees range) (doing _) (keeps-deleting_contents p.trees range)
+      made-if moves (is_collapsed name_eq range) [] ((deleting_contents p.trees range and_then doing _) p) tt
+      (keeps-and_then moves (deleting_contents p.trees range) (doing _) (keeps-deleting_contents p.trees range)
       (λ q own. (rules.range k (both_at (new_place p.trees range)), tt)) p o)
 
   -- a range that gets its end
-  keeps-ending_at : (k : ℕ) (b : Boundary NodeName) → Keeps (ending_at k b)
+  keeps-ending_at : (k : ℕ) (b : Boundary NodeName) → Keeps moves (ending_at k b)
   keeps-ending_at k b p o = from (range_at p k)
     where
       from : (a : Option (Range NodeName)) →
           AllByRecursion May (option_map_or (λ (q : Range NodeName). if is_collapsed name_eq q then set_range k (from_to q.start b) ∷ [] else [])
           a [])
       from None = tt
-      from (Some q) = made-if (is_collapsed name_eq q) (set_range k (from_to q.start b) ∷ []) [] (rules.range k (from_to q.start b), tt) tt
+      from (Some q) = made-if moves (is_collapsed name_eq q) (set_range k (from_to q.start b) ∷ []) [] (rules.range k (from_to q.start b), tt) tt
 
   -- a node before the reference
-  keeps-inserting_before : (k : ℕ) (node parent : NodeName) (reference : Option NodeName) → MayPlace node → Keeps (inserting_before k node parent reference)
+  keeps-inserting_before : (k : ℕ) (node parent : NodeName) (reference : Option NodeName) → MayPlace node →
+      Keeps moves (inserting_before k node parent reference)
   keeps-inserting_before k node parent reference h p o =
-      keeps-and_then (pre_insert_plan node parent reference) (ending_at k _) (keeps-pre_inserting node parent reference h) (keeps-ending_at k _) p o
+      keeps-and_then moves (pre_insert_plan node parent reference) (ending_at k _) (keeps-pre_inserting moves node parent reference h) (keeps-ending_at k _) p o
 
   -- a node that left its parent first
-  keeps-inserting_at : (k : ℕ) (node parent : NodeName) (child : Option NodeName) → MayPlace node → Keeps (inserting_at k node parent child)
+  keeps-inserting_at : (k : ℕ) (node parent : NodeName) (child : Option NodeName) → MayPlace node → Keeps moves (inserting_at k node parent child)
   keeps-inserting_at k node parent child h p o =
-      keeps-and_then (remove_plan observed node) (inserting_before k node parent (reference_child p.trees node child)) (keeps-removing observed node)
+      keeps-and_then moves (remove_plan observed node) (inserting_before k node parent (reference_child p.trees node child))
+      (keeps-removing moves observed node)
       (keeps-inserting_before k node parent (reference_child p.trees node child) h) p o
 
   -- an insertion into a range
-  pub keeps-inserting_into_range : (k : ℕ) (range : Range NodeName) (node : NodeName) → MayPlace node → Keeps (inserting_into_range k range node)
+  pub keeps-inserting_into_range : (k : ℕ) (range : Range NodeName) (node : NodeName) → MayPlace node → Keeps moves (inserting_into_range k range node)
   keeps-inserting_into_range k range node h p o =
       let parent = insertion_parent p.trees range in
-      made-if (is_text (kind_of p.trees range.start.node))
+      made-if moves (is_text (kind_of p.trees range.start.node))
       ((splitting range.start.node range.start.offset and_then inserting_at k node parent (Some (next_name p))) p)
       (inserting_at k node parent (start_reference p.trees range) p)
-      (keeps-and_then (splitting range.start.node range.start.offset) (inserting_at k node parent (Some (next_name p)))
+      (keeps-and_then moves (splitting range.start.node range.start.offset) (inserting_at k node parent (Some (next_name p)))
       (keeps-splitting range.start.node range.start.offset) (keeps-inserting_at k node parent (Some (next_name p)) h) p o)
       (keeps-inserting_at k node parent (start_reference p.trees range) h p o)

@@ -1,7 +1,7 @@
 -- Ends of ranges and their contents: deletions keep the ends within their nodes.
 use Rattle.dom_base.proofs.Std.{zero, suc, ◌≡◌, ◌≤◌, ℕ, true, false, not, List, [], ◌∷◌, ◌++◌, filter, take, length, Option, Some, None, unwrap_or, refl, sym}
 use Rattle.dom_base.proofs.Std.{ap, ◌∙◌, arith, true≢false, subst, length-append, length-take, ◌-◌, Bool, ◌&&◌, AllByRecursion, option_map_or, cond-true}
-use Rattle.dom_base.proofs.Std.{cond-false, not-true, and_parts, if◌then◌else◌, min}
+use Rattle.dom_base.proofs.Std.{cond-false, not-true, and_parts, if◌then◌else◌, min, or_left, or_right}
 use Rattle.dom_model.proofs.Model.{NodeName, name_eq, is_in, last_of, items_before, Trees, subtree, trees_below, children_of, parent_of, index_of, length_of}
 use Rattle.dom_model.proofs.Model.{times_in, inclusive_ancestors, is_inclusive_ancestor, root_of, Node, node_in, kind_of, has_data, names_of, nodes, Part}
 use Rattle.dom_model.proofs.Model.{Boundary, same_root, is_before, Range, at, is_collapsed, is_contained, new_place, behind_node, cut_start, cut_end}
@@ -111,9 +111,9 @@ room-behind {p} {y} r a w t e above =
 listed-each : (xs : List NodeName) → AllByRecursion (λ a. is_in name_eq a xs ≡ true) xs
 listed-each [] = tt
 listed-each (x ∷ xs) = (
-  Rattle.dom_worlds.proofs.Lists.or-first (name_eq x x) (is_in name_eq x xs) (Rattle.dom_model.proofs.OwnerLaws.name_eq-same x),
+  or_left (name_eq x x) (is_in name_eq x xs) (Rattle.dom_model.proofs.OwnerLaws.name_eq-same x),
   all-then (λ a. is_in name_eq a xs ≡ true) (λ a. is_in name_eq a (x ∷ xs) ≡ true)
-      (λ a h. Rattle.dom_worlds.proofs.Lists.or-second (name_eq a x) (is_in name_eq a xs) h) xs (listed-each xs),
+      (λ a h. or_right (name_eq a x) (is_in name_eq a xs) h) xs (listed-each xs),
 )
 
 -- a node in whose tree another one stands has children

@@ -2,7 +2,7 @@
 use Rattle.dom_base.proofs.Std.{◌≡◌, ◌≢◌, ℕ, suc, Bool, false, List, [], ◌∷◌, ◌++◌, length, filter, Some, refl, sym, ap, ◌∙◌, arith, subst, append-nil}
 use Rattle.dom_base.proofs.Std.{length-append, ◌≤◌, true, true≢false, not, map, zero, ◌+◌, ◌<◌, position, Option, None, option_map, is_none, option_to_list}
 use Rattle.dom_base.proofs.Std.{is_some, slice_get, nat_lt, cond, drop, option_map_or, option_and_then, cond-true, cond-false, false_from_ne_true, and_parts}
-use Rattle.dom_base.proofs.Std.{not-true, lt-ltb, filter-append, AllByRecursion, position_or_len}
+use Rattle.dom_base.proofs.Std.{not-true, lt-ltb, filter-append, AllByRecursion, position_or_len, or_right, or_left}
 use Rattle.dom_model.proofs.Model.{Owner, Page, Component, NodeName, Shadow, owner_eq, first_of, name_eq, is_in, node_in, names_of, roots, trees_below, subtree}
 use Rattle.dom_model.proofs.Model.{children_of, times_in, Trees, none, tree, nodes, has_node, inclusive_ancestors, on_top, named, first_world, part_with_root}
 use Rattle.dom_model.proofs.Model.{effect_in, attaching, step, run_lines, finish, Effect, tables, changes, Part, World, micro_task, part_of, with_part}
@@ -18,7 +18,7 @@ use Rattle.dom_worlds.proofs.Effects.{KeepsBase, base-effect, attach-may}
 use Rattle.dom_worlds.proofs.StepKeeps.{quiet-first, quiet-attaching, by_owner, attached-maker, attached-new, attached-other, attached-there, OkFor, quiet-step}
 use Rattle.dom_worlds.proofs.StepKeeps.{any-line, quiet-keeps}
 use Rattle.dom_worlds.proofs.Invariants.{Keeps, Any, both-keep, kept-ending_other, kept-ending_turn, kept-finish, kept-lines, kept-step}
-use Rattle.dom_worlds.proofs.Lists.{all-append, all-then, all-filter, by_cases, or-first, or-second, or-later, by_some_is}
+use Rattle.dom_worlds.proofs.Lists.{all-append, all-then, all-filter, by_cases, or-later, by_some_is}
 use Rattle.dom_worlds.proofs.OwnerSteps.{IsPresent, IsPeopled, same-people, peopled-with_part, peopled-world_after, peopled-dispatch, peopled-told, people}
 use Rattle.dom_worlds.proofs.Turns.{at_end, quiet-ending_turn, quiet-ending_other}
 use Rattle.dom_worlds.proofs.Owners.{has_owner, there-listed, owners-put, owners-put_new, absent-part, made_by-told, next-absent, owner-named, hosted}
@@ -218,8 +218,8 @@ assigned-are_siblings b w r s host e =
 root-has_node : (ts : Trees) (x : NodeName) → HasRoot ts x → has_node ts x ≡ true
 root-has_node none x h = h
 root-has_node (tree n c r) x h =
-    by_cases (name_eq x n.name) (λ e. or-first (name_eq x n.name) (is_in name_eq x (names_of (nodes c ++ nodes r))) e)
-    (λ e. or-second (name_eq x n.name) (is_in name_eq x (names_of (nodes c ++ nodes r)))
+    by_cases (name_eq x n.name) (λ e. or_left (name_eq x n.name) (is_in name_eq x (names_of (nodes c ++ nodes r))) e)
+    (λ e. or_right (name_eq x n.name) (is_in name_eq x (names_of (nodes c ++ nodes r)))
     (in-later x (nodes c) (nodes r) (root-has_node r x (or-later (name_eq x n.name) (is_in name_eq x (names_of (roots r))) e h))))
 
 -- a root is its only ancestor

@@ -55,9 +55,8 @@ records-grow ts us g qs h = all-then (AllByRecursion (IsRecordIn ts)) (AllByRecu
 
 -- without the old value
 record-without_old : (ts : Trees) (c : Change NodeName) → IsRecordIn ts c → IsRecordIn ts (without_old c)
-record-without_old ts (child_list x added removed before behind) h = h
 record-without_old ts (attributes x a old) h = h
-record-without_old ts (character_data x old) h = h
+record-without_old ts c h = h
 
 -- what is found, or none
 or-all : {X : Type 0} (P : List X → Type 0) (o : Option (List X)) → IfSome P o → P [] → P (unwrap_or o [])

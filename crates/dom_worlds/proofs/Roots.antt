@@ -1,6 +1,6 @@
 -- The roots of trees, and the nodes that are read under their names, with their lengths, through the elementary changes.
 use Rattle.dom_base.proofs.Std.{◌≡◌, ◌≤◌, true, false, List, [], ◌∷◌, ◌++◌, drop, Some, None, unwrap_or, sym, ap, ◌∙◌, arith, subst, length, map, find, Option}
-use Rattle.dom_base.proofs.Std.{option_map, refl, true≢false, last_or, AllByRecursion, cond-true, cond-false}
+use Rattle.dom_base.proofs.Std.{option_map, refl, true≢false, last_or, AllByRecursion, cond-true, cond-false, or_right, or_left}
 use Rattle.dom_model.proofs.Model.{NodeName, name_eq, is_in, first_of, same_root, Trees, none, tree, inclusive_ancestors, is_inclusive_ancestor, on_top}
 use Rattle.dom_model.proofs.Model.{parent_of, root_of, subtree, times_in, Node, nodes, node_in, no_node, kind_of, has_data, children_of, length_of, taken_out}
 use Rattle.dom_model.proofs.Model.{without, placed, with_node, map_nodes, name_eq-same, name_eq-true}
@@ -8,7 +8,7 @@ use Rattle.dom_worlds.proofs.Descents.{ancestor-inside, inside-ancestor, inside-
 use Rattle.dom_worlds.proofs.Insides.{IsOutside, unique-taken_out, inside, inside-absent, inside-elsewhere, inside-times, inside-put_root, CanPlace}
 use Rattle.dom_worlds.proofs.Insides.{times-taken_out_all, times-placed_all}
 use Rattle.dom_worlds.proofs.InsideAncestors.{parent-there}
-use Rattle.dom_worlds.proofs.Lists.{by_cases, or-first, or-second, or-later}
+use Rattle.dom_worlds.proofs.Lists.{by_cases, or-later}
 use Rattle.dom_laws.proofs.Laws.{Once, by_times, times-here, times-elsewhere, once_parts, path_none}
 use Rattle.dom_worlds.proofs.Trees.{all-in, last_from, last-is, last-in, ancestors-present, ancestors-root}
 use Rattle.dom_worlds.specs.Definitions.{AllNodes}
@@ -67,13 +67,13 @@ ancestors-step (tree n c r) x y u h =
 
 -- a node is an inclusive ancestor of itself
 pub self-above : (ts : Trees) (x : NodeName) → 1 ≤ times_in ts x → is_inclusive_ancestor ts x x ≡ true
-self-above ts x t = let at = ancestors-present ts x t in ap (is_in name_eq x) at.1 ∙ or-first (name_eq x x) (is_in name_eq x at.0) (name_eq-same x)
+self-above ts x t = let at = ancestors-present ts x t in ap (is_in name_eq x) at.1 ∙ or_left (name_eq x x) (is_in name_eq x at.0) (name_eq-same x)
 
 -- A child of a parent.
 module _ {y : NodeName} (ts : Trees) (x : NodeName) (u : Once ts) (h : parent_of ts x ≡ Some y) where
   -- the parent is an inclusive ancestor of it
   pub parent-above : is_inclusive_ancestor ts y x ≡ true
-  parent-above = ap (is_in name_eq y) (ancestors-step ts x y u h) ∙ or-second (name_eq y x) (is_inclusive_ancestor ts y y)
+  parent-above = ap (is_in name_eq y) (ancestors-step ts x y u h) ∙ or_right (name_eq y x) (is_inclusive_ancestor ts y y)
       (self-above ts y (parent-there ts x y h))
 
   -- an ancestor of it is an inclusive ancestor of the parent

@@ -1,5 +1,5 @@
 -- Rules of plans where something is asked of a few steps alone.
-use Rattle.dom_base.proofs.Std.{ℕ, List, Option, AllByRecursion}
+use Rattle.dom_base.proofs.Std.{ℕ, List, Option, AllByRecursion, ⊤}
 use Rattle.dom_model.proofs.Model.{NodeName, Word, DomString, Node, node_in, children_of, with_name, Change, child_list, character_data, Part, next_name, Range}
 use Rattle.dom_model.proofs.Model.{Step, part_step, new_text_node, pieces_of, clone_part, new_fragment_node}
 use Rattle.dom_worlds.proofs.PartSteps.{Asked}
@@ -21,25 +21,28 @@ pub record AreRules (Inv : Part → Type 0) (Makes : Node → Type 0) (MayPlace 
 
 -- other steps of plans are free
 pub rules-kept : {Inv : Part → Type 0} {Makes : Node → Type 0} {MayPlace : NodeName → Type 0} {Sets : Word → Type 0} {Tells : Change NodeName → Type 0} →
-    AreRules Inv Makes MayPlace Sets Tells → IsKept Inv (Asked Makes MayPlace Sets Tells) MayPlace
+    AreRules Inv Makes MayPlace Sets Tells → IsKept Inv (Asked Makes MayPlace Sets Tells) MayPlace (λ x. ⊤)
 rules-kept r =
     record {
-      step = r.step;
-      placing = λ x parent before h. h;
-      making_room = λ parent index count. tt;
-      taking_out = λ x. tt;
-      document = λ x d. tt;
+      moves = record {
+        step = r.step;
+        placing = λ x parent before h. h;
+        making_room = λ parent index count. tt;
+        taking_out = λ x. tt;
+        document = λ x d h. tt;
+        placed_set = λ x h. tt;
+        children_told = r.children_told;
+        children = r.children;
+      };
       data_replaced = λ x offset count new. tt;
       split = λ x offset new parent index. tt;
       join = λ x size next parent index. tt;
       range = λ k range. tt;
-      children_told = r.children_told;
       data_told = r.data_told;
       new_text = r.new_text;
       new_fragment = r.new_fragment;
       clone = r.clone;
       clone_part = r.clone_part;
       new_node = r.new_node;
-      children = r.children;
       wholes = r.wholes;
     }

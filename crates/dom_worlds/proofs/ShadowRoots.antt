@@ -1,14 +1,13 @@
 -- Pieces of ranges, and plans in a part with a shadow root: they place it nowhere.
-use Rattle.dom_base.proofs.Std.{◌≡◌, ℕ, Bool, true, false, ◌&&◌, not, filter, ◌≤◌, List, [], ◌∷◌, ◌++◌, find, drop, unwrap_or, Option, Some, None, refl, sym}
-use Rattle.dom_base.proofs.Std.{ap, ◌∙◌, arith, true≢false, if◌then◌else◌, ⊤, and_parts, cond-true, cond-false, not-false, AllByRecursion, option_map_or}
+use Rattle.dom_base.proofs.Std.{◌≡◌, ℕ, Bool, true, false, ◌&&◌, not, filter, ◌≤◌, List, [], ◌∷◌, ◌++◌, find, unwrap_or, Option, Some, None, refl, sym}
+use Rattle.dom_base.proofs.Std.{ap, ◌∙◌, arith, true≢false, if◌then◌else◌, ⊤, and_parts, cond-true, cond-false, AllByRecursion, option_map_or}
 use Rattle.dom_base.proofs.Std.{option_or, find-append}
 use Rattle.dom_model.proofs.Model.{NodeName, name_eq, Trees, none, tree, Node, names_of, roots, has_data, subtree, trees_below, length_of}
-use Rattle.dom_model.proofs.Model.{is_inclusive_ancestor, nodes, no_node, kind_of, child_nodes, times_in, is_before, Range, at, is_collapsed, is_contained}
-use Rattle.dom_model.proofs.Model.{Pieces, whole, cut, clone, pieces_along, pieces_behind, pieces_in_front, tree_holding, all_whole, ◌followed_by◌}
-use Rattle.dom_model.proofs.Model.{common_ancestor, is_in_one_data, pieces_apart, pieces_of, Shadow, Refusal, Hierarchy, NotFound, Command, NodeWord}
-use Rattle.dom_model.proofs.Model.{own_refusal, effect, Part, range_at, first_refusal, has_parent, may_be_parent, may_be_inserted, placing_tests}
-use Rattle.dom_model.proofs.Model.{pre_insert_refusal, replace_refusal, named, limit_on, made_by_insert_node, cannot_take_node, insert_node_refusal}
-use Rattle.dom_model.proofs.Model.{insertion_parent, start_reference, Effect, name_eq-true}
+use Rattle.dom_model.proofs.Model.{is_inclusive_ancestor, nodes, no_node, kind_of, times_in, is_before, Range, at, is_collapsed, is_contained, Pieces}
+use Rattle.dom_model.proofs.Model.{whole, cut, clone, pieces_along, pieces_behind, pieces_in_front, tree_holding, all_whole, ◌followed_by◌}
+use Rattle.dom_model.proofs.Model.{common_ancestor, is_in_one_data, pieces_apart, pieces_of, Shadow, Refusal, Hierarchy, Command, NodeWord, own_refusal}
+use Rattle.dom_model.proofs.Model.{effect, Part, range_at, may_be_inserted, pre_insert_refusal, named, limit_on, made_by_insert_node, cannot_take_node}
+use Rattle.dom_model.proofs.Model.{insert_node_refusal, insertion_parent, start_reference, Effect, name_eq-true}
 use Rattle.dom_model.specs.Extract.{nothing}
 use Rattle.dom_worlds.specs.Definitions.{AllNodes, IsShadowAt}
 use Rattle.dom_worlds.proofs.Plans.{AreFit, AllWhole, IsKept}
@@ -18,7 +17,8 @@ use Rattle.dom_worlds.proofs.TreeChangeLaws.{nodes-then, nodes-listed, nodes-nam
 use Rattle.dom_worlds.proofs.Trees.{root-there}
 use Rattle.dom_laws.proofs.Laws.{times-here, times-elsewhere, times-more, by_times}
 use Rattle.dom_worlds.proofs.PartSteps.{Allowed, IsOwn, own-step, next-other}
-use Rattle.dom_worlds.proofs.Effects.{or-none, next-test, Makes, MayDo, made-effect}
+use Rattle.dom_worlds.proofs.Effects.{or-none, Makes, MayDo, made-effect}
+use Rattle.dom_worlds.proofs.Placings.{insertion-tested, replacement-tested}
 
 -- what follows for each
 pub fit-then : (W : NodeName → Type 0) {C K W' C' K' : NodeName → Type 0} → ((x : NodeName) → W x → W' x) → ((x : NodeName) → C x → C' x) →
@@ -186,26 +186,6 @@ inserted-other r p o node h =
     by_cases (name_eq node r) (λ e. absurd
     (true≢false (sym h ∙ ap (λ x. may_be_inserted (kind_of p.trees x)) (name_eq-true node r e) ∙ ap may_be_inserted (kind-root r p o)))) (λ e. e)
 
--- what passed the tests of a placing
-tested : (ts : Trees) (parent node : NodeName) (is_lost : Bool) (others : List Node) →
-    first_refusal (placing_tests ts parent node is_lost others) ≡ None → may_be_inserted (kind_of ts node) ≡ true
-tested ts parent node is_lost others h =
-    let tests = placing_tests ts parent node is_lost others in
-    let a = next-test (not (may_be_parent (kind_of ts parent))) Hierarchy (drop 1 tests) h in
-    let b = next-test (is_inclusive_ancestor ts node parent) Hierarchy (drop 2 tests) a.1 in
-    let c = next-test is_lost NotFound (drop 3 tests) b.1 in
-    not-false (may_be_inserted (kind_of ts node)) (next-test (not (may_be_inserted (kind_of ts node))) Hierarchy (drop 4 tests) c.1).0
-
--- of an insertion
-insertion-tested : (ts : Trees) (parent node : NodeName) (child : Option NodeName) → pre_insert_refusal ts parent node child ≡ None →
-    may_be_inserted (kind_of ts node) ≡ true
-insertion-tested ts parent node child h = tested ts parent node (option_map_or (λ c. not (has_parent ts parent c)) child false) (child_nodes ts parent) h
-
--- of a replacement
-replacement-tested : (ts : Trees) (parent node child : NodeName) → replace_refusal ts parent node child ≡ None → may_be_inserted (kind_of ts node) ≡ true
-replacement-tested ts parent node child h =
-    tested ts parent node (not (has_parent ts parent child)) (filter (λ (n : Node). not (name_eq n.name child)) (child_nodes ts parent)) h
-
 -- no refusal at once
 pub not_taken : (b : Bool) (r : Option Refusal) → (if b then Some Hierarchy else r) ≡ None → r ≡ None
 not_taken true r h = cc
@@ -220,7 +200,7 @@ insert_node-other {r} {p} o k x h range e =
     let first = or-none (insert_node_refusal p.trees range (named p x)) (limit_on p.node_count (made_by_insert_node p range)) here in
     let valid = not_taken (cannot_take_node p.trees range (named p x))
     (pre_insert_refusal p.trees (insertion_parent p.trees range) (named p x) (start_reference p.trees range)) first.0 in
-    inserted-other r p o (named p x) (insertion-tested p.trees (insertion_parent p.trees range) (named p x) (start_reference p.trees range) valid)
+    inserted-other r p o (named p x) (insertion-tested p.trees (insertion_parent p.trees range) (named p x) (start_reference p.trees range) valid).inserted
 
 -- both ends of a range are in one Text or Comment
 abbrev is_in_data : Part → NodeName → NodeName → Bool
@@ -255,7 +235,7 @@ module _ (r : NodeName) where
       (λ e. absurd (let same = ap (times_in below) (name_eq-true y r e) in omega arith)) (λ e. e)))
 
   -- The rules of plans, for a part with its shadow root r, which no step places.
-  pub shadow-rules : IsKept (IsOwn r) (Allowed r) (IsOther r)
+  pub shadow-rules : IsKept (IsOwn r) (Allowed r) (IsOther r) (λ x. ⊤)
   shadow-rules =
       rules-kept (record {
         step = own-step r;
@@ -273,9 +253,9 @@ module _ (r : NodeName) where
 -- What an accepted command places is no shadow root.
 pub may-do : (r : NodeName) (p : Part) → IsOwn r p → (c : Command) → own_refusal p c ≡ None → MayDo (Allowed r) (IsOther r) p c
 may-do r p o (Command.new_element a) h = tt
-may-do r p o (Command.append a b) h = inserted-other r p o (named p b) (insertion-tested p.trees (named p a) (named p b) None h)
-may-do r p o (Command.insert a b c) h = inserted-other r p o (named p b) (insertion-tested p.trees (named p a) (named p b) (Some (named p c)) h)
-may-do r p o (Command.replace a b c) h = inserted-other r p o (named p b) (replacement-tested p.trees (named p a) (named p b) (named p c) h)
+may-do r p o (Command.append a b) h = inserted-other r p o (named p b) (insertion-tested p.trees (named p a) (named p b) None h).inserted
+may-do r p o (Command.insert a b c) h = inserted-other r p o (named p b) (insertion-tested p.trees (named p a) (named p b) (Some (named p c)) h).inserted
+may-do r p o (Command.replace a b c) h = inserted-other r p o (named p b) (replacement-tested p.trees (named p a) (named p b) (named p c) h).inserted
 may-do r p o (Command.insert_node a b) h = insert_node-other o a b h
 may-do r p o (Command.set_attribute a b c) h = ((λ old. tt), tt)
 may-do r p o (Command.unset_attribute a b) h = ((λ old. tt), tt)

@@ -1,13 +1,13 @@
 -- The first world, attaching, and each line keep what holds of the worlds.
 use Rattle.dom_base.proofs.Std.{◌≡◌, ◌≢◌, ℕ, zero, suc, ◌≤◌, ◌<◌, Bool, true, false, ◌||◌, List, [], ◌∷◌, ◌++◌, length, Option, Some, None, refl, sym, ap, ◌∙◌}
 use Rattle.dom_base.proofs.Std.{arith, true≢false, subst, not, ◌&&◌, filter, append-nil, IsTrue, is_some, slice_get, is_none, AllByRecursion, option_and_then}
-use Rattle.dom_base.proofs.Std.{cond-false, not-false, filter-append}
-use Rattle.dom_model.proofs.Model.{Owner, Page, Component, NodeName, Kind, Document, Shadow, owner_eq, name_eq, node_of, Word, none, tree, node_in, times_in}
-use Rattle.dom_model.proofs.Model.{Part, empty_part, World, part_of, with_part, is_there, host_of, component_made, MayAttach, shadow_root_of, micro_task}
-use Rattle.dom_model.proofs.Model.{first_world, new_root, part_with_root, attaching, refusal, effect_in, step, owner_eq-true, owner_eq-false, name_eq-same}
-use Rattle.dom_model.proofs.Model.{made_by-is, component_made-other, name_eq-true, ne-owner_eq, part_of-with_part, part_of-with_part-other, owner-part_of}
-use Rattle.dom_model.proofs.Model.{Action, Log, Stop, StopNow, Cancel, Command, Line, no_owner, no_command, command, effect, named, Effect, tables, changes}
-use Rattle.dom_model.proofs.Model.{ending_other_turn, is_page_turn, is_page, is_log, may_stop, line_may_stop, is_page_task}
+use Rattle.dom_base.proofs.Std.{cond-false, not-false, filter-append, and-true}
+use Rattle.dom_model.proofs.Model.{Owner, Page, Component, NodeName, Kind, Document, Shadow, owner_eq, name_eq, node_of, Word, none, tree, node_in}
+use Rattle.dom_model.proofs.Model.{times_in, Part, empty_part, World, part_of, with_part, is_there, host_of, component_made, MayAttach, shadow_root_of}
+use Rattle.dom_model.proofs.Model.{micro_task, first_world, new_root, part_with_root, attaching, refusal, effect_in, step, owner_eq-true}
+use Rattle.dom_model.proofs.Model.{owner_eq-false, name_eq-same, made_by-is, component_made-other, name_eq-true, ne-owner_eq, part_of-with_part}
+use Rattle.dom_model.proofs.Model.{part_of-with_part-other, owner-part_of, Action, Log, Command, Line, no_owner, no_command, command, effect, named}
+use Rattle.dom_model.proofs.Model.{Effect, tables, changes, ending_other_turn, is_page_turn, is_page, is_log, may_stop, line_may_stop, is_page_task}
 use Rattle.dom_worlds.specs.Definitions.{Invariant, IsPart, IsRoot, IsOf, OnlyLogs, ComponentsOnlyLog}
 use Rattle.dom_worlds.proofs.Lists.{all-append, by_cases, by_some_is}
 use Rattle.dom_worlds.proofs.Owners.{hosted, owner-named}
@@ -269,14 +269,7 @@ module _ {only_log : Bool} where
 -- A `listen` that may not stop only logs.
 only-log : (a : Action) → is_log a ≡ true → a ≡ Log
 only-log Log h = refl
-only-log Stop h = absurd (true≢false (sym h))
-only-log StopNow h = absurd (true≢false (sym h))
-only-log Cancel h = absurd (true≢false (sym h))
-
--- a test beside one that holds
-and-true : (b : Bool) → (b && true) ≡ b
-and-true true = refl
-and-true false = refl
+only-log a h = absurd (true≢false (sym h))
 
 -- an accepted command of a component that may not stop
 adds-logs : (w : World) (o : Owner) (c : Command) → may_stop w o c ≡ false → refusal w o c ≡ None → o ≢ Page → AddsLogs c

@@ -1,15 +1,14 @@
 -- What accepted commands do to ranges, iterators and walkers: they keep to nodes that are there.
 use Rattle.dom_base.proofs.Std.{◌≡◌, ℕ, Bool, true, false, not, ◌&&◌, List, filter, drop, Option, Some, None, option_map, refl, sym, ◌≤◌, [], ◌∷◌, ◌++◌, find}
 use Rattle.dom_base.proofs.Std.{option_map_or, and_parts, AllByRecursion}
-use Rattle.dom_model.proofs.Model.{NodeName, Command, Hierarchy, NodeWord, named, answers, Effect, tables, changes, with_range, collapsed_to, moves_iterator}
-use Rattle.dom_model.proofs.Model.{sets_walker, name_eq, first_of, last_of, items_before, items_after, Part, Boundary, same_root, is_before, Range, from_to}
-use Rattle.dom_model.proofs.Model.{with_start, with_end, Trees, Node, has_node, kind_of, is_inclusive_ancestor, child_nodes, ancestors, inclusive_ancestors}
-use Rattle.dom_model.proofs.Model.{inclusive_descendants, times_in, first_refusal, has_parent, may_be_parent, placing_tests, pre_insert_refusal}
-use Rattle.dom_model.proofs.Model.{replace_refusal, Move, Parent, First, Last, Next, Previous, NextSibling, PreviousSibling, Value, nothing, Iterator, Walker}
-use Rattle.dom_model.proofs.Model.{iterator_next_node, iterator_previous_node, nodes_ahead, nodes_passed, accepts, walker_move, walker_step, walker_children}
-use Rattle.dom_model.proofs.Model.{walker_nodes, walker_siblings}
+use Rattle.dom_model.proofs.Model.{NodeName, Command, NodeWord, named, answers, Effect, tables, changes, with_range, collapsed_to, moves_iterator}
+use Rattle.dom_model.proofs.Model.{sets_walker, name_eq, first_of, last_of, items_before, items_after, Part, Boundary, same_root, is_before, Range}
+use Rattle.dom_model.proofs.Model.{from_to, with_start, with_end, Trees, Node, has_node, is_inclusive_ancestor, ancestors, inclusive_ancestors}
+use Rattle.dom_model.proofs.Model.{inclusive_descendants, times_in, Move, Parent, First, Last, Next, Previous, NextSibling, PreviousSibling, Value}
+use Rattle.dom_model.proofs.Model.{nothing, Iterator, Walker, iterator_next_node, iterator_previous_node, nodes_ahead, nodes_passed, accepts}
+use Rattle.dom_model.proofs.Model.{walker_move, walker_step, walker_children, walker_nodes, walker_siblings}
 use Rattle.dom_worlds.specs.Definitions.{IsPart, IsNodeIn, HasEnds, EndsIn, HasTables, IsIteratorIn, IsWalkerIn}
-use Rattle.dom_worlds.proofs.Effects.{IsPartAccepted, next-test}
+use Rattle.dom_worlds.proofs.Effects.{IsPartAccepted}
 use Rattle.dom_worlds.proofs.InsideAncestors.{inside-no_ancestor, times-has_node}
 use Rattle.dom_worlds.proofs.KindLines.{has_node-times}
 use Rattle.dom_worlds.proofs.Owners.{owner-named}
@@ -20,32 +19,14 @@ use Rattle.dom_worlds.proofs.Roots.{roots-equal, roots-same}
 use Rattle.dom_worlds.proofs.Lists.{which_way, all-set, all-dropped, all-append, all-then, all-filter, either_way}
 use Rattle.dom_laws.proofs.Laws.{Once}
 use Rattle.dom_worlds.proofs.Trees.{ancestors-there}
+use Rattle.dom_worlds.proofs.Placings.{insertion-tested, replacement-tested}
 
 -- the tables after an effect, or its steps
 abbrev pub Holds : Part → Effect → Type 0
 Holds p (tables q lines v) = HasTables q
 Holds p (changes steps v) = MadeIn p steps
 
--- What passed the tests of a placing does not stand in the tree of what is placed.
-tested-apart : (ts : Trees) (parent node : NodeName) (is_lost : Bool) (others : List Node) →
-    first_refusal (placing_tests ts parent node is_lost others) ≡ None → is_inclusive_ancestor ts node parent ≡ false
-tested-apart ts parent node is_lost others h =
-    let tests = placing_tests ts parent node is_lost others in
-    let a = next-test (not (may_be_parent (kind_of ts parent))) Hierarchy (drop 1 tests) h in
-    (next-test (is_inclusive_ancestor ts node parent) Hierarchy (drop 2 tests) a.1).0
-
--- of an insertion
-pub insertion-apart : (ts : Trees) (parent node : NodeName) (child : Option NodeName) → pre_insert_refusal ts parent node child ≡ None →
-    is_inclusive_ancestor ts node parent ≡ false
-insertion-apart ts parent node child h = tested-apart ts parent node (option_map_or (λ c. not (has_parent ts parent c)) child false) (child_nodes ts parent) h
-
--- of a replacement
-replacement-apart : (ts : Trees) (parent node child : NodeName) → replace_refusal ts parent node child ≡ None →
-    is_inclusive_ancestor ts node parent ≡ false
-replacement-apart ts parent node child h =
-    tested-apart ts parent node (not (has_parent ts parent child)) (filter (λ (n : Node). not (name_eq n.name child)) (child_nodes ts parent)) h
-
--- so it may go there
+-- what is not above a node may go there
 pub named-may : {p : Part} (x : NodeWord) (parent : NodeName) → IsPart p → HasNode p (named p x) → HasNode p parent →
     is_inclusive_ancestor p.trees (named p x) parent ≡ false → MayGo parent p (named p x)
 named-may {p} x parent i t b h = record { there = t; owner = owner-named p x; below = b; apart = inside-no_ancestor p.trees (named p x) parent i.unique h }
@@ -78,7 +59,7 @@ module _ {p : Part} (i : IsPart p) (a x : NodeWord) where
   pub append-may : IsPartAccepted p (Command.append a x) → MayGo (named p a) p (named p x)
   append-may k =
       named-may x (named p a) i (exists-second p a x true true k.exist) (exists-first p a (has_node p.trees (named p x) && true) true k.exist)
-      (insertion-apart p.trees (named p a) (named p x) None k.own)
+      (insertion-tested p.trees (named p a) (named p x) None k.own).apart
 
   -- before a child, or in its place
   module _ (c : NodeWord) where
@@ -88,12 +69,12 @@ module _ {p : Part} (i : IsPart p) (a x : NodeWord) where
     pub insert-may : IsPartAccepted p (Command.insert a x c) → MayGo (named p a) p (named p x)
     insert-may k =
         named-may x (named p a) i (exists-second p a x rest true k.exist) (exists-first p a (has_node p.trees (named p x) && rest) true k.exist)
-        (insertion-apart p.trees (named p a) (named p x) (Some (named p c)) k.own)
+        (insertion-tested p.trees (named p a) (named p x) (Some (named p c)) k.own).apart
 
     pub replace-may : IsPartAccepted p (Command.replace a x c) → MayGo (named p a) p (named p x)
     replace-may k =
         named-may x (named p a) i (exists-second p a x rest true k.exist) (exists-first p a (has_node p.trees (named p x) && rest) true k.exist)
-        (replacement-apart p.trees (named p a) (named p x) (named p c) k.own)
+        (replacement-tested p.trees (named p a) (named p x) (named p c) k.own).apart
 
 -- what holds in each case holds of what is made of a thing that may not be there
 pub some-holds : {X : Type 0} {P : X → Type 0} (p : Part) (o : Option X) (f : X → Effect) → IfSome P o → ((x : X) → P x → Holds p (f x)) → HasTables p →

@@ -3,7 +3,7 @@ use Rattle.dom_base.proofs.Std.{◌≡◌, ℕ, true, false, ◌&&◌, List, [],
 use Rattle.dom_base.proofs.Std.{option_map_or, arith, true≢false, nat_eq, AllByRecursion}
 use Rattle.dom_model.proofs.Model.{NodeName, observed, reference_child, Command, Line, EventWords, part_refusal, effect, named, Effect, tables, changes}
 use Rattle.dom_model.proofs.Model.{answers, sets_walker, extracting, Value, nothing, Part, first_node, deleting, inserting_into_range, Walker}
-use Rattle.dom_model.proofs.Model.{length_of, node_in, Action, Log, Stop, StopNow, Cancel, Shadow, Owner, Page, Component, dispatch_in, world_visit, visits_of}
+use Rattle.dom_model.proofs.Model.{length_of, node_in, Action, Log, Shadow, Owner, Page, Component, dispatch_in, world_visit, visits_of}
 use Rattle.dom_model.proofs.Model.{first_world, part_with_root, effect_in, attaching, step, run_lines, finish, Listener, Visit, Dispatching, begun}
 use Rattle.dom_model.proofs.Model.{after_action, may_cancel, line_of, is_listener, kept_after, after_inner_invoke, hears, after_invoke, name_eq, node_of, is_in}
 use Rattle.dom_model.proofs.Model.{Registration, is_transient, views, is_owned_by, without_signals, notified, ending_turn, ending_other_turn, World, part_of}
@@ -81,38 +81,32 @@ records-effect p i t h (Command.insert_node k x) r =
     (insert_node-may i t a e))
 records-effect p i t h c r = search (some-records, walker-records, all-append, all-set, tells-removing, tells-adopting, tells-normalizing)
 
--- Listeners are called, and some go: those that are left are as they were.
-after-action : (P : Listener NodeName → Type 0) (a : Action) (c : Bool) (d : Dispatching NodeName) → AllByRecursion P d.listeners →
-    AllByRecursion P (after_action a c d).listeners
-after-action P Log c d h = h
-after-action P Stop c d h = h
-after-action P StopNow c d h = h
-after-action P Cancel c d h = h
+-- A dispatch leaves some of the listeners.
+module _ {N : Type 0} (same : N → N → Bool) (P : Listener N → Type 0) (e : EventWords) where
+  after-action : (a : Action) (cancels : Bool) (d : Dispatching N) → AllByRecursion P d.listeners → AllByRecursion P (after_action a cancels d).listeners
+  after-action Log cancels d h = h
+  after-action a cancels d h = h
 
--- a call
-after-called : (P : Listener NodeName → Type 0) (e : EventWords) (v : Visit NodeName) (d : Dispatching NodeName) (l : Listener NodeName) →
-    AllByRecursion P d.listeners → AllByRecursion P (after_inner_invoke name_eq e v d l).listeners
-after-called P e v d l h =
-    let left = kept_after name_eq l d.listeners in
-    let next : Dispatching NodeName = record d { listeners = left; lines = d.lines ++ line_of v l.words ∷ [] } in
-    let kept : AllByRecursion P left = either_way (AllByRecursion P) l.words.once _ d.listeners
-    (all-filter P (λ k. not (is_listener name_eq l.node l.words.event l.words.label l.words.capture k)) d.listeners h) h in
-    either_way (λ (s : Dispatching NodeName). AllByRecursion P s.listeners) d.stopped_now d
-    (after_action l.words.action (may_cancel e l.words) next) h (after-action P l.words.action (may_cancel e l.words) next kept)
+  after-called : (v : Visit N) (d : Dispatching N) (l : Listener N) → AllByRecursion P d.listeners → AllByRecursion P
+      (after_inner_invoke same e v d l).listeners
+  after-called v d l h =
+      let left = kept_after same l d.listeners in
+      let next : Dispatching N = record d { listeners = left; lines = d.lines ++ line_of v l.words ∷ [] } in
+      let kept : AllByRecursion P left = either_way (AllByRecursion P) l.words.once _ d.listeners
+      (all-filter P (λ k. not (is_listener same l.node l.words.event l.words.label l.words.capture k)) d.listeners h) h in
+      either_way (λ (s : Dispatching N). AllByRecursion P s.listeners) d.stopped_now d (after_action l.words.action (may_cancel e l.words) next) h
+      (after-action l.words.action (may_cancel e l.words) next kept)
 
--- calls
-after-calls : (P : Listener NodeName → Type 0) (e : EventWords) (v : Visit NodeName) (ls : List (Listener NodeName)) (d : Dispatching NodeName) →
-    AllByRecursion P d.listeners → AllByRecursion P (fold (after_inner_invoke name_eq e v) d ls).listeners
-after-calls P e v [] d h = h
-after-calls P e v (l ∷ ls) d h = after-calls P e v ls (after_inner_invoke name_eq e v d l) (after-called P e v d l h)
+  after-calls : (v : Visit N) (ls : List (Listener N)) (d : Dispatching N) → AllByRecursion P d.listeners →
+      AllByRecursion P (fold (after_inner_invoke same e v) d ls).listeners
+  after-calls v [] d h = h
+  after-calls v (l ∷ ls) d h = after-calls v ls (after_inner_invoke same e v d l) (after-called v d l h)
 
--- a visit
-after-visit : (P : Listener NodeName → Type 0) (e : EventWords) (v : Visit NodeName) (d : Dispatching NodeName) → AllByRecursion P d.listeners →
-    AllByRecursion P (after_invoke name_eq e d v).listeners
-after-visit P e v d h =
-    let hearing = filter (hears name_eq e v) d.listeners in
-    either_way (λ (s : Dispatching NodeName). AllByRecursion P s.listeners) d.stopped d (fold (after_inner_invoke name_eq e v) d hearing) h
-    (after-calls P e v hearing d h)
+  pub after-visit : (v : Visit N) (d : Dispatching N) → AllByRecursion P d.listeners → AllByRecursion P (after_invoke same e d v).listeners
+  after-visit v d h =
+      let hearing = filter (hears same e v) d.listeners in
+      either_way (λ (s : Dispatching N). AllByRecursion P s.listeners) d.stopped d (fold (after_inner_invoke same e v) d hearing) h
+      (after-calls v hearing d h)
 
 -- visits in the world keep what each of them keeps
 module _ (P : World → Type 0) (e : EventWords) (each : (v : Visit NodeName) (w : World) (d : Dispatching NodeName) → P w → P (world_visit e (w, d) v).0) where
@@ -127,7 +121,7 @@ frame-visit e v w d f =
     let p = part_of w o in
     let heard = after_invoke name_eq e (record d { listeners = p.listeners }) v in
     let t = tables-listeners p heard.listeners (f.tables o)
-    (after-visit (IsListenerIn p.trees) e v (record d { listeners = p.listeners }) (f.tables o).listeners) in
+    (after-visit name_eq (IsListenerIn p.trees) e v (record d { listeners = p.listeners }) (f.tables o).listeners) in
     frame-with_part w (record p { listeners = heard.listeners }) o (owner-part_of w o) t (f.records o) (λ y h. h) f
 
 -- a dispatch

@@ -1,7 +1,7 @@
 -- Steps with removals, records and iterators keep the tables of their part; and so does every step that fits.
 use Rattle.dom_base.proofs.Std.{zero, suc, ◌≡◌, ◌≤◌, ◌<◌, ℕ, Bool, true, false, not, ◌||◌, List, [], ◌∷◌, ◌++◌, map, filter, fold, length, Option, Some, None}
 use Rattle.dom_base.proofs.Std.{option_map, refl, sym, ap, ◌∙◌, arith, subst, if◌then◌else◌, IsTrue, ⊤, slice_get, slice_set, nat_eq, AllByRecursion, last_or}
-use Rattle.dom_base.proofs.Std.{option_map_or, cond-true, cond-false, not-true, length-set}
+use Rattle.dom_base.proofs.Std.{option_map_or, cond-true, cond-false, not-true, length-set, or_right, or_from, or_left}
 use Rattle.dom_model.proofs.Model.{NodeName, times_in, Trees, Node, nodes, subtree, parent_of, index_of, inclusive_descendants, inclusive_ancestors}
 use Rattle.dom_model.proofs.Model.{is_inclusive_ancestor, name_eq, is_in, first_of, last_of, items_after, items_before, append_once, without, taken_out, Range}
 use Rattle.dom_model.proofs.Model.{map_ends, after_insert, after_removal, after_replace_data, after_split, after_join, Iterator, moved_to, adjusted_iterator}
@@ -10,15 +10,15 @@ use Rattle.dom_model.proofs.Model.{copied_source, is_transient, Change, Part, qu
 use Rattle.dom_model.proofs.Model.{replace_data, split_at, join_at, set_range, queue_record, part_step, leave, told, interested_in, record_in, after}
 use Rattle.dom_model.proofs.Model.{name_eq-true}
 use Rattle.dom_worlds.specs.Definitions.{IsPart, IsNodeIn, EndsIn, IsIteratorIn, IsWalkerIn, IsSourceIn, IsRegistrationIn, IsListenerIn, HasTables}
-use Rattle.dom_worlds.proofs.Lists.{all-distinct, all-append, all-then, all-filter, all-from, all-flat_map, all-map, all-set, by_cases, either_way, or-second}
-use Rattle.dom_worlds.proofs.Lists.{by_some_is, or-neither, or-first}
+use Rattle.dom_worlds.proofs.Lists.{all-distinct, all-append, all-then, all-filter, all-from, all-flat_map, all-map, all-set, by_cases, either_way}
+use Rattle.dom_worlds.proofs.Lists.{by_some_is}
 use Rattle.dom_worlds.proofs.Roots.{roots-equal, roots-same, roots-left}
-use Rattle.dom_laws.proofs.Laws.{Once, by_times, times_subtree}
+use Rattle.dom_laws.proofs.Laws.{Once, by_times, times_subtree, first_inside}
 use Rattle.dom_worlds.proofs.Trees.{nodes-there, root-there}
 use Rattle.dom_worlds.proofs.TreeChangeLaws.{root-subtree}
 use Rattle.dom_worlds.proofs.PartSteps.{part-step}
 use Rattle.dom_worlds.proofs.KindLines.{has_node-times}
-use Rattle.dom_worlds.proofs.Descents.{ancestor-inside, inside-ancestor, inside-left, inside-comparable, before-apart, descend-begins}
+use Rattle.dom_worlds.proofs.Descents.{ancestor-inside, inside-ancestor, inside-left, inside-comparable, before-apart}
 use Rattle.dom_worlds.proofs.Insides.{IsOutside, unique-taken_out, inside, inside-itself, inside-absent, inside-put_root, times-inside, times-taken_out_all}
 use Rattle.dom_worlds.proofs.InsideAncestors.{inside-nested, inside-subtree, inside-no_ancestor, child-there, times-has_node}
 use Rattle.dom_worlds.proofs.TableSteps.{Fits, MadeIn, Grows, grows-times, grows-step, ancestors-step, tables-trees, tables-ends, moves-insert, moves-removal}
@@ -223,7 +223,7 @@ iterator-left {ts} {i} x u h =
     let there : NodeName → Type 0 = StandsIn us root in
     let put = λ (a z : NodeName). inside-put_root x (subtree ts x) (without x ts) a z in
     by_cases (here root)
-    (λ e. subst P (sym (adjusted-not ts x i (or-first (here root) (not (here i.reference)) e)))
+    (λ e. subst P (sym (adjusted-not ts x i (or_left (here root) (not (here i.reference)) e)))
     (record {
       root = g root h.root;
       reference = g i.reference h.reference;
@@ -236,7 +236,7 @@ iterator-left {ts} {i} x u h =
     (λ k. let above = inside-no_ancestor ts x root u e in
     let mine = ancestor-inside ts x i.reference k in
     let below = inside-comparable ts root x i.reference u (record { first = held; second = mine; apart = above }) in
-    let at = descend-begins ts root (has_node-times ts root h.root) in
+    let at = first_inside ts root (has_node-times ts root h.root) in
     let other : name_eq x root ≡ false =
     by_cases (name_eq x root) (λ z. absurd
     (let same = name_eq-true x root z in let t = inside-itself ts root (has_node-times ts root h.root) in let w = ap
@@ -264,12 +264,12 @@ iterator-left {ts} {i} x u h =
     moved-front P i begins
     (all-then there (λ y. P (record i { reference = y; before = false })) (λ y m. record { root = g root h.root; reference = m.0; within = m.1 })
     front front-all) in
-    let no_test : (here root || not (here i.reference)) ≡ false = or-neither (here root) (not (here i.reference)) e (ap not k) in
+    let no_test : (here root || not (here i.reference)) ≡ false = or_from (here root) (not (here i.reference)) e (ap not k) in
     subst P (sym (cond-false (here root || not (here i.reference)) i
     (if i.before then moved_to (moved_to i false (last_of front)) true behind else moved_to i false (last_of front)) no_test))
     (either_way P i.before (moved_to (moved_to i false (last_of front)) true behind) (moved_to i false (last_of front))
     (iterator-moved us (moved_to i false (last_of front)) true behind back (moved-root us i (last_of front) behind behind-there)) back))
-    (λ k. subst P (sym (adjusted-not ts x i (or-second (here root) (not (here i.reference)) (ap not k))))
+    (λ k. subst P (sym (adjusted-not ts x i (or_right (here root) (not (here i.reference)) (ap not k))))
     (let stands = left-stands root u
     (record { there = has_node-times ts i.reference h.reference; apart = inside-no_ancestor ts x i.reference u k }) held in
     record { root = g root h.root; reference = stands.0; within = stands.1 })))

@@ -26,9 +26,10 @@ use Rattle.dom_worlds.proofs.TableSteps.{HasNode, MadeIn, tables-iterators, tabl
 use Rattle.dom_worlds.proofs.PlanRoots.{ends-at}
 use Rattle.dom_worlds.proofs.TableRecords.{IfSome, all-get}
 use Rattle.dom_worlds.proofs.Roots.{roots-same}
-use Rattle.dom_worlds.proofs.TableCommands.{Holds, append-may, exists-first, insert-may, insertion-apart, named-may, replace-may, some-holds, tables-range}
+use Rattle.dom_worlds.proofs.TableCommands.{Holds, append-may, exists-first, insert-may, named-may, replace-may, some-holds, tables-range}
 use Rattle.dom_worlds.proofs.TableCommands.{ends-mapped, ends-with_start, ends-with_end, ends-collapsed, iterator-next, iterator-previous, tables-iterator}
 use Rattle.dom_worlds.proofs.TableCommands.{walker-moved, tables-walker}
+use Rattle.dom_worlds.proofs.Placings.{insertion-tested}
 
 -- Listeners.
 pub all-heard : (P : Listener NodeName → Type 0) (x : NodeName) (w : ListenerWords) (ls : List (Listener NodeName)) →
@@ -109,7 +110,7 @@ insert_node-may {p} {k} {x} {range} i h a e =
     (pre_insert_refusal p.trees (insertion_parent p.trees range) (named p x) (start_reference p.trees range))
     (insert_node-valid p k x a.own range e) in
     named-may x (insertion_parent p.trees range) i t (parent-of_range p range (range-ends p k h range e).0)
-    (insertion-apart p.trees (insertion_parent p.trees range) (named p x) (start_reference p.trees range) valid)
+    (insertion-tested p.trees (insertion_parent p.trees range) (named p x) (start_reference p.trees range) valid).apart
 
 -- any thing or none
 some-any : {X : Type 0} (o : Option X) → IfSome (λ x. ⊤) o

@@ -1,11 +1,11 @@
 -- What the elementary changes do to how often a name is there, to all nodes, and to the roots.
 use Rattle.dom_base.proofs.Std.{◌≡◌, ◌+◌, ◌≤◌, Bool, true, false, Option, refl, sym, ap, ◌∙◌, arith, true≢false, subst, ℕ, if◌then◌else◌, AllByRecursion}
-use Rattle.dom_base.proofs.Std.{cond-true, cond-false}
+use Rattle.dom_base.proofs.Std.{cond-true, cond-false, or_right, or_left}
 use Rattle.dom_model.proofs.Model.{NodeName, name_eq, name_before, is_in, Trees, none, tree, Node, nodes, names_of, roots, subtree, or_else, trees_below}
 use Rattle.dom_model.proofs.Model.{times_in, followed_by, without, is_given, put_before, put_below, put_root, taken_out, placed, with_node, map_nodes}
 use Rattle.dom_model.proofs.Model.{name_eq-same, name_eq-turned, name_eq-true}
 use Rattle.dom_worlds.specs.Definitions.{AllNodes}
-use Rattle.dom_worlds.proofs.Lists.{all-append, by_cases, or-later, or-first, or-second}
+use Rattle.dom_worlds.proofs.Lists.{all-append, by_cases, or-later}
 use Rattle.dom_laws.proofs.Laws.{Once, by_times, times-here, times-elsewhere, times-more, times-parts, times_subtree, times_or_else, subtree_gone}
 use Rattle.dom_worlds.proofs.Trees.{root-there, IsSum, put_before-where, put_root-where, sum-put_before, sum-put_root, where-here, where-later, put_where}
 
@@ -262,11 +262,11 @@ module _ (n : Node) (c r : Trees) (x : NodeName) where
 
   -- the first root
   pub root-first : name_eq x n.name ≡ true → HasRoot (tree n c r) x
-  root-first e = or-first (name_eq x n.name) (is_in name_eq x (names_of (roots r))) e
+  root-first e = or_left (name_eq x n.name) (is_in name_eq x (names_of (roots r))) e
 
   -- a root behind it
   pub root-second : HasRoot r x → HasRoot (tree n c r) x
-  root-second e = or-second (name_eq x n.name) (is_in name_eq x (names_of (roots r))) e
+  root-second e = or_right (name_eq x n.name) (is_in name_eq x (names_of (roots r))) e
 
 -- a root of the first list
 root-followed_left : (a b : Trees) (x : NodeName) → HasRoot a x → HasRoot (followed_by a b) x

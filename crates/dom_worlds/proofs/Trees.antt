@@ -1,11 +1,11 @@
 -- Where the nodes of a list of trees stand, by how often their names are there.
 use Rattle.dom_base.proofs.Std.{◌≡◌, ◌≤◌, ◌||◌, Bool, true, false, List, [], ◌∷◌, ◌++◌, Option, Some, unwrap_or, refl, sym, ap, ◌∙◌, arith, true≢false, subst}
-use Rattle.dom_base.proofs.Std.{◌+◌, ℕ, AllByRecursion, last_or, cond-true, cond-false, if◌then◌else◌}
+use Rattle.dom_base.proofs.Std.{◌+◌, ℕ, AllByRecursion, last_or, cond-true, cond-false, if◌then◌else◌, or_left}
 use Rattle.dom_model.proofs.Model.{NodeName, name_eq, is_in, last_of, name_before, Trees, none, tree, Node, nodes, names_of, roots, subtree, or_else}
 use Rattle.dom_model.proofs.Model.{inclusive_ancestors, on_top, root_of, times_in, name_eq-same, name_eq-true, name_eq-turned, followed_by, is_given}
 use Rattle.dom_model.proofs.Model.{put_before, put_root}
 use Rattle.dom_laws.proofs.Laws.{Once, once_parts, by_times, times-here, times-elsewhere, times-more, times-parts, times_subtree, path_none, subtree_gone}
-use Rattle.dom_worlds.proofs.Lists.{all-append, all-then, by_cases, or-first, or-later}
+use Rattle.dom_worlds.proofs.Lists.{all-append, all-then, by_cases, or-later}
 
 -- What holds of all nodes of a list holds of one of them.
 pub all-in : (P : NodeName → Type 0) (x : NodeName) (ys : List NodeName) → AllByRecursion P ys → is_in name_eq x ys ≡ true → P x
@@ -25,7 +25,7 @@ last-is y (z ∷ zs) = last-is z zs
 
 -- the last of a list is in it
 pub last-in : (y : NodeName) (ys : List NodeName) → is_in name_eq (last_from y ys) (y ∷ ys) ≡ true
-last-in y [] = or-first (name_eq y y) false (name_eq-same y)
+last-in y [] = or_left (name_eq y y) false (name_eq-same y)
 last-in y (z ∷ zs) = by (name_eq (last_from z zs) y) (last-in z zs)
   where
     by : (t : Bool) → is_in name_eq (last_from z zs) (z ∷ zs) ≡ true → (t || is_in name_eq (last_from z zs) (z ∷ zs)) ≡ true

@@ -4,5 +4,6 @@ pub use Rattle.dom_worlds.proofs.Turns.{quiet-at_end, quiet-dispatch, quiet-endi
 pub use Rattle.dom_worlds.proofs.Turns.{opening-page, page_time, part_of-opening, quiet-ending_other, quiet-opening}
 pub use Rattle.dom_worlds.proofs.Invariants.{stays-running}
 pub use Rattle.dom_worlds.proofs.ShadowTrees.{page_in_no_tree, page_tasks-queued_other, signals-foreign}
+pub use Rattle.dom_worlds.proofs.TableLines.{after-visit}
 pub use Rattle.dom_worlds.proofs.BoundWorlds.{Stands, at_end-stands, dispatch-stands, told-stands}
 unfoldable pub use Rattle.dom_worlds.proofs.Turns.{call}

@@ -4,9 +4,9 @@ use Rattle.dom_base.proofs.Std.{true≢false, is_some, slice_get, if◌then◌el
 use Rattle.dom_model.proofs.Model.{Owner, Page, Component, times_in, owner_eq, name_eq, Part, World, part_of, with_part, is_there, host_of, made_by}
 use Rattle.dom_model.proofs.Model.{shadow_root_of, Task, micro_task, notify_task, is_page_turn, notified, slotchange, firing_slotchange, is_owned_by}
 use Rattle.dom_model.proofs.Model.{without_signals, running_task, ending_turn, is_other_component, has_other_turn, ending_other_turn, opening_turn}
-use Rattle.dom_model.proofs.Model.{is_page_task, page_of, owner_eq-true, owner_eq-false, part_of-with_part, part_of-with_part-other, owner-part_of, find-put}
-use Rattle.dom_model.proofs.Model.{find-put-other, Action, Log, Stop, StopNow, Cancel, NodeName, EventLine, EventWords, Listener, Visit, Dispatching}
-use Rattle.dom_model.proofs.Model.{after_invoke, after_inner_invoke, hears, is_listener, kept_after, after_action, may_cancel, line_of, begun, world_visit}
+use Rattle.dom_model.proofs.Model.{is_page_task, page_of, owner_eq-true, owner_eq-false, part_of-with_part, part_of-with_part-other, owner-part_of}
+use Rattle.dom_model.proofs.Model.{find-put, find-put-other, Action, Log, NodeName, EventLine, EventWords, Listener, Visit, Dispatching, after_invoke}
+use Rattle.dom_model.proofs.Model.{after_inner_invoke, hears, is_listener, kept_after, after_action, may_cancel, line_of, begun, world_visit}
 use Rattle.dom_model.proofs.Model.{dispatch_in, visits_of, run_each, Run, quiet, views, turn-ending_turn}
 use Rattle.dom_worlds.specs.Definitions.{IsPart, IsRoot, IsWorld, IsOf, IsForeignTo, OnlyLogs, ComponentsOnlyLog, Invariant}
 use Rattle.dom_worlds.proofs.Owners.{makers-same}
@@ -107,9 +107,7 @@ no_call e v d l s = cond-true d.stopped_now d (call e v d l) s
 pub sifted-after_action : (p : EventLine NodeName → Bool) (a : Action) (c : Bool) (d : Going) →
     record (after_action a c d) { lines = filter p (after_action a c d).lines } ≡ after_action a c (record d { lines = filter p d.lines })
 sifted-after_action p Log c d = refl
-sifted-after_action p Stop c d = refl
-sifted-after_action p StopNow c d = refl
-sifted-after_action p Cancel c d = refl
+sifted-after_action p a c d = refl
 
 -- listeners that only log, without one that was for once
 pub all-kept : (l : Listener NodeName) (ls : List (Listener NodeName)) → AllByRecursion OnlyLogs ls → AllByRecursion OnlyLogs (kept_after name_eq l ls)

@@ -1,4 +1,4 @@
-use Rattle.dom_base.proofs.Std.{◌≡◌, length, slice_index_or, ap, sym, ◌∙◌, arith, ext_get_or, bytes_eq-Decides}
+use Rattle.dom_base.proofs.Std.{length, slice_index_or, ap, sym, ◌∙◌, arith, ext_get_or, bytes_eq-Decides}
 use Rattle.dom_attributes.proofs.Attributes.{text_test, differ}
 use Rattle.dom_attributes.proofs.texts.is_same_string.Goals as goal
 

@@ -1,5 +1,6 @@
 use Rattle.dom_mutation.proofs.Cited.{[], ◌∷◌, None, map, sym, ap, ◌∙◌, subst, on_ok_weaker, inclusive_ancestors, Part, child_list, queue_record, in_turn}
-use Rattle.dom_mutation.proofs.Cited.{suppressed, remove_plan, DocState, name_in, owner_in, trees_in, IsAlone, alone_made, plans_each, plans_removing}
+use Rattle.dom_mutation.proofs.Cited.{suppressed, remove_plan, DocState, name_in, owner_in, trees_in, IsAlone, alone_made}
+use Rattle.dom_mutation.proofs.Cited.{keeps-each, keeps-removing, own_moves}
 use Rattle.dom_mutation.proofs.inserting.empty.Goals as goal
 
 pub returns-clause-paths : goal.returns-clause-paths
@@ -10,7 +11,7 @@ returns-clause-paths c =
     let ys = map (name_in d) c.args.children.now in
     let alone = subst (λ (s : DocState). IsAlone s.world (owner_in s c.args.fragment)) (sym c.in_ok-take_each.ensures.state)
     (alone_made o (in_turn (remove_plan suppressed) ys) d.world (c.laws.ensures.alone c.args.fragment c.requires.fragment_is_node)
-    (plans_each o (remove_plan suppressed) (plans_removing o suppressed) ys)) in
+    (keeps-each (own_moves o) (remove_plan suppressed) (keeps-removing (own_moves o) suppressed) ys)) in
     on_ok_weaker c.queue_tree_record.result (λ told y off. ap (λ (s : DocState). inclusive_ancestors (trees_in s c.args.fragment) y) told
     ∙ ap (λ (p : Part). inclusive_ancestors p.trees y)
     (alone.steps (queue_record (child_list (name_in e c.args.fragment) [] (map (name_in e) c.args.children.now) None None) ∷ []) (tt, tt))

@@ -1,6 +1,6 @@
 use Rattle.dom_mutation.proofs.Cited.{◌<◌, ℕ, List, length, map, subst, sym, ap, ◌∙◌, on_ok_weaker, NodeName, Plan, ◌and_then◌, in_turn, steps_of, observed}
 use Rattle.dom_mutation.proofs.Cited.{remove_plan, DomString, replacing_data, joins, kind_of, length_of, DocState, name_in, owner_in, planned, trees_in}
-use Rattle.dom_mutation.proofs.Cited.{planned_then, plans_then, plans_data, plans_joins}
+use Rattle.dom_mutation.proofs.Cited.{planned_then, keeps-and_then, keeps-replacing_data, made-joins, own_moves, own_rules}
 use Rattle.dom_worlds.proofs.RangeLemmas.{text-data}
 use Rattle.dom_mutation.proofs.Joined.{own_nodes}
 use Rattle.dom_mutation.proofs.Joining.{IsGrown, grown_for}
@@ -68,7 +68,8 @@ returns c =
     ∙ ap leave (c.join_each.ensures ∙ ap (λ steps. planned (owner_in e node) (steps_of steps) e) (joined (goal.at.returns c).In_ok-replacing_data).exact)
     ∙ ap (λ s. leave (carry s)) c.in_ok-replacing_data.ensures
     ∙ ap (planned o (in_turn (remove_plan observed) ys))
-    (planned_then o (replacing_data x size 0 units) (steps_of (joins ts x q size ys)) d alone (plans_data o x size 0 units))
+    (planned_then o (replacing_data x size 0 units) (steps_of (joins ts x q size ys)) d alone (keeps-replacing_data (own_rules o) x size 0 units))
     ∙ planned_then o (put size units) (in_turn (remove_plan observed) ys) d alone
-    (plans_then o (replacing_data x size 0 units) (steps_of (joins ts x q size ys)) (plans_data o x size 0 units) (λ p own. plans_joins o ts x q size ys))
+    (keeps-and_then (own_moves o) (replacing_data x size 0 units) (steps_of (joins ts x q size ys)) (keeps-replacing_data (own_rules o) x size 0 units)
+    (λ p own. made-joins (own_rules o) ts x q size ys))
     ∙ ap (λ n. all n units) c.length-size.ensures ∙ ap (all (length_of ts x)) c.in_ok-units.ensures) c.take_each.ensures.state

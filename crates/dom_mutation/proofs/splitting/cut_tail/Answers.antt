@@ -1,5 +1,5 @@
 use Rattle.dom_mutation.proofs.Cited.{◌≡◌, ℕ, length, arith, [], option_map, ap, sym, ◌∙◌, on_ok_weaker, parent_of, placing_tail, replacing_data, DocState}
-use Rattle.dom_mutation.proofs.Cited.{name_in, owner_in, trees_in, planned, planned_then, plans_tail}
+use Rattle.dom_mutation.proofs.Cited.{name_in, owner_in, trees_in, planned, planned_then, keeps-placing_tail, own_rules}
 use Rattle.dom_mutation.proofs.splitting.cut_tail.Goals.{in-Some+in_ok-placing_tail, in_default}
 use Rattle.dom_mutation.proofs.splitting.cut_tail.Goals as goal
 
@@ -21,7 +21,7 @@ returns c =
     (replacing_data (name_in s c.args.node) c.args.offset c.args.count c.new-none.result.items) s) placed
     ∙ ap (λ units. planned o (replacing_data x c.args.offset c.args.count units) (planned o place_it d)) c.new-none.ensures.items
     ∙ planned_then o place_it (replacing_data x c.args.offset c.args.count []) d (c.laws.ensures.alone c.args.node c.requires.node_is_node)
-    (plans_tail o x c.args.offset y (parent_of (trees_in d c.args.node) x) c.requires.one_owner))
+    (keeps-placing_tail (own_rules o) x c.args.offset y (parent_of (trees_in d c.args.node) x) c.requires.one_owner))
     c.replacing_data.ensures
 
 pub replacing_data-requires-clause-may_come : goal.replacing_data-requires-clause-may_come

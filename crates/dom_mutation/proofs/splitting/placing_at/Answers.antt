@@ -1,5 +1,5 @@
 use Rattle.dom_mutation.proofs.Cited.{ℕ, option_map, sym, ap, subst, ◌∙◌, arith, HasBounds, Plan, ◌and_then◌, observed, insert_plan, doing, split_at, index_of}
-use Rattle.dom_mutation.proofs.Cited.{part_of, DocState, name_in, owner_in, planned, stepped, trees_in, planned_then, plans_inserting}
+use Rattle.dom_mutation.proofs.Cited.{part_of, DocState, name_in, owner_in, planned, stepped, trees_in, planned_then, keeps-inserting, own_moves}
 use Rattle.dom_mutation.proofs.Replaced.{next_is_near}
 use Rattle.dom_mutation.proofs.Tails.{tail_may}
 use Rattle.dom_mutation.proofs.BoundedDocs.{index_limited}
@@ -35,7 +35,7 @@ returns c =
     c.split_at.ensures ∙ ap (λ i. tell i c.inserting.new.parts) c.requires.at_index
     ∙ ap (tell at) (c.in_ok-inserting.ensures ∙ ap (λ w. planned w put d) (sym owner))
     ∙ planned_then o put split d (c.laws.ensures.alone node c.requires.node_is_child.node)
-    (plans_inserting o observed y p (option_map (name_in d) c.next-next.result) (c.requires.one_owner ∙ sym owner))
+    (keeps-inserting (own_moves o) observed y p (option_map (name_in d) c.next-next.result) (c.requires.one_owner ∙ sym owner))
     ∙ ap (λ r. planned o (insert_plan observed y p r and_then split) d) c.next-next.ensures.value
 
 pub inserting-requires-clause-bounds : goal.inserting-requires-clause-bounds

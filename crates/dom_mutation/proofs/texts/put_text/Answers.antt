@@ -1,6 +1,6 @@
 use Rattle.dom_mutation.proofs.Cited.{◌≡◌, subst, ℕ, [], ◌∷◌, List, None, map, ap, sym, ◌∙◌, on_ok_weaker, NodeName, Plan, ◌and_then◌, doing, in_turn}
 use Rattle.dom_mutation.proofs.Cited.{suppressed, remove_plan, insert_plan, child_list, queue_record, DocState, AreNodes, name_in, owner_in, planned, stepped}
-use Rattle.dom_mutation.proofs.Cited.{planned_then, plans_then, plans_each, plans_removing, plans_inserting}
+use Rattle.dom_mutation.proofs.Cited.{planned_then, keeps-and_then, keeps-each, keeps-inserting, keeps-removing, own_moves}
 use Rattle.dom_mutation.proofs.Nodes.{nodes_kept, own_nodes}
 use Rattle.dom_mutation.proofs.Emptied.{text_may}
 use Rattle.dom_mutation.proofs.BoundedDocs.{bounds_cleared, bounds_at}
@@ -28,13 +28,14 @@ returns c =
     let put : DocState → DocState = λ s. planned (owner_in s node) (insert_plan suppressed (name_in s c.args.text) (name_in s node) None) s in
     let clear : List NodeName → Plan = in_turn (remove_plan suppressed) in
     let record_of : List NodeName → Plan = λ zs. doing (queue_record (child_list x (y ∷ []) zs None None)) in
-    let cleared = plans_each o (remove_plan suppressed) (plans_removing o suppressed) (map (name_in d) ks) in
+    let cleared = keeps-each (own_moves o) (remove_plan suppressed) (keeps-removing (own_moves o) suppressed) (map (name_in d) ks) in
     on_ok_weaker c.queue_tree_record.result
     (λ told. told ∙ ap (λ js. tell js c.inserting.new.parts) (c.as_slice-2.ensures.value ∙ sym c.as_slice.ensures.value)
     ∙ ap (tell ks) c.in_ok-inserting.ensures ∙ ap (λ s. tell ks (put s)) c.in_ok-take_each.ensures.state
     ∙ ap (planned o (record_of (map (name_in d) ks))) (planned_then o (clear (map (name_in d) ks)) (insert_plan suppressed y x None) d alone cleared)
     ∙ planned_then o (clear (map (name_in d) ks) and_then insert_plan suppressed y x None) (record_of (map (name_in d) ks)) d alone
-    (plans_then o (clear (map (name_in d) ks)) (insert_plan suppressed y x None) cleared (plans_inserting o suppressed y x None c.requires.one_owner))
+    (keeps-and_then (own_moves o) (clear (map (name_in d) ks)) (insert_plan suppressed y x None) cleared
+    (keeps-inserting (own_moves o) suppressed y x None c.requires.one_owner))
     ∙ ap (λ zs. planned o (clear zs and_then insert_plan suppressed y x None and_then record_of zs) d)
     (ap (map (name_in d)) c.as_slice.ensures.value ∙ c.in_ok-children.ensures.names))
     c.queue_tree_record.ensures

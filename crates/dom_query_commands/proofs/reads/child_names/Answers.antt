@@ -1,6 +1,7 @@
 -- Each turn lists a child, until there is none.
 use Rattle.dom_query_commands.proofs.Cited.{◌++◌, ◌∷◌, [], length, sym, ap, ◌∙◌, arith, append_assoc, option_map, append-nil, NodeName, name_at}
-use Rattle.dom_query_commands.proofs.Siblings.{from_or, begins, goes_on}
+use Rattle.dom_query_commands.proofs.Cited.{from_sibling}
+use Rattle.dom_query_commands.proofs.Siblings.{begins, goes_on}
 use Rattle.dom_query_commands.proofs.reads.child_names.Goals as goal
 
 pub loop-at-init : goal.loop-at-init
@@ -11,7 +12,7 @@ loop-at-init c =
     record {
       node = c.first-at.ensures.node;
       child = from.1;
-      so_far = ap (λ items. items ++ from_or f.trees (option_map (name_at f.names) c.first-at.result)) c.in_ok-names.ensures.items ∙ from.0;
+      so_far = ap (λ items. items ++ from_sibling f.trees (option_map (name_at f.names) c.first-at.result)) c.in_ok-names.ensures.items ∙ from.0;
     }
 
 pub loop-at-smaller : goal.loop-at-smaller
@@ -28,7 +29,7 @@ loop-at-preserved c =
     let i = c.loop-at.invariant in
     let from = goes_on f.names f.trees law.once law.only (name_at f.names c.args.node) (i.node c.in-Some.child c.in-Some.is)
     c.next-at.result c.in-Some.is c.next-at.ensures.value i.child in
-    let rest = from_or f.trees (option_map (name_at f.names) c.next-at.result) in
+    let rest = from_sibling f.trees (option_map (name_at f.names) c.next-at.result) in
     record {
       node = c.next-at.ensures.node;
       child = from.1;
@@ -39,5 +40,5 @@ loop-at-preserved c =
 pub returns : goal.returns
 returns c =
     let f = c.args.forest.now in
-    sym (append-nil c.loop-at.names.items) ∙ ap (λ o. c.loop-at.names.items ++ from_or f.trees (option_map (name_at f.names) o))
+    sym (append-nil c.loop-at.names.items) ∙ ap (λ o. c.loop-at.names.items ++ from_sibling f.trees (option_map (name_at f.names) o))
     (sym c.in_default.is) ∙ c.loop-at.invariant.so_far

@@ -3,10 +3,10 @@ use Rattle.dom_query_commands.proofs.Cited.{◌≡◌, ◌⊎◌, inl, inr, List
 use Rattle.dom_query_commands.proofs.Cited.{node_of, Node, node_in, name_at, NodeContent, attributes_in, data_in, shown, shown_as}
 use Rattle.dom_model.proofs.Model.{Attribute}
 use Rattle.dom_printer.specs.Steps.{name_in}
-use Rattle.dom_query_commands.proofs.SpotReads.{node_in-name}
 use Rattle.dom_query_commands.proofs.tree_text.opening.Goals.{in-Element+in_ok-attributes-in-Element, in-Text, in-Document}
 use Rattle.dom_base.specs.declared.Kind.TheVariants as kinds
 use Rattle.dom_query_commands.proofs.tree_text.opening.Goals as goal
+use Rattle.dom_worlds.proofs.CommandLemmas.{name-node_in}
 
 -- an opening as a node
 abbrev told : NodeName → Kind → Word → List Attribute → DomString → Node
@@ -42,7 +42,7 @@ returns c =
     let kind = c.kind-kind.result in
     let name : c.name.result ≡ node.name =
     sym (get_or_from_slice_get names c.args.key c.name.result (node_of Page 0) c.name.ensures.value) ∙
-    sym (node_in-name c.args.forest.now.trees (name_at names c.args.key)) in
+    sym (name-node_in c.args.forest.now.trees (name_at names c.args.key)) in
     ap (λ x. told_by x kind c.match-kind.words) name ∙ elim c.match-kind.branch [
       | in-Element+in_ok-attributes-in-Element w ↦
           ap (told_by node.name kind) w.words-is

@@ -1,6 +1,6 @@
 use Rattle.dom_range_ops.proofs.Cited.{◌≡◌, ◌<◌, ℕ, Bool, false, List, length, refl, sym, ap, subst, ◌∙◌, on_ok_weaker, Kind, NodeName, observed, remove_plan}
 use Rattle.dom_range_ops.proofs.Cited.{has_node, has_data, is_shadow, kind_of, part_of, leads-removing, DocState, name_in, owner_in, planned, trees_in, IsAlone}
-use Rattle.dom_range_ops.proofs.Cited.{AreReady, Stays, may_now, child_now, plans_removing, name_at}
+use Rattle.dom_range_ops.proofs.Cited.{AreReady, Stays, may_now, child_now, name_at, keeps-removing, own_moves}
 use Rattle.dom_range_ops.proofs.InsertedParts.{kind-kept}
 use Rattle.dom_range_ops.proofs.InsertedPlans.{state-is, stays-left, inserted-at}
 use Rattle.dom_range_ops.proofs.inserting.insert_at.Goals.{In_ok-remove}
@@ -31,7 +31,7 @@ kind_now c is key there own plain =
     let d = c.args.doc.now in
     let o = c.args.owner in
     let x = name_in d c.args.node in
-    kind-kept d c.remove.new.self o (remove_plan observed x) (alone c) (plans_removing o observed x)
+    kind-kept d c.remove.new.self o (remove_plan observed x) (alone c) (keeps-removing (own_moves o) observed x)
     (ap (λ s. s.world) (removed c ∙ ap (λ w. planned w (remove_plan observed x) d) c.requires.node_own)) is
     (leads-removing observed x (part_of d.world o) (c.laws.ensures.parts o)).changed key
     (ap (λ (ns : List NodeName). name_at ns key) c.in_ok-remove.ensures.names, own)

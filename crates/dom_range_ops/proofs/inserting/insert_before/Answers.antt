@@ -1,5 +1,5 @@
 use Rattle.dom_range_ops.proofs.Cited.{option_map, refl, sym, ap, subst, ◌∙◌, observed, insert_plan, DocState, made, name_in, IsAlone, AreReady}
-use Rattle.dom_range_ops.proofs.Cited.{plans_inserting}
+use Rattle.dom_range_ops.proofs.Cited.{keeps-inserting, own_moves}
 use Rattle.dom_range_ops.proofs.InsertedPlans.{inserted-before}
 use Rattle.dom_range_ops.proofs.InsertedRanges.{range-kept}
 use Rattle.dom_range_ops.proofs.inserting.insert_before.Goals as goal
@@ -10,7 +10,7 @@ end_at-requires-clause-there c =
     let put = insert_plan observed (name_in d c.args.node) (name_in d c.args.parent) (option_map (name_in d) c.args.reference) in
     range-kept put
     (subst (IsAlone d.world) c.requires.parent_own (c.laws.ensures.alone c.args.parent c.requires.parent_is_node))
-    (plans_inserting c.args.owner observed (name_in d c.args.node) (name_in d c.args.parent) (option_map (name_in d) c.args.reference)
+    (keeps-inserting (own_moves c.args.owner) observed (name_in d c.args.node) (name_in d c.args.parent) (option_map (name_in d) c.args.reference)
     (c.requires.may_move.owner ∙ c.requires.parent_own))
     (ap (λ (s : DocState). s.world) c.in_ok-insert_unchecked.ensures.state ∙ ap (λ o. made o put d.world) c.requires.parent_own) c.args.number c.requires.there
 

@@ -1,6 +1,6 @@
 use Rattle.dom_range_ops.proofs.Cited.{◌≡◌, ◌++◌, ◌∷◌, [], false, List, Some, None, option_map, refl, sym, ap, subst, ◌∙◌, cond-true, on_ok_weaker, NodeName}
 use Rattle.dom_range_ops.proofs.Cited.{limit_on, next_name, inserting_into_range, kind_of, is_text, has_data, is_shadow, parent_of, is_inclusive_ancestor}
-use Rattle.dom_range_ops.proofs.Cited.{pre_insert_refusal, part_of, insertion-open, insertion-apart, DocState, made, name_in, AreReady, insertion-tested}
+use Rattle.dom_range_ops.proofs.Cited.{pre_insert_refusal, part_of, IsPlaceable, DocState, made, name_in, AreReady, insertion-tested}
 use Rattle.dom_range_ops.proofs.Cited.{inserting_before_tail, range_at_points}
 use Rattle.dom_model.proofs.Model.{Owner as OwnerOf}
 use Rattle.dom_range_ops.proofs.InsertedTests.{place-valid, text-child, valid-child, steps-tail, steps-plain}
@@ -18,24 +18,27 @@ valid c =
     (ap (pre_insert_refusal ts _ x) c.requires.child ∙ place-valid ts (range_at_points d.names c.args.points.now) x c.requires.tested)
 
 -- so the node is not above the parent, which takes nodes
+may_stand : (c : After-laws) → IsPlaceable (part_of c.args.doc.now.world c.args.owner).trees (name_in c.args.doc.now c.args.parent)
+    (name_in c.args.doc.now c.args.node)
+may_stand c =
+    insertion-tested (part_of c.args.doc.now.world c.args.owner).trees (name_in c.args.doc.now c.args.parent) (name_in c.args.doc.now c.args.node)
+    (option_map (name_in c.args.doc.now) c.args.child) (valid c)
+
 apart : (c : After-laws) {w : OwnerOf} → w ≡ c.args.owner → is_inclusive_ancestor (part_of c.args.doc.now.world w).trees
     (name_in c.args.doc.now c.args.node) (name_in c.args.doc.now c.args.parent) ≡ false
 apart c own =
     ap (λ w. is_inclusive_ancestor (part_of c.args.doc.now.world w).trees (name_in c.args.doc.now c.args.node) (name_in c.args.doc.now c.args.parent)) own
-    ∙ insertion-apart (part_of c.args.doc.now.world c.args.owner).trees (name_in c.args.doc.now c.args.parent) (name_in c.args.doc.now c.args.node)
-    (option_map (name_in c.args.doc.now) c.args.child) (valid c)
+    ∙ (may_stand c).apart
 
 plain : (c : After-laws) {w : OwnerOf} → w ≡ c.args.owner →
     is_shadow (kind_of (part_of c.args.doc.now.world w).trees (name_in c.args.doc.now c.args.node)) ≡ false
 plain c own = ap (λ w. is_shadow (kind_of (part_of c.args.doc.now.world w).trees (name_in c.args.doc.now c.args.node))) own
-    ∙ (insertion-tested (part_of c.args.doc.now.world c.args.owner).trees (name_in c.args.doc.now c.args.parent) (name_in c.args.doc.now c.args.node)
-    (option_map (name_in c.args.doc.now) c.args.child) (valid c)).plain
+    ∙ (may_stand c).plain
 
 opened : (c : After-laws) {w : OwnerOf} → w ≡ c.args.owner →
     has_data (kind_of (part_of c.args.doc.now.world w).trees (name_in c.args.doc.now c.args.parent)) ≡ false
 opened c own = ap (λ w. has_data (kind_of (part_of c.args.doc.now.world w).trees (name_in c.args.doc.now c.args.parent))) own
-    ∙ insertion-open (part_of c.args.doc.now.world c.args.owner).trees (name_in c.args.doc.now c.args.parent) (name_in c.args.doc.now c.args.node)
-    (option_map (name_in c.args.doc.now) c.args.child) (valid c)
+    ∙ (may_stand c).opened
 
 -- whether the start is a Text
 kind : (c : After-is_text) →

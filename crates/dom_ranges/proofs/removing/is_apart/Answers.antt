@@ -1,5 +1,5 @@
 use Rattle.dom_ranges.proofs.Cited.{◌<◌, false, length, refl, rules, at, end_in}
-use Rattle.dom_ranges.proofs.Inside.{top-stands}
+use Rattle.dom_tree.proofs.Inside.{top-stands}
 use Rattle.dom_ranges.proofs.removing.is_apart.Goals as goal
 
 pub following-walked-requires-clause-within : goal.following-walked-requires-clause-within

@@ -1,6 +1,6 @@
-use Rattle.dom_ranges.proofs.Cited.{◌<◌, false, length, get_or, sym, subst, ◌∙◌, arith, true≢false, false_from_ne_true, name_at, Once-forest, outside-test}
-use Rattle.dom_ranges.proofs.Cited.{following_step, at, end_in}
-use Rattle.dom_ranges.proofs.Inside.{from_key, all-from_top, top-stands, next-from}
+use Rattle.dom_ranges.proofs.Cited.{inl, inr, ◌<◌, false, length, get_or, sym, subst, ◌∙◌, arith, true≢false, false_from_ne_true, name_at, Once-forest}
+use Rattle.dom_ranges.proofs.Cited.{outside-test, following_step, at, end_in}
+use Rattle.dom_tree.proofs.Inside.{from_key, all-from_top, top-stands, next-from}
 use Rattle.dom_ranges.proofs.removing.part_inside.Goals as goal
 
 pub loop-at-init : goal.loop-at-init
@@ -40,11 +40,13 @@ loop-at-preserved c =
       few = omega arith;
       within = c.around-part.ensures.within (length c.args.ends.now) c.loop-at.invariant.within c.part_near-here.ensures.within;
       near = omega (arith, c.part_near-here.ensures.order, c.part_near-here.ensures.within);
-      ahead = λ k d l out i.
-          next-from f c.args.top c.following-at.result c.in-Some.is step.0
-          (λ same. true≢false (sym (c.around-part.ensures.second k
-          (c.part_near-here.ensures.all k d l (e.distinct _ _ (c.requires.nodes k d l).1 key_is_node same))) ∙ out))
-          (c.loop-at.invariant.ahead k d l (false_from_ne_true _ (λ was. true≢false (sym (c.around-part.ensures.first k was) ∙ out))) i);
+      ahead = λ k d l out i. elim (next-from f c.args.top c.following-at.result c.in-Some.is step.0 (name_at f.names (get_or c.args.ends.now k d).node)
+          (c.loop-at.invariant.ahead k d l (false_from_ne_true _ (λ was. true≢false (sym (c.around-part.ensures.first k was) ∙ out))) i)) [
+            | inl same ↦
+                let there = c.part_near-here.ensures.all k d l (e.distinct _ _ (c.requires.nodes k d l).1 key_is_node same) in
+                absurd (true≢false (sym (c.around-part.ensures.second k there) ∙ out))
+            | inr behind ↦ behind
+          ];
     }
 
 pub returns-clause-all : goal.returns-clause-all

@@ -1,6 +1,6 @@
 use Rattle.dom_ranges.proofs.Cited.{◌≡◌, inl, inr, ℕ, ◌<◌, ◌≤◌, false, List, length, get_or, refl, ap, subst, ◌∙◌, arith, cases_lt, get_or_default, same_Some}
 use Rattle.dom_ranges.proofs.Cited.{at, NamedTrees, AreTested, end_in, is_inside, IsSortedByPoint, RangeEnd}
-use Rattle.dom_ranges.proofs.Climbing.{inside-up, inside-root}
+use Rattle.dom_tree.proofs.Inside.{inside-up, inside-root}
 use Rattle.dom_ranges.proofs.removing.test_on.Goals as goal
 
 module _ (f : NamedTrees) (top : ℕ) (es : List RangeEnd) (place behind : ℕ) (r : RangeEnd) (sorted : IsSortedByPoint es) (within : behind ≤ length es) where

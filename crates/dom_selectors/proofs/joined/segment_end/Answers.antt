@@ -1,5 +1,5 @@
 -- From the end of one chain to that of the next, left of `~`.
-use Rattle.dom_selectors.proofs.Cited.{◌≡◌, refl, ap, sym, subst, ◌∙◌, arith, true≢false, joined, later, name_at, Once-forest, Descendant, Child, Next, Later}
+use Rattle.dom_selectors.proofs.Cited.{◌≡◌, refl, ap, sym, subst, ◌∙◌, arith, true≢false, joined, later, name_at, Once-forest, Descendant, Later}
 use Rattle.dom_selectors.proofs.Cited.{IsDescendant, IsSearched, StopsAt, compound_view, combinator_view, complex_from}
 use Rattle.dom_selectors.specs.declared.selector.Combinator.{Combinator}
 use Rattle.dom_selectors.proofs.JoinedLaws.{last-joined, no-links}
@@ -9,10 +9,8 @@ use Rattle.dom_selectors.proofs.joined.segment_end.Goals as goal
 
 -- `~` alone is seen as it
 no_later : (h : Combinator) → (h ≡ Later → ⊥) → combinator_view h ≡ later → ⊥
-no_later Descendant other e = cc
-no_later Child other e = cc
-no_later Next other e = cc
 no_later Later other e = other refl
+no_later h other e = cc
 
 pub loop-last-init : goal.loop-last-init
 loop-last-init c =

@@ -1,5 +1,5 @@
 use Rattle.dom_traversal.proofs.Cited.{refl}
-use Rattle.dom_traversal.proofs.Inside.{top-stands}
+use Rattle.dom_tree.proofs.Inside.{top-stands}
 use Rattle.dom_traversal.proofs.references.is_apart.Goals as goal
 
 pub following-walked-requires-clause-within : goal.following-walked-requires-clause-within

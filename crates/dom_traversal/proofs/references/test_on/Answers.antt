@@ -1,6 +1,6 @@
 use Rattle.dom_traversal.proofs.Cited.{◌≡◌, inl, inr, ℕ, ◌<◌, ◌≤◌, false, List, length, get_or, refl, ap, subst, ◌∙◌, arith, cases_lt, get_or_default}
 use Rattle.dom_traversal.proofs.Cited.{same_Some, NamedTrees, AreOutside, AreSorted, AreTested, is_inside, IsBefore, Reference, reference_at}
-use Rattle.dom_traversal.proofs.Inside.{inside-up, inside-root}
+use Rattle.dom_tree.proofs.Inside.{inside-up, inside-root}
 use Rattle.dom_traversal.proofs.Standing.{AreSorted-up_to}
 use Rattle.dom_traversal.proofs.references.test_on.Goals as goal
 

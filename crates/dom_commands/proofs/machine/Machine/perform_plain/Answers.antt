@@ -12,7 +12,7 @@ returns-clause-handled c =
     let t = c.perform.new.state in
     let ls = c.self.inside.listeners in
     let o = c.args.owner.now in
-    let said = command_view c.args.command in
+    let said = command_view c.args.command.now in
     let before = c.args.out.now.items in
     let after = c.perform.new.out.items in
     let done : IsCarriedOut s t o said before after c.perform.result = record { names = c.perform.ensures.names; handled = c.perform.ensures.handled } in

@@ -1,17 +1,12 @@
-use Rattle.dom_base.proofs.Std.{◌≡◌, Bool, ◌&&◌, not, false, List, [], ◌∷◌, None, filter, refl, sym, ap, ◌∙◌, if◌then◌else◌, codes, option_map}
-use Rattle.dom_model.proofs.Model.{NodeName, first_of, text_eq, is_slot_element, node_in, is_element}
+use Rattle.dom_base.proofs.Std.{◌≡◌, Bool, ◌&&◌, not, false, [], ◌∷◌, None, filter, sym, ap, ◌∙◌, if◌then◌else◌, codes, option_map}
+use Rattle.dom_model.proofs.Model.{NodeName, text_eq, is_slot_element, node_in, is_element}
 use Rattle.dom_tree.specs.Definitions.{name_at}
 use Rattle.dom_laws.specs.Within.{behind}
-use Rattle.dom_laws.proofs.Laws.{was_none}
+use Rattle.dom_laws.proofs.Laws.{was_none, no_first}
 use Rattle.dom_tree.proofs.Standing.{Once-forest}
 use Rattle.dom_slots.proofs.NamesOfNodes.{named-filter}
 use Rattle.dom_slots.proofs.Walks.{from-top}
 use Rattle.dom_layer_tests.proofs.paths.scene.is_alone.Goals as goal
-
--- a list without a first item
-no_first : (xs : List NodeName) → first_of xs ≡ None → xs ≡ []
-no_first [] e = refl
-no_first (x ∷ xs) e = cc
 
 pub returns : goal.returns
 returns c = λ none.

@@ -1,7 +1,7 @@
 use Rattle.dom_mutation.proofs.Cited.{◌≡◌, ◌∷◌, [], ℕ, List, Option, map, option_map, sym, ap, subst, ◌∙◌, on_ok_weaker, NodeName, Plan, ◌and_then◌, doing}
 use Rattle.dom_mutation.proofs.Cited.{suppressed, remove_plan, insert_plan, placed_nodes, reference_child, child_list, queue_record, next_sibling}
-use Rattle.dom_mutation.proofs.Cited.{previous_sibling, part_of, DocState, AreNodes, name_in, owner_in, planned, stepped, trees_in, planned_then, plans_then}
-use Rattle.dom_mutation.proofs.Cited.{plans_removing, plans_inserting}
+use Rattle.dom_mutation.proofs.Cited.{previous_sibling, part_of, DocState, AreNodes, name_in, owner_in, planned, stepped, trees_in, planned_then}
+use Rattle.dom_mutation.proofs.Cited.{keeps-and_then, keeps-inserting, keeps-removing, own_moves}
 use Rattle.dom_mutation.proofs.BoundedDocs.{bounds_removed, bounds_at}
 use Rattle.dom_mutation.proofs.Nodes.{nodes_kept}
 use Rattle.dom_mutation.proofs.Replaced.{next_is_near, stays_removed}
@@ -64,9 +64,10 @@ returns-clause-world c =
     (λ told. told ∙ ap (λ ks. tell ks c.inserting.new.parts) c.as_slice.ensures.value ∙ ap (tell added) c.in_ok-inserting.ensures
     ∙ ap (λ s. tell added (put s)) (c.in_ok-removing.ensures ∙ ap (λ w. planned w take d) child_owner)
     ∙ ap (planned o (record_of (map (name_in d) added) before ref))
-    (planned_then o take (insert_plan suppressed x p ref) d alone (plans_removing o suppressed y))
+    (planned_then o take (insert_plan suppressed x p ref) d alone (keeps-removing (own_moves o) suppressed y))
     ∙ planned_then o (take and_then insert_plan suppressed x p ref) (record_of (map (name_in d) added) before ref) d alone
-    (plans_then o take (insert_plan suppressed x p ref) (plans_removing o suppressed y) (plans_inserting o suppressed x p ref c.requires.node_owner))
+    (keeps-and_then (own_moves o) take (insert_plan suppressed x p ref) (keeps-removing (own_moves o) suppressed y)
+    (keeps-inserting (own_moves o) suppressed x p ref c.requires.node_owner))
     ∙ ap (λ xs. all xs before ref) (c.in_ok-added.ensures.value ∙ ap (λ w. placed_nodes (part_of d.world w).trees x) c.requires.node_owner)
     ∙ ap (λ a. all (placed_nodes ts x) a ref) (c.prev-prev.ensures.value ∙ ap (λ w. previous_sibling (part_of d.world w).trees y) child_owner)
     ∙ ap (λ b. all (placed_nodes ts x) (previous_sibling ts y) b) (c.reference_child-reference.ensures.value

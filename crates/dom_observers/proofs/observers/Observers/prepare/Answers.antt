@@ -1,16 +1,12 @@
-use Rattle.dom_base.proofs.Std.{◌≡◌, true, OnErr, sym, ap, ◌∙◌, subst, is_some, Result, Ok, Err, lookup, get}
+use Rattle.dom_base.proofs.Std.{◌≡◌, true, sym, ap, ◌∙◌, subst, is_some, lookup, get}
 use Rattle.dom_base.specs.contracts.OwnerPartialEq.TheImpl as OwnerImpl
 use Rattle.dom_model.proofs.Model.{owner_eq}
 use Rattle.dom_observers.specs.declared.observers.Observers.TheInside.{Inside}
 use Rattle.dom_observers.specs.Definitions.{TablesByOwner}
 use Rattle.dom_observers.proofs.Lookups.{had-none, lookup-get, written-none}
-use Rattle.dom_observers.proofs.Tables.{none_from}
 use Rattle.dom_observers.proofs.observers.Observers.prepare.Goals as goal
-
--- what holds, holds of an error
-on_err : {T E P : Type 0} (r : Result T E) → P → OnErr r P
-on_err (Ok x) p = tt
-on_err (Err e) p = p
+use Rattle.dom_laws.proofs.Laws.{was_none}
+use Rattle.dom_tree.proofs.OwnerLists.{on_err}
 
 pub returns-then-contains_key-clause-there : goal.returns-then-contains_key-clause-there
 returns-then-contains_key-clause-there c =
@@ -21,7 +17,7 @@ pub returns-in_err-insert-clause-none : goal.returns-in_err-insert-clause-none
 returns-in_err-insert-clause-none c =
     on_err c.from_residual.result
     (had-none c.self.inside c.self.view_is c.args.owner
-    (sym (none_from (get OwnerImpl.ghosts.eq c.self.inside.tables c.args.owner) (sym c.if-contains_key.ensures))))
+    (sym (was_none (get OwnerImpl.ghosts.eq c.self.inside.tables c.args.owner) (sym c.if-contains_key.ensures))))
 
 pub returns : goal.returns
 returns c =

@@ -1,23 +1,19 @@
-use Rattle.dom_ranges.proofs.Cited.{◌≡◌, ℕ, List, [], ◌∷◌, ◌++◌, true, false, IsSome, sym, subst, refl, ap, ◌∙◌, length, Option, Result, Ok, Err, OnErr, arith}
-use Rattle.dom_ranges.proofs.Cited.{IsPermutation, get, Slab, at, end_in, HaveNumbers, IsListed, IsSortedByPoint, Points, RangeEnd, ranges_of}
+use Rattle.dom_ranges.proofs.Cited.{◌≡◌, ℕ, List, [], ◌∷◌, ◌++◌, true, false, IsSome, sym, subst, refl, ap, ◌∙◌, length, Option, arith, IsPermutation}
+use Rattle.dom_ranges.proofs.Cited.{get, Slab, at, end_in, HaveNumbers, IsListed, IsSortedByPoint, Points, RangeEnd, ranges_of}
 use Rattle.dom_ranges.proofs.Listing.{IsListed-added, IsListed-same}
 use Rattle.dom_ranges.proofs.Writing.{Shows, Shows-view, Shows-same, HaveNumbers-same, HaveNumbers-pushed, ranges-shown, ranges-pushed, length-ranges}
+use Rattle.dom_tree.proofs.OwnerLists.{on_err}
 use Rattle.dom_ranges.proofs.stored.StoredRanges.add.Goals as goal
-
--- a fact holds of a refused call too
-on_err : {T E : Type 0} (r : Result T E) (P : Type 0) → P → OnErr r P
-on_err (Ok x) P p = tt
-on_err (Err e) P p = p
 
 pub returns-in_err-reserve-clause-err : goal.returns-in_err-reserve-clause-err
 returns-in_err-reserve-clause-err c =
-    on_err c.from_residual.result _ (λ o. ranges-shown c.self.inside.live c.reserve.new.self _
+    on_err c.from_residual.result (λ o. ranges-shown c.self.inside.live c.reserve.new.self _
     (Shows-same c.self.inside.live c.self.inside.live c.self.inside.numbers c.reserve.new.self _
     (Shows-view c.self.inside.live c.self.inside.numbers _ c.self.view_is) (λ s. refl) c.reserve.ensures.slots) o)
 
 pub returns-in_err-reserve-2-clause-err : goal.returns-in_err-reserve-2-clause-err
 returns-in_err-reserve-2-clause-err c =
-    on_err c.from_residual-in_err-reserve-2.result _ (λ o. ranges-shown c.self.inside.live c.reserve.new.self _
+    on_err c.from_residual-in_err-reserve-2.result (λ o. ranges-shown c.self.inside.live c.reserve.new.self _
     (Shows-same c.self.inside.live c.self.inside.live c.self.inside.numbers c.reserve.new.self _
     (Shows-view c.self.inside.live c.self.inside.numbers _ c.self.view_is) (λ s. refl) c.reserve.ensures.slots) o)
 
@@ -33,7 +29,7 @@ invariant_of-self-in_err-slot c =
 
 pub returns-in_err-slot-clause-err : goal.returns-in_err-slot-clause-err
 returns-in_err-slot-clause-err c =
-    on_err c.from_residual-in_err-slot.result _ (λ o. ranges-shown c.insert.new.self c.reserve.new.self _
+    on_err c.from_residual-in_err-slot.result (λ o. ranges-shown c.insert.new.self c.reserve.new.self _
     (Shows-same c.self.inside.live c.insert.new.self c.self.inside.numbers c.reserve.new.self _
     (Shows-view c.self.inside.live c.self.inside.numbers _ c.self.view_is)
     (λ s. ap (λ (t : Slab Points). get t s) c.in_err-slot.ensures.err) c.reserve.ensures.slots) o)

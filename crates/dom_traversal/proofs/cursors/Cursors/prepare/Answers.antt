@@ -1,12 +1,9 @@
-use Rattle.dom_traversal.proofs.Cited.{◌≡◌, true, OnErr, sym, ap, ◌∙◌, subst, is_some, Result, Ok, Err, lookup, get, owner_eq, AllCursors, Inside}
-use Rattle.dom_traversal.proofs.Owners.{had-none, entry, written-none, none_from}
+use Rattle.dom_traversal.proofs.Cited.{◌≡◌, true, sym, ap, ◌∙◌, subst, is_some, lookup, get, owner_eq, AllCursors, Inside}
+use Rattle.dom_traversal.proofs.Owners.{had-none, entry, written-none}
 use Rattle.dom_base.specs.contracts.OwnerPartialEq.TheImpl as OwnerImpl
 use Rattle.dom_traversal.proofs.cursors.Cursors.prepare.Goals as goal
-
--- what holds, holds of an error
-on_err : {T E P : Type 0} (r : Result T E) → P → OnErr r P
-on_err (Ok x) p = tt
-on_err (Err e) p = p
+use Rattle.dom_laws.proofs.Laws.{was_none}
+use Rattle.dom_tree.proofs.OwnerLists.{on_err}
 
 pub returns-then-contains_key-clause-there : goal.returns-then-contains_key-clause-there
 returns-then-contains_key-clause-there c =
@@ -16,14 +13,14 @@ returns-then-contains_key-clause-there c =
 pub returns-in_err-insert-clause-none : goal.returns-in_err-insert-clause-none
 returns-in_err-insert-clause-none c =
     on_err c.from_residual.result (had-none c.self.inside c.args.self.now c.args.owner c.self.view_is
-    (sym (none_from (get OwnerImpl.ghosts.eq c.self.inside.tables c.args.owner) (sym c.if-contains_key.ensures))))
+    (sym (was_none (get OwnerImpl.ghosts.eq c.self.inside.tables c.args.owner) (sym c.if-contains_key.ensures))))
 
 pub returns : goal.returns
 returns c =
     let r : Inside = record { tables = c.insert.new.self; alloc = c.self.inside.alloc } in
     record {
       keeps = written-none c.self.inside r c.args.owner c.new.result c.self.view_is
-          (sym (none_from (get OwnerImpl.ghosts.eq c.self.inside.tables c.args.owner) (sym c.if-contains_key.ensures))) c.new.ensures
+          (sym (was_none (get OwnerImpl.ghosts.eq c.self.inside.tables c.args.owner) (sym c.if-contains_key.ensures))) c.new.ensures
           c.in_ok-insert.ensures.updates.0;
       there = entry r c.args.owner ∙ ap is_some c.in_ok-insert.ensures.updates.1;
       none = tt;

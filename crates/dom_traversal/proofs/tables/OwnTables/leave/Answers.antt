@@ -2,7 +2,7 @@ use Rattle.dom_traversal.proofs.Cited.{◌≡◌, ℕ, ◌<◌, false, inl, inr,
 use Rattle.dom_traversal.proofs.Cited.{get_or_default, following_step, In-from, In-not, inclusive_descendants, is_in, name_at, name_eq, Once-forest}
 use Rattle.dom_traversal.proofs.Cited.{outside-test, AreOutside, is_inside, IsLeftIf, KeyedTables, Reference, reference_at}
 use Rattle.dom_traversal.proofs.Leaving.{may-none, may-may, may-items, may-left, left-may, all-left, left-outside}
-use Rattle.dom_traversal.proofs.Inside.{from_key, all-from_top, top-stands, next-from}
+use Rattle.dom_tree.proofs.Inside.{from_key, all-from_top, top-stands, next-from}
 use Rattle.dom_traversal.proofs.tables.OwnTables.leave.Goals as goal
 
 pub is_apart-requires-clause-nodes : goal.is_apart-requires-clause-nodes

@@ -1,6 +1,6 @@
 use Rattle.dom_traversal.proofs.Cited.{◌≡◌, ◌⊎◌, ℕ, Some, slice_get, ForSome, In, inclusive_descendants, name_at, StandsIn, IsLeftIf, KeyedIterator}
 use Rattle.dom_traversal.proofs.Cited.{MayHaveLeft}
-use Rattle.dom_traversal.proofs.Inside.{from_key}
+use Rattle.dom_tree.proofs.Inside.{from_key}
 use Rattle.dom_traversal.proofs.tables.OwnTables.leave.Given as goal
 
 abbrev pub invariant-loop-at : goal.invariant-loop-at
