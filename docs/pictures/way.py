@@ -10,7 +10,7 @@ WIDTH, HEIGHT, DOWN, LEFT, RIGHT = 270, 62, 34, 40, 470
 DOWNWARD = (
     ("Source::read", "trait Source", "read", "at most 4,096 bytes at a time"),
     ("Splitter", "struct Splitter", "", "cuts the bytes into lines"),
-    ("parse_line", "fn parse_line", "", "an owner and a command, or a refusal"),
+    ("parse_command", "fn parse_command", "", "an owner's command, or a refusal"),
     ("Machine::answer", "struct Machine", "answer", "another's turn ends; refusals, in order"),
     ("Doc::insert", "struct Doc", "insert", "validity, then the plan's steps"),
     ("Forest::link_before", "struct Forest", "link_before", "one elementary change of the trees"),
