@@ -8,7 +8,7 @@ ghost use Rattle.dom_engine.specs.Session.{RefusesForeign};
 
 use dom_base::Owner;
 use dom_commands::Machine;
-use dom_reader::{owner_at, page_bytes, parse_command};
+use dom_reader::{Command, owner_at, page_bytes, parse_command};
 use dom_words::NotRead;
 use std::alloc::{AllocError, Global};
 use std::marker::Model;
@@ -170,8 +170,9 @@ fn answer_owner(
     ensures world { OnOk result (machine.new.world ≡ (step machine.old.world (decode line.now)).0) }
     ensures sound { OnOk result (IsAtRest machine.new) }
 {
-    match &mut parse_command(alloc, line, owner, bytes) {
-        Ok(command) => machine.answer(owner, command, out),
+    let mut command = Command::EndTurn;
+    match parse_command(alloc, line, owner, bytes, &mut command) {
+        Ok(()) => machine.answer(owner, &mut command, out),
         Err(NotRead::Syntax) => machine.answer_no_command(Some(owner), out),
         Err(NotRead::Memory) => Err(AllocError),
     }

@@ -5,17 +5,13 @@ use Rattle.std.specs.Borrow.{Bor}
 use Rattle.dom_model.specs.Names.{Word, is_name}
 use Rattle.dom_base.specs.declared.Owner.{Owner}
 use Rattle.dom_model.specs.Command.{NodeWord, Filter}
-use Rattle.dom_text.specs.Readers.{◌>>=◌, only_if, behind, at_end, next_word, next_as, last_as, show_of, name_filter_of}
+use Rattle.dom_text.specs.Readers.{◌>>=◌, only_if, behind, next_as, last_as, show_of, name_filter_of}
 use Rattle.dom_text.specs.Forms.{node_at}
 
 -- the parts between these bytes of the text that is left, if any is
 abbrev pub parts_view : ℕ → Option (Bor (List ℕ)) → List (List ℕ)
 parts_view byte None = []
 parts_view byte (Some text) = slice_split (λ b. b == byte) text.now
-
--- the next word, which is the line's last one
-abbrev pub last_word : List ℕ → Option Word
-last_word bytes = next_word bytes >>= λ word. at_end word.0 word.1
 
 -- the name behind a front
 abbrev pub name_behind : List ℕ → Word → Option Word

@@ -22,6 +22,10 @@ use Rattle.dom_reader.specs.declared.keywords.EventWord.{EventWord}
 use Rattle.dom_reader.specs.declared.keywords.EventWord.TheVariants as event
 use Rattle.dom_reader.specs.declared.keywords.ObserverWord.{ObserverWord}
 use Rattle.dom_reader.specs.declared.keywords.ObserverWord.TheVariants as observer
+use Rattle.dom_words.specs.declared.not_read.NotRead.{NotRead}
+use Rattle.dom_words.specs.declared.not_read.NotRead.TheVariants.{Syntax}
+use Rattle.dom_reader.specs.declared.nodes.Spelling.{Spelling}
+use Rattle.dom_reader.specs.declared.nodes.Spelling.TheVariants as spellings
 use Rattle.dom_text.specs.Commands.{Keyword}
 use Rattle.dom_text.specs.Commands as keyword
 use Rattle.dom_reader.specs.declared.line.NodeWord.{NodeWord}
@@ -40,6 +44,12 @@ use Rattle.dom_reader.specs.declared.line.Line.{Line}
 abbrev pub word_view : NodeWord → model.NodeWord
 word_view (Own n) = model.own n
 word_view Foreign = model.foreign
+
+-- the node of a spelling
+abbrev pub node_spelled : Spelling → Result NodeWord NotRead
+node_spelled (spellings.Own n) = Ok (Own n)
+node_spelled spellings.Foreign = Ok Foreign
+node_spelled spellings.NoNode = Err Syntax
 
 -- the letter before the number of an owner's own node
 abbrev pub own_letter : Owner → ℕ

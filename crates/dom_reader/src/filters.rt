@@ -5,10 +5,10 @@ ghost use Rattle.std.specs.List.{list_all};
 ghost use Rattle.std.specs.Char.{is_ascii_graphic};
 ghost use Rattle.dom_model.specs.Names.{is_name as spec_is_name};
 ghost use Rattle.dom_text.specs.Readers.{only_if, between_commas, take_name as spec_take_name, show_of_names, show_of as spec_show_of};
-ghost use Rattle.dom_text.specs.Readers.{name_filter_of as spec_name_filter_of, attribute_filter_of as spec_attribute_filter_of, last_as};
-ghost use Rattle.dom_words.specs.Gives.{Gives};
+ghost use Rattle.dom_text.specs.Readers.{name_filter_of as spec_name_filter_of, attribute_filter_of as spec_attribute_filter_of, last_as, next_as};
+ghost use Rattle.dom_words.specs.Gives.{Gives, Takes};
 ghost use Rattle.dom_reader.specs.Views.{show_view, name_filter_view};
-ghost use Rattle.dom_reader.specs.Filters.{parts_view, last_word as spec_last_word, name_behind as spec_name_behind};
+ghost use Rattle.dom_reader.specs.Filters.{parts_view, name_behind as spec_name_behind};
 
 use crate::line::{NameFilter, Show};
 use crate::nodes::behind;
@@ -134,16 +134,16 @@ fn attribute_filter_of(alloc: Global, word: &[u8]) -> Result<Vec<String>, NotRea
     names_of(alloc, names)
 }
 
-/// The next word, which has to be the line's last one.
-fn last_word<'a>(words: &mut WordReader<'a>) -> Result<&'a [u8], NotRead>
-    ensures { Gives (λ x. x.now) result (spec_last_word words.old) }
+/// The next word as `skip=NAME` or `reject=NAME`.
+fn next_name_filter(alloc: Global, words: &mut WordReader) -> Result<NameFilter, NotRead>
+    ensures { Takes name_filter_view result (next_as spec_name_filter_of words.old) words.new }
 {
     let word = words.word()?;
-    words.end()?;
-    Ok(word)
+    name_filter_of(alloc, word)
 }
 
 /// `skip=NAME` or `reject=NAME` as the line's last word, where there is one more.
+#[tactic(auto, using(crate::proofs::Lasts::last_is_next))]
 pub fn last_name_filter(
     alloc: Global,
     words: &mut WordReader,
@@ -153,11 +153,21 @@ pub fn last_name_filter(
     if words.is_at_end() {
         return Ok(None);
     }
-    let word = last_word(words)?;
-    Ok(Some(name_filter_of(alloc, word)?))
+    let filter = next_name_filter(alloc, words)?;
+    words.end()?;
+    Ok(Some(filter))
+}
+
+/// The next word as `filter=NAME,..`.
+fn next_attribute_filter(alloc: Global, words: &mut WordReader) -> Result<Vec<String>, NotRead>
+    ensures { Takes (λ names. map string_bytes names.items) result (next_as spec_attribute_filter_of words.old) words.new }
+{
+    let word = words.word()?;
+    attribute_filter_of(alloc, word)
 }
 
 /// `filter=NAME,..` as the line's last word, where there is one more.
+#[tactic(auto, using(crate::proofs::Lasts::last_is_next))]
 pub fn last_attribute_filter(
     alloc: Global,
     words: &mut WordReader,
@@ -167,6 +177,7 @@ pub fn last_attribute_filter(
     if words.is_at_end() {
         return Ok(None);
     }
-    let word = last_word(words)?;
-    Ok(Some(attribute_filter_of(alloc, word)?))
+    let names = next_attribute_filter(alloc, words)?;
+    words.end()?;
+    Ok(Some(names))
 }

@@ -11,7 +11,7 @@ mod nodes;
 mod separated;
 mod splitter;
 
-ghost use Rattle.std.specs.Prelude.{◌≡◌, IfOk, IfErr, Some};
+ghost use Rattle.std.specs.Prelude.{◌≡◌, IfOk, IfErr, OnOk, Some};
 ghost use Rattle.dom_base.specs.declared.Refusal.TheVariants.{Syntax};
 ghost use Rattle.dom_model.specs.Command.{command as model_command, no_command};
 ghost use Rattle.dom_words.specs.declared.not_read.NotRead.TheVariants.{Syntax as NoCommand};
@@ -46,38 +46,41 @@ pub fn parse_line(
     let Some((owner, bytes)) = owner_at(line) else {
         return Ok(Err((None, Refusal::Syntax)));
     };
-    match parse_command(alloc, line, &owner, bytes) {
-        Ok(command) => Ok(Ok(Line { owner, command })),
+    let mut command = Command::EndTurn;
+    match parse_command(alloc, line, &owner, bytes, &mut command) {
+        Ok(()) => Ok(Ok(Line { owner, command })),
         Err(NotRead::Syntax) => Ok(Err((Some(owner), Refusal::Syntax))),
         Err(NotRead::Memory) => Err(AllocError),
     }
 }
 
-/// The command that an owner's line says, given with the bytes behind the owner's word, as `owner_at` has them: `parse_line` for who has
-/// found the owner. A line that says no command is refused as `syntax`. The other error is memory refused to the words and strings that
-/// the command keeps. It is in line, so that a command is passed on fewer times.
+/// Puts the command that an owner's line says into a place, given with the bytes behind the owner's word, as `owner_at` has them: `parse_line` for
+/// who has found the owner. A line that says no command is refused as `syntax`. The other error is memory refused to the words and strings
+/// that the command keeps. After an error the place holds some command. It is in line, so that a new place is known to hold no text.
 #[inline(always)]
 pub fn parse_command(
     alloc: Global,
     line: &[u8],
     owner: &Owner,
     bytes: &[u8],
-) -> Result<Command, NotRead>
-    ensures read { IfOk result (λ command. line_of line.now (Some (owner.now, bytes.now)) ≡ model_command owner.now (command_view command)) }
+    place: &mut Command,
+) -> Result<(), NotRead>
+    ensures read { OnOk result (line_of line.now (Some (owner.now, bytes.now)) ≡ model_command owner.now (command_view place.new)) }
     ensures refused { IfErr result (λ e. e ≡ NoCommand → line_of line.now (Some (owner.now, bytes.now)) ≡ no_command owner.now) }
 {
+    *place = Command::EndTurn;
     if line.len() > MAX_LINE {
         return Err(NotRead::Syntax);
     }
     let mut words = WordReader::new(bytes);
     match next_keyword(&mut words)? {
-        Keyword::Making(word) => making_command(alloc, word, owner, &mut words),
-        Keyword::Tree(word) => tree_command(word, owner, &mut words),
-        Keyword::Content(word) => content_command(alloc, word, owner, &mut words),
-        Keyword::Question(word) => question_command(alloc, word, owner, &mut words),
-        Keyword::Range(word) => range_command(word, owner, &mut words),
-        Keyword::Cursor(word) => cursor_command(alloc, word, owner, &mut words),
-        Keyword::Event(word) => event_command(alloc, word, owner, &mut words),
-        Keyword::Observer(word) => observer_command(alloc, word, owner, &mut words),
+        Keyword::Making(word) => making_command(alloc, word, owner, &mut words, place),
+        Keyword::Tree(word) => tree_command(word, owner, &mut words, place),
+        Keyword::Content(word) => content_command(alloc, word, owner, &mut words, place),
+        Keyword::Question(word) => question_command(alloc, word, owner, &mut words, place),
+        Keyword::Range(word) => range_command(word, owner, &mut words, place),
+        Keyword::Cursor(word) => cursor_command(alloc, word, owner, &mut words, place),
+        Keyword::Event(word) => event_command(alloc, word, owner, &mut words, place),
+        Keyword::Observer(word) => observer_command(alloc, word, owner, &mut words, place),
     }
 }

@@ -10,7 +10,7 @@ ghost use Rattle.dom_text.specs.Readers.{node_word_of as spec_spelled_of};
 ghost use Rattle.dom_text.specs.Decode.{before_space, owner_at as spec_owner_at};
 ghost use Rattle.dom_text.specs.Forms.{node_at};
 ghost use Rattle.dom_words.specs.Gives.{Takes};
-ghost use Rattle.dom_reader.specs.Views.{own_letter, word_view};
+ghost use Rattle.dom_reader.specs.Views.{own_letter, node_spelled, word_view};
 
 use crate::line::NodeWord;
 use crate::separated::first_part;
@@ -186,14 +186,40 @@ fn own_letter(owner: &Owner) -> u8
     }
 }
 
+/// What a word names as a node, however that is spelled. It fits into two registers.
+#[derive(Clone, Copy)]
+enum Spelling {
+    Own(u32),
+    Foreign,
+    NoNode,
+}
+
 /// The next word as a node, as a line of the owner names it, however it is spelled. It is kept out of line, so that the reading of an
 /// owner's own node keeps few registers.
 #[inline(never)]
-fn spelled_node(owner: &Owner, words: &mut WordReader) -> Result<NodeWord, NotRead>
-    ensures { Takes word_view result (node_at owner.now words.old) words.new }
+fn next_spelling(owner: &Owner, words: &mut WordReader) -> Spelling
+    ensures { Takes word_view (node_spelled result) (node_at owner.now words.old) words.new }
 {
-    let word = words.word()?;
-    node_word_of(owner, word).ok_or(NotRead::Syntax)
+    let Ok(word) = words.word() else {
+        return Spelling::NoNode;
+    };
+    match node_word_of(owner, word) {
+        Some(NodeWord::Own(number)) => Spelling::Own(number),
+        Some(NodeWord::Foreign) => Spelling::Foreign,
+        None => Spelling::NoNode,
+    }
+}
+
+/// The node of a spelling, as a line of the owner's names it.
+#[inline(always)]
+fn node_spelled(spelling: Spelling) -> Result<NodeWord, NotRead>
+    ensures { result ≡ node_spelled spelling }
+{
+    match spelling {
+        Spelling::Own(number) => Ok(NodeWord::Own(number)),
+        Spelling::Foreign => Ok(NodeWord::Foreign),
+        Spelling::NoNode => Err(NotRead::Syntax),
+    }
 }
 
 /// The next word as a node, as a line of the owner names it. Most are the owner's own, and are read in one pass, in line.
@@ -203,6 +229,6 @@ pub fn next_node(owner: &Owner, words: &mut WordReader) -> Result<NodeWord, NotR
 {
     match words.lettered(own_letter(owner)) {
         Some(number) => Ok(NodeWord::Own(number)),
-        None => spelled_node(owner, words),
+        None => node_spelled(next_spelling(owner, words)),
     }
 }

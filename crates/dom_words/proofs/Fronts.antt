@@ -3,7 +3,7 @@ use Rattle.dom_base.proofs.Std.{◌≡◌, ℕ, ◌+◌, ◌-◌, ◌≤◌, Boo
 use Rattle.dom_base.proofs.Std.{sym, ap, ◌∙◌, arith, one-add, min_comm, drop-cons, and_from, ne_eqb, eq-eqb, le-leb, nat_tests, take-append-drop, take-take}
 use Rattle.dom_base.proofs.Std.{take_min, take_rest, length-take, prefix_len-le-length, nat_le, ◌==◌, ◌&&◌, IfSome, Bor, list_all, prefix_len, take_while}
 use Rattle.dom_base.proofs.Std.{is_in_range, digit_value, is_ascii_digit, is_ascii_graphic, digits_value_after}
-use Rattle.dom_text.specs.Definitions.{is_positive, positive_of, number_of, numbered, next_as}
+use Rattle.dom_text.specs.Definitions.{is_positive, positive_of, number_of, numbered, next_as, begins_word, word_at}
 use Rattle.dom_text.proofs.WordLaws.{Passes, Stops, run_complete, each_from, list_all_each}
 use Rattle.dom_words.proofs.Texts.{all_of_run}
 use Rattle.dom_words.proofs.Digits.{read_on, digit_is}
@@ -16,6 +16,13 @@ stops_here (b ∷ bytes) h = go (is_ascii_graphic b) refl
     go : (t : Bool) → is_ascii_graphic b ≡ t → is_ascii_graphic b ≡ false
     go false e = e
     go true e = absurd (let more : prefix_len is_ascii_graphic (b ∷ bytes) ≡ 1 + prefix_len is_ascii_graphic bytes = rw e refl in omega (arith, h, more))
+
+-- a word stands in front, where no byte of words comes behind it
+pub word_in_front : (word rest : List ℕ) → list_all is_ascii_graphic word ≡ true → begins_word word ≡ true → prefix_len is_ascii_graphic rest ≡ 0
+    → word_at (word ++ rest) ≡ Some (word, rest)
+word_in_front word rest graphic begins stops =
+    let c = run_complete is_ascii_graphic word rest (list_all_each is_ascii_graphic word graphic) (stops_here rest stops) in
+    rw (c.0, c.1, begins) refl
 
 -- a digit is a byte of words
 digit_graphic : (b : ℕ) → is_ascii_digit b ≡ true → is_ascii_graphic b ≡ true

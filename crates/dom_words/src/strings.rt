@@ -114,10 +114,19 @@ fn as_units(alloc: Global, bytes: &[u8]) -> Result<DomStr, AllocError>
     ensures { IfOk result (λ units. units.items ≡ bytes.now) }
 {
     let mut units = Vec::with_capacity(alloc, bytes.len())?;
-    for b in bytes {
-        units.push(*b as u16)?;
-    }
+    units.resize(bytes.len(), 0)?;
+    copy_bytes(&mut units, bytes);
     Ok(units)
+}
+
+/// Writes bytes into as many code units, several at a time.
+fn copy_bytes(units: &mut [u16], bytes: &[u8])
+    requires { length units.old ≡ length bytes.now }
+    ensures { units.new ≡ bytes.now }
+{
+    for place in 0..bytes.len() {
+        units[place] = bytes[place] as u16;
+    }
 }
 
 /// The units up to the quote that ends the string, and the bytes behind it, item by item. At first there is room for so many.

@@ -99,6 +99,9 @@ impl WordReader<'_> {
         ensures read { Takes (λ k. k) result (next_as (named kind_word new_kinds) self.old) self.new }
         ensures refused { IfErr result (λ e. e ≡ Syntax) }
     {
+        if self.takes(b"element") {
+            return Ok(Kind::Element);
+        }
         let word = self.word()?;
         new_kind_of(word).ok_or(NotRead::Syntax)
     }

@@ -1,6 +1,6 @@
 //! A line's words, taken one after the other from the front of its bytes.
 
-ghost use Rattle.std.specs.Prelude.{◌≡◌, ℕ, List, option_map, IfOk, IfErr, IfSome, IsTrue, length, string_bytes, ◌≤◌};
+ghost use Rattle.std.specs.Prelude.{◌≡◌, ℕ, List, option_map, IfOk, IfErr, IfSome, IsTrue, Some, true, false, length, slice_get, string_bytes, ◌≤◌};
 ghost use Rattle.std.specs.Bool.{OnFalse};
 ghost use Rattle.std.specs.List.{prefix_len, list_all};
 ghost use Rattle.std.specs.Char.{is_ascii_graphic};
@@ -73,6 +73,21 @@ fn next_word(bytes: &[u8]) -> Option<(&[u8], &[u8])>
     ensures graphic { IfSome result (λ x. IsTrue (list_all is_ascii_graphic x.0.now)) }
 {
     word_at(behind_space(bytes)?)
+}
+
+/// The bytes behind a space and this word, where a word ends so.
+#[inline(always)]
+fn behind_word<'a>(word: &[u8], bytes: &'a [u8]) -> Option<&'a [u8]>
+    requires graphic { IsTrue (list_all is_ascii_graphic word.now) }
+    requires begins { spec_begins_word word.now ≡ true }
+    ensures { IfSome result (λ rest. spec_next_word bytes.now ≡ Some (word.now, rest.now)) }
+{
+    let text = behind_space(bytes)?;
+    let rest = text.strip_prefix(word)?;
+    if begins_graphic(rest) {
+        return None;
+    }
+    Some(rest)
 }
 
 /// The bytes of a word as a text of its own. An error where memory was refused.
@@ -150,6 +165,32 @@ impl<'a> WordReader<'a> {
         let (word, rest) = next_word(self.rest).ok_or(NotRead::Syntax)?;
         self.rest = rest;
         Ok(word)
+    }
+
+    /// The byte behind the next one. Where a word comes, it begins with that.
+    #[inline(always)]
+    pub fn second_byte(&self) -> Option<u8>
+        ensures { result ≡ slice_get self.now 1 }
+    {
+        self.rest.get(1).copied()
+    }
+
+    /// Takes the next word if it is this one, and says so; another one stays. The word's length is not looked for, so a word that is likely to
+    /// come is tried by this first.
+    #[inline(always)]
+    pub fn takes(&mut self, word: &[u8]) -> bool
+        requires graphic { IsTrue (list_all is_ascii_graphic word.now) }
+        requires begins { spec_begins_word word.now ≡ true }
+        ensures taken { result ≡ true → spec_next_word self.old ≡ Some (word.now, self.new) }
+        ensures left { result ≡ false → self.new ≡ self.old }
+    {
+        match behind_word(word, self.rest) {
+            Some(rest) => {
+                self.rest = rest;
+                true
+            }
+            None => false,
+        }
     }
 
     /// The next word as a text of its own.

@@ -6,7 +6,7 @@ ghost use Rattle.dom_text.specs.Commands.{command_behind};
 ghost use Rattle.dom_words.specs.Gives.{Gives};
 ghost use Rattle.dom_reader.specs.Views.{event_keyword, observer_keyword, command_view};
 
-use super::ended;
+use super::{put, put_ended};
 use crate::filters::last_attribute_filter;
 use crate::keywords::{EventWord, ObserverWord};
 use crate::line::{Command, EventWords, ListenerWords, ObserveWords};
@@ -15,9 +15,15 @@ use dom_base::Owner;
 use dom_words::{NotRead, WordReader};
 use std::alloc::Global;
 
-/// The words of `listen`.
-fn listen(alloc: Global, owner: &Owner, words: &mut WordReader) -> Result<Command, NotRead>
-    ensures { Gives command_view result (listen_at owner.now words.old) }
+/// Puts `listen` with its words into a blank place.
+fn listen(
+    alloc: Global,
+    owner: &Owner,
+    words: &mut WordReader,
+    place: &mut Command,
+) -> Result<(), NotRead>
+    requires { place.old ≡ Command.EndTurn }
+    ensures { Gives (λ _. command_view place.new) result (listen_at owner.now words.old) }
 {
     let node = next_node(owner, words)?;
     let event = words.label(alloc)?;
@@ -31,23 +37,35 @@ fn listen(alloc: Global, owner: &Owner, words: &mut WordReader) -> Result<Comman
         once: words.flag(b"once"),
         passive: words.flag(b"passive"),
     };
-    ended(Command::Listen(node, listener), words)
+    put_ended(Command::Listen(node, listener), words, place)
 }
 
-/// The words of `unlisten`.
-fn unlisten(alloc: Global, owner: &Owner, words: &mut WordReader) -> Result<Command, NotRead>
-    ensures { Gives command_view result (unlisten_at owner.now words.old) }
+/// Puts `unlisten` with its words into a blank place.
+fn unlisten(
+    alloc: Global,
+    owner: &Owner,
+    words: &mut WordReader,
+    place: &mut Command,
+) -> Result<(), NotRead>
+    requires { place.old ≡ Command.EndTurn }
+    ensures { Gives (λ _. command_view place.new) result (unlisten_at owner.now words.old) }
 {
     let node = next_node(owner, words)?;
     let event = words.label(alloc)?;
     let label = words.label(alloc)?;
     let capture = words.flag(b"capture");
-    ended(Command::Unlisten(node, event, label, capture), words)
+    put_ended(Command::Unlisten(node, event, label, capture), words, place)
 }
 
-/// The words of `dispatch`.
-fn dispatch(alloc: Global, owner: &Owner, words: &mut WordReader) -> Result<Command, NotRead>
-    ensures { Gives command_view result (dispatch_at owner.now words.old) }
+/// Puts `dispatch` with its words into a blank place.
+fn dispatch(
+    alloc: Global,
+    owner: &Owner,
+    words: &mut WordReader,
+    place: &mut Command,
+) -> Result<(), NotRead>
+    requires { place.old ≡ Command.EndTurn }
+    ensures { Gives (λ _. command_view place.new) result (dispatch_at owner.now words.old) }
 {
     let target = next_node(owner, words)?;
     let event = EventWords {
@@ -61,12 +79,18 @@ fn dispatch(alloc: Global, owner: &Owner, words: &mut WordReader) -> Result<Comm
     } else {
         None
     };
-    ended(Command::Dispatch(target, event, related), words)
+    put_ended(Command::Dispatch(target, event, related), words, place)
 }
 
-/// The words of `observe`.
-fn observe(alloc: Global, owner: &Owner, words: &mut WordReader) -> Result<Command, NotRead>
-    ensures { Gives command_view result (observe_at owner.now words.old) }
+/// Puts `observe` with its words into a blank place.
+fn observe(
+    alloc: Global,
+    owner: &Owner,
+    words: &mut WordReader,
+    place: &mut Command,
+) -> Result<(), NotRead>
+    requires { place.old ≡ Command.EndTurn }
+    ensures { Gives (λ _. command_view place.new) result (observe_at owner.now words.old) }
 {
     let observer = words.numbered(b'o')?;
     let node = next_node(owner, words)?;
@@ -79,42 +103,49 @@ fn observe(alloc: Global, owner: &Owner, words: &mut WordReader) -> Result<Comma
         character_data_old_value: words.flag(b"characterDataOldValue"),
         filter: last_attribute_filter(alloc, words)?,
     };
-    Ok(Command::Observe(observer, node, observed))
+    put(Command::Observe(observer, node, observed), place);
+    Ok(())
 }
 
-/// The command of listeners, events, microtasks or turns that goes on with the words.
+/// Puts the command of listeners, events, microtasks or turns that goes on with the words into a blank place.
 #[inline(never)]
 pub fn event_command(
     alloc: Global,
     word: EventWord,
     owner: &Owner,
     words: &mut WordReader,
-) -> Result<Command, NotRead>
-    ensures { Gives command_view result (command_behind (event_keyword word) owner.now words.old) }
+    place: &mut Command,
+) -> Result<(), NotRead>
+    requires { place.old ≡ Command.EndTurn }
+    ensures { Gives (λ _. command_view place.new) result (command_behind (event_keyword word) owner.now words.old) }
 {
     match word {
-        EventWord::Listen => listen(alloc, owner, words),
-        EventWord::Unlisten => unlisten(alloc, owner, words),
-        EventWord::Dispatch => dispatch(alloc, owner, words),
-        EventWord::Micro => ended(Command::Micro(words.label(alloc)?), words),
-        EventWord::End => ended(Command::EndTurn, words),
+        EventWord::Listen => listen(alloc, owner, words, place),
+        EventWord::Unlisten => unlisten(alloc, owner, words, place),
+        EventWord::Dispatch => dispatch(alloc, owner, words, place),
+        EventWord::Micro => put_ended(Command::Micro(words.label(alloc)?), words, place),
+        EventWord::End => put_ended(Command::EndTurn, words, place),
     }
 }
 
-/// The observer's command that goes on with the words.
+/// Puts the observer's command that goes on with the words into a blank place.
 #[inline(never)]
 pub fn observer_command(
     alloc: Global,
     word: ObserverWord,
     owner: &Owner,
     words: &mut WordReader,
-) -> Result<Command, NotRead>
-    ensures { Gives command_view result (command_behind (observer_keyword word) owner.now words.old) }
+    place: &mut Command,
+) -> Result<(), NotRead>
+    requires { place.old ≡ Command.EndTurn }
+    ensures { Gives (λ _. command_view place.new) result (command_behind (observer_keyword word) owner.now words.old) }
 {
     match word {
-        ObserverWord::Observer => ended(Command::Observer, words),
-        ObserverWord::Observe => observe(alloc, owner, words),
-        ObserverWord::Disconnect => ended(Command::Disconnect(words.numbered(b'o')?), words),
-        ObserverWord::Take => ended(Command::Take(words.numbered(b'o')?), words),
+        ObserverWord::Observer => put_ended(Command::Observer, words, place),
+        ObserverWord::Observe => observe(alloc, owner, words, place),
+        ObserverWord::Disconnect => {
+            put_ended(Command::Disconnect(words.numbered(b'o')?), words, place)
+        }
+        ObserverWord::Take => put_ended(Command::Take(words.numbered(b'o')?), words, place),
     }
 }

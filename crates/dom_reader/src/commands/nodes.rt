@@ -1,14 +1,12 @@
 //! Commands that make, place, change and ask about nodes.
 
 ghost use Rattle.std.specs.Prelude.{◌≡◌};
-ghost use Rattle.dom_model.specs.Command as model;
-ghost use Rattle.dom_text.specs.Readers.{next_word, next_string};
-ghost use Rattle.dom_text.specs.Forms.{one, two, three, four, node_at, number_at, new_at, assigned_at};
+ghost use Rattle.dom_text.specs.Forms.{new_at};
 ghost use Rattle.dom_text.specs.Commands.{command_behind};
 ghost use Rattle.dom_words.specs.Gives.{Gives};
 ghost use Rattle.dom_reader.specs.Views.{making_keyword, tree_keyword, content_keyword, question_keyword, word_view, command_view};
 
-use super::ended;
+use super::put_ended;
 use crate::keywords::{ContentWord, MakingWord, QuestionWord, TreeWord};
 use crate::line::Command;
 use crate::nodes::next_node;
@@ -16,184 +14,147 @@ use dom_base::{Kind, Owner};
 use dom_words::{NotRead, WordReader};
 use std::alloc::Global;
 
-/// A command of nodes, which are read one after the other to the end of the line.
-macro_rules! of_nodes {
-    ($command:ident($($node:ident),+), $owner:expr, $words:expr) => {{
-        $(let $node = next_node($owner, $words)?;)+
-        $words.end()?;
-        Ok(Command::$command($($node),+))
-    }};
-}
-
 /// What is made, and its word or string.
-fn new_command(alloc: Global, words: &mut WordReader) -> Result<Command, NotRead>
-    ensures { Gives command_view result (new_at words.old) }
+fn new_command(alloc: Global, words: &mut WordReader, place: &mut Command) -> Result<(), NotRead>
+    requires { place.old ≡ Command.EndTurn }
+    ensures { Gives (λ _. command_view place.new) result (new_at words.old) }
 {
     match words.new_kind()? {
-        Kind::Element => new_element(alloc, words),
-        Kind::Text => ended(Command::NewText(words.string(alloc)?), words),
-        Kind::Comment => ended(Command::NewComment(words.string(alloc)?), words),
-        Kind::Fragment => ended(Command::NewFragment, words),
+        Kind::Element => put_ended(Command::NewElement(words.text(alloc)?), words, place),
+        Kind::Text => put_ended(Command::NewText(words.string(alloc)?), words, place),
+        Kind::Comment => put_ended(Command::NewComment(words.string(alloc)?), words, place),
+        Kind::Fragment => put_ended(Command::NewFragment, words, place),
         _ => Err(NotRead::Syntax),
     }
 }
 
-/// The words of `new element`.
-fn new_element(alloc: Global, words: &mut WordReader) -> Result<Command, NotRead>
-    ensures { Gives command_view result (one next_word model.new_element words.old) }
-{
-    let name = words.text(alloc)?;
-    ended(Command::NewElement(name), words)
-}
-
-/// The words of `assigned`, which is a component's.
-fn assigned(owner: &Owner, words: &mut WordReader) -> Result<Command, NotRead>
-    ensures { Gives command_view result (assigned_at owner.now words.old) }
-{
-    match owner {
-        Owner::Page => Err(NotRead::Syntax),
-        Owner::Component(_) => ended(Command::Assigned(next_node(owner, words)?), words),
-    }
-}
-
-/// The command that makes, and goes on with the words.
+/// Puts the command that makes, and goes on with the words, into a blank place.
 #[inline(never)]
 pub fn making_command(
     alloc: Global,
     word: MakingWord,
     owner: &Owner,
     words: &mut WordReader,
-) -> Result<Command, NotRead>
-    ensures { Gives command_view result (command_behind (making_keyword word) owner.now words.old) }
+    place: &mut Command,
+) -> Result<(), NotRead>
+    requires { place.old ≡ Command.EndTurn }
+    ensures { Gives (λ _. command_view place.new) result (command_behind (making_keyword word) owner.now words.old) }
 {
     match word {
-        MakingWord::New => new_command(alloc, words),
-        MakingWord::Document => ended(Command::NewDocument, words),
-        MakingWord::Attach => of_nodes!(Attach(node), owner, words),
+        MakingWord::New => new_command(alloc, words, place),
+        MakingWord::Document => put_ended(Command::NewDocument, words, place),
+        MakingWord::Attach => put_ended(Command::Attach(next_node(owner, words)?), words, place),
     }
 }
 
-/// The command that changes where nodes stand, and goes on with the words.
+/// Puts the command that changes where nodes stand, and goes on with the words, into a blank place.
 #[inline(never)]
 pub fn tree_command(
     word: TreeWord,
     owner: &Owner,
     words: &mut WordReader,
-) -> Result<Command, NotRead>
-    ensures { Gives command_view result (command_behind (tree_keyword word) owner.now words.old) }
+    place: &mut Command,
+) -> Result<(), NotRead>
+    requires { place.old ≡ Command.EndTurn }
+    ensures { Gives (λ _. command_view place.new) result (command_behind (tree_keyword word) owner.now words.old) }
 {
+    let first = next_node(owner, words)?;
     match word {
-        TreeWord::Append => of_nodes!(Append(parent, node), owner, words),
-        TreeWord::Insert => of_nodes!(Insert(parent, node, child), owner, words),
-        TreeWord::Replace => of_nodes!(Replace(parent, node, child), owner, words),
-        TreeWord::Remove => of_nodes!(Remove(node), owner, words),
-        TreeWord::Adopt => of_nodes!(Adopt(document, node), owner, words),
-        TreeWord::Normalize => of_nodes!(Normalize(node), owner, words),
+        TreeWord::Append => {
+            let node = next_node(owner, words)?;
+            put_ended(Command::Append(first, node), words, place)
+        }
+        TreeWord::Insert => {
+            let (node, child) = (next_node(owner, words)?, next_node(owner, words)?);
+            put_ended(Command::Insert(first, node, child), words, place)
+        }
+        TreeWord::Replace => {
+            let (node, child) = (next_node(owner, words)?, next_node(owner, words)?);
+            put_ended(Command::Replace(first, node, child), words, place)
+        }
+        TreeWord::Remove => put_ended(Command::Remove(first), words, place),
+        TreeWord::Adopt => {
+            let node = next_node(owner, words)?;
+            put_ended(Command::Adopt(first, node), words, place)
+        }
+        TreeWord::Normalize => put_ended(Command::Normalize(first), words, place),
     }
 }
 
-/// The words of `set`.
-fn set_attribute(alloc: Global, owner: &Owner, words: &mut WordReader) -> Result<Command, NotRead>
-    ensures { Gives command_view result (three (node_at owner.now) next_word next_string model.set_attribute words.old) }
-{
-    let element = next_node(owner, words)?;
-    let name = words.text(alloc)?;
-    let value = words.string(alloc)?;
-    ended(Command::SetAttribute(element, name, value), words)
-}
-
-/// The words of `replace-data`.
-fn replace_data(alloc: Global, owner: &Owner, words: &mut WordReader) -> Result<Command, NotRead>
-    ensures { Gives command_view result (four (node_at owner.now) number_at number_at next_string model.replace_data words.old) }
-{
-    let node = next_node(owner, words)?;
-    let offset = words.number()?;
-    let count = words.number()?;
-    let text = words.string(alloc)?;
-    ended(Command::ReplaceData(node, offset, count, text), words)
-}
-
-/// The command that changes attributes or data, and goes on with the words.
+/// Puts the command that changes attributes or data, and goes on with the words, into a blank place.
 #[inline(never)]
 pub fn content_command(
     alloc: Global,
     word: ContentWord,
     owner: &Owner,
     words: &mut WordReader,
-) -> Result<Command, NotRead>
-    ensures { Gives command_view result (command_behind (content_keyword word) owner.now words.old) }
+    place: &mut Command,
+) -> Result<(), NotRead>
+    requires { place.old ≡ Command.EndTurn }
+    ensures { Gives (λ _. command_view place.new) result (command_behind (content_keyword word) owner.now words.old) }
 {
+    let node = next_node(owner, words)?;
     match word {
-        ContentWord::Set => set_attribute(alloc, owner, words),
-        ContentWord::Unset => ended(
-            Command::UnsetAttribute(next_node(owner, words)?, words.text(alloc)?),
+        ContentWord::Set => {
+            let name = words.text(alloc)?;
+            let value = words.string(alloc)?;
+            put_ended(Command::SetAttribute(node, name, value), words, place)
+        }
+        ContentWord::Unset => put_ended(
+            Command::UnsetAttribute(node, words.text(alloc)?),
             words,
+            place,
         ),
-        ContentWord::Data => ended(
-            Command::SetData(next_node(owner, words)?, words.string(alloc)?),
-            words,
-        ),
-        ContentWord::ReplaceData => replace_data(alloc, owner, words),
-        ContentWord::Split => ended(
-            Command::Split(next_node(owner, words)?, words.number()?),
-            words,
-        ),
-        ContentWord::Text => ended(
-            Command::SetText(next_node(owner, words)?, words.string(alloc)?),
-            words,
-        ),
+        ContentWord::Data => put_ended(Command::SetData(node, words.string(alloc)?), words, place),
+        ContentWord::ReplaceData => {
+            let (offset, count) = (words.number()?, words.number()?);
+            let text = words.string(alloc)?;
+            put_ended(
+                Command::ReplaceData(node, offset, count, text),
+                words,
+                place,
+            )
+        }
+        ContentWord::Split => put_ended(Command::Split(node, words.number()?), words, place),
+        ContentWord::Text => put_ended(Command::SetText(node, words.string(alloc)?), words, place),
     }
 }
 
-/// The words of `attr`.
-fn attribute(alloc: Global, owner: &Owner, words: &mut WordReader) -> Result<Command, NotRead>
-    ensures { Gives command_view result (two (node_at owner.now) next_word model.attribute words.old) }
-{
-    let element = next_node(owner, words)?;
-    let name = words.text(alloc)?;
-    ended(Command::Attribute(element, name), words)
-}
-
-/// The words of `query`.
-fn query(alloc: Global, owner: &Owner, words: &mut WordReader) -> Result<Command, NotRead>
-    ensures { Gives command_view result (two (node_at owner.now) next_string model.query words.old) }
-{
-    let node = next_node(owner, words)?;
-    let selector = words.string(alloc)?;
-    ended(Command::Query(node, selector), words)
-}
-
-/// The words of `matches`.
-fn matches(alloc: Global, owner: &Owner, words: &mut WordReader) -> Result<Command, NotRead>
-    ensures { Gives command_view result (two (node_at owner.now) next_string model.matches words.old) }
-{
-    let element = next_node(owner, words)?;
-    let selector = words.string(alloc)?;
-    ended(Command::Matches(element, selector), words)
-}
-
-/// The command that asks about nodes, and goes on with the words.
+/// Puts the command that asks about nodes, and goes on with the words, into a blank place.
 #[inline(never)]
 pub fn question_command(
     alloc: Global,
     word: QuestionWord,
     owner: &Owner,
     words: &mut WordReader,
-) -> Result<Command, NotRead>
-    ensures { Gives command_view result (command_behind (question_keyword word) owner.now words.old) }
+    place: &mut Command,
+) -> Result<(), NotRead>
+    requires { place.old ≡ Command.EndTurn }
+    ensures { Gives (λ _. command_view place.new) result (command_behind (question_keyword word) owner.now words.old) }
 {
+    let node = next_node(owner, words)?;
     match word {
-        QuestionWord::Tree => of_nodes!(Tree(node), owner, words),
-        QuestionWord::Attr => attribute(alloc, owner, words),
-        QuestionWord::Parent => of_nodes!(Parent(node), owner, words),
-        QuestionWord::Docof => of_nodes!(DocumentOf(node), owner, words),
-        QuestionWord::Children => of_nodes!(Children(node), owner, words),
-        QuestionWord::Contains => of_nodes!(Contains(above, node), owner, words),
-        QuestionWord::Connected => of_nodes!(Connected(node), owner, words),
-        QuestionWord::ShadowRoot => of_nodes!(ShadowRoot(node), owner, words),
-        QuestionWord::SlotOf => of_nodes!(SlotOf(node), owner, words),
-        QuestionWord::Assigned => assigned(owner, words),
-        QuestionWord::Query => query(alloc, owner, words),
-        QuestionWord::Matches => matches(alloc, owner, words),
+        QuestionWord::Tree => put_ended(Command::Tree(node), words, place),
+        QuestionWord::Attr => put_ended(Command::Attribute(node, words.text(alloc)?), words, place),
+        QuestionWord::Parent => put_ended(Command::Parent(node), words, place),
+        QuestionWord::Docof => put_ended(Command::DocumentOf(node), words, place),
+        QuestionWord::Children => put_ended(Command::Children(node), words, place),
+        QuestionWord::Contains => {
+            let other = next_node(owner, words)?;
+            put_ended(Command::Contains(node, other), words, place)
+        }
+        QuestionWord::Connected => put_ended(Command::Connected(node), words, place),
+        QuestionWord::ShadowRoot => put_ended(Command::ShadowRoot(node), words, place),
+        QuestionWord::SlotOf => put_ended(Command::SlotOf(node), words, place),
+        QuestionWord::Assigned => match owner {
+            Owner::Page => Err(NotRead::Syntax),
+            Owner::Component(_) => put_ended(Command::Assigned(node), words, place),
+        },
+        QuestionWord::Query => put_ended(Command::Query(node, words.string(alloc)?), words, place),
+        QuestionWord::Matches => put_ended(
+            Command::Matches(node, words.string(alloc)?),
+            words,
+            place,
+        ),
     }
 }

@@ -14,6 +14,6 @@ returns c =
     (elim c.if-flag.branch [
       | then-flag+in_ok-next_node w ↦
           rw (w.if-flag.true, w.in_ok-next_node.ensures, made_at_end makes (Some (word_view w.in_ok-next_node.field-0)) w.next_node-then-flag.new.words)
-          (rw (w.words-is, w.related-is) at c.ended.ensures)
-      | else-flag w ↦ rw (w.if-flag.false, made_at_end makes None c.flag-4.new.self) (rw (w.words-is, w.related-is) at c.ended.ensures)
+          (rw (w.words-is, w.related-is) at c.put_ended.ensures)
+      | else-flag w ↦ rw (w.if-flag.false, made_at_end makes None c.flag-4.new.self) (rw (w.words-is, w.related-is) at c.put_ended.ensures)
     ])

@@ -14,5 +14,6 @@ returns c =
       ← c.flag-5.ensures,
       ← c.flag-6.ensures,
       c.in_ok-last_attribute_filter.ensures,
+      c.put.ensures,
     )
     refl
