@@ -1,29 +1,46 @@
 //! How an accepted command ends.
 ghost use Rattle.std.specs.Prelude.{◌≡◌, ◌∷◌, [], None};
-ghost use Rattle.dom_model.specs.Output.{says, replied};
+ghost use Rattle.dom_model.specs.Output.{a_node, says, replied};
 ghost use Rattle.dom_model.specs.Turns.{opening_turn};
 ghost use Rattle.dom_printer.specs.Replies.{value_view};
 ghost use Rattle.dom_admission.specs.Handled.{IsDone};
 
 use crate::state::State;
-use dom_base::{Fault, Owner};
-use dom_printer::{Value, put_reply};
+use dom_base::{Fault, NodeName, Owner};
+use dom_printer::{Value, put_node_reply, put_reply};
 
 impl State {
     /// Ends an accepted command: its owner's turn is open, and the reply is put. It is in line, since most lines end with it.
     #[inline(always)]
     pub fn accept(
         &mut self,
-        owner: Owner,
+        owner: &Owner,
         value: &Value<'_>,
         out: &mut Vec<u8>,
     ) -> Result<(), Fault>
-        ensures done { IsDone None (opening_turn self.old.world owner, says owner (replied (value_view value.now)) ∷ []) self.old.world
+        ensures done { IsDone None (opening_turn self.old.world owner.now, says owner.now (replied (value_view value.now)) ∷ []) self.old.world
             self.new.world out.old.items out.new.items result }
         ensures names { self.new.names ≡ self.old.names }
     {
         self.open_turn(owner);
         put_reply(out, owner, value)?;
+        Ok(())
+    }
+
+    /// Ends an accepted command whose reply has a node, as `accept` does, and makes no room for other values.
+    #[inline(always)]
+    pub fn accept_node(
+        &mut self,
+        owner: &Owner,
+        node: &NodeName,
+        out: &mut Vec<u8>,
+    ) -> Result<(), Fault>
+        ensures done { IsDone None (opening_turn self.old.world owner.now, says owner.now (replied (a_node node.now)) ∷ []) self.old.world
+            self.new.world out.old.items out.new.items result }
+        ensures names { self.new.names ≡ self.old.names }
+    {
+        self.open_turn(owner);
+        put_node_reply(out, owner, node)?;
         Ok(())
     }
 }

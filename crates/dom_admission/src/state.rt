@@ -70,12 +70,12 @@ impl State {
     }
 
     /// Opens an owner's turn, where none is open.
-    pub fn open_turn(&mut self, owner: Owner)
+    pub fn open_turn(&mut self, owner: &Owner)
         ensures names { self.new.names ≡ self.old.names }
-        ensures world { self.new.world ≡ opening_turn self.old.world owner }
+        ensures world { self.new.world ≡ opening_turn self.old.world owner.now }
     {
         if self.turn.is_none() {
-            self.turn = Some(owner);
+            self.turn = Some(*owner);
         }
     }
 

@@ -42,7 +42,7 @@ impl Machine {
         self.state.admit(owner, &[Operand::Any(node)])?;
         let node = self.state.key(owner, node);
         self.listeners.listen(node, listener_init(words))?;
-        self.state.accept(owner, &Value::Nothing, out)
+        self.state.accept(&owner, &Value::Nothing, out)
     }
 
     /// `unlisten N TYPE LABEL [capture]`: the listener of a node with this type, label and capture goes, if there is one.
@@ -64,7 +64,7 @@ impl Machine {
         self.state.admit(owner, &[Operand::Any(node)])?;
         let node = self.state.key(owner, node);
         self.listeners.unlisten(node, event, label, capture);
-        self.state.accept(owner, &Value::Nothing, out)
+        self.state.accept(&owner, &Value::Nothing, out)
     }
 }
 
@@ -89,7 +89,7 @@ impl Machine {
         let related = key_of(&self.state, owner, related);
         self.open_turn(owner);
         let answer = self.fire(target, event_init(event, related), out)?;
-        put_reply(out, owner, &Value::Truth(answer))?;
+        put_reply(out, &owner, &Value::Truth(answer))?;
         Ok(())
     }
 
@@ -101,7 +101,7 @@ impl Machine {
         ensures names { self.new.names ≡ self.old.names }
         ensures sound { IsAtRest self.new }
     {
-        self.state.open_turn(owner);
+        self.state.open_turn(&owner);
     }
 }
 

@@ -60,7 +60,7 @@ fn new_range(state: &mut State, owner: Owner, out: &mut Vec<u8>) -> Result<(), F
     state.admit(owner, &[])?;
     let first = state.key(owner, NodeWord::Own(0));
     let number = state.doc.range_make(owner, first)?;
-    state.accept(owner, &Value::Range(number), out)
+    state.accept(&owner, &Value::Range(number), out)
 }
 
 /// `range-start R N OFFSET`: another start of a range, or `range-end R N OFFSET`: another end; its other one follows where it would stand
@@ -83,12 +83,12 @@ fn set_boundary(
     let offset = offset as usize;
     if is_start {
         return match state.doc.range_set_start(owner, number, node, offset) {
-            Ok(()) => state.accept(owner, &Value::Nothing, out),
+            Ok(()) => state.accept(&owner, &Value::Nothing, out),
             Err(refusal) => Err(Fault::Refused(refusal)),
         };
     }
     match state.doc.range_set_end(owner, number, node, offset) {
-        Ok(()) => state.accept(owner, &Value::Nothing, out),
+        Ok(()) => state.accept(&owner, &Value::Nothing, out),
         Err(refusal) => Err(Fault::Refused(refusal)),
     }
 }
@@ -105,7 +105,7 @@ fn text_of_range(
 {
     state.admit(owner, &[Operand::Range(number)])?;
     let text = range_text(state.alloc, &state.doc, owner, number)?;
-    state.accept(owner, &Value::Str(&text), out)
+    state.accept(&owner, &Value::Str(&text), out)
 }
 
 /// `extract R`: what a range contains goes into a new fragment, with clones of the nodes that it contains in part.
@@ -116,7 +116,7 @@ fn extract(state: &mut State, owner: Owner, number: u32, out: &mut Vec<u8>) -> R
     state.admit(owner, &[Operand::Range(number)])?;
     let fragment = dom_range_ops::extract(state.alloc, &mut state.doc, owner, number)?;
     let made = state.doc.forest().name(fragment);
-    state.accept(owner, &Value::Node(made), out)
+    state.accept_node(&owner, &made, out)
 }
 
 /// `delete R`: what a range contains goes.
@@ -126,7 +126,7 @@ fn delete(state: &mut State, owner: Owner, number: u32, out: &mut Vec<u8>) -> Re
 {
     state.admit(owner, &[Operand::Range(number)])?;
     dom_range_ops::delete(state.alloc, &mut state.doc, owner, number)?;
-    state.accept(owner, &Value::Nothing, out)
+    state.accept(&owner, &Value::Nothing, out)
 }
 
 /// `insert-node R N`: a node is inserted at the start of a range, which then contains it.
@@ -143,5 +143,5 @@ fn insert_node(
     state.admit(owner, &[Operand::Any(node), Operand::Range(number)])?;
     let node = state.key(owner, node);
     dom_range_ops::insert_node(&mut state.doc, owner, number, node)?;
-    state.accept(owner, &Value::Nothing, out)
+    state.accept(&owner, &Value::Nothing, out)
 }

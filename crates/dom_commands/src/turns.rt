@@ -62,7 +62,7 @@ impl Machine {
         self.state.law_names_tell_nodes();
         self.state.admit(owner, &[])?;
         self.close_turn(out)?;
-        put_reply(out, owner, &Value::Nothing)?;
+        put_reply(out, &owner, &Value::Nothing)?;
         Ok(())
     }
 }

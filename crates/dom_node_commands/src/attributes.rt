@@ -30,7 +30,7 @@ pub fn set_attribute(
 {
     let element = state.admit_one(*owner, Operand::Element(element))?;
     state.doc.set_attr(element, &name, value)?;
-    state.accept(*owner, &NOTHING, out)
+    state.accept(owner, &NOTHING, out)
 }
 
 /// `unset E WORD`: an element's attribute goes; without it nothing changes.
@@ -47,7 +47,7 @@ pub fn unset_attribute(
 {
     let element = state.admit_one(*owner, Operand::Element(element))?;
     state.doc.remove_attr(element, &name)?;
-    state.accept(*owner, &NOTHING, out)
+    state.accept(owner, &NOTHING, out)
 }
 
 /// `attr E WORD`: the value of an element's attribute, or `null`.
@@ -63,8 +63,8 @@ pub fn attribute(
     ensures names { KeepsNames state.old.names state.new.names result }
 {
     let element = state.admit_one(*owner, Operand::Element(element))?;
-    put_reply(out, *owner, &attribute_value(state, element, &name))?;
-    state.open_turn(*owner);
+    put_reply(out, owner, &attribute_value(state, element, &name))?;
+    state.open_turn(owner);
     Ok(())
 }
 

@@ -6,7 +6,6 @@ ghost use Rattle.dom_admission.specs.Handled.{KeepsNames, IsHandled};
 use crate::NOTHING;
 use dom_admission::{Operand, State};
 use dom_base::{DomStr, Fault, Owner};
-use dom_printer::Value;
 use dom_reader::NodeWord;
 
 /// `data T STR`: all data of a Text or a Comment give way to others.
@@ -22,7 +21,7 @@ pub fn set_data(
 {
     let node = state.admit_one(*owner, Operand::Data(node))?;
     state.doc.set_data(node, text)?;
-    state.accept(*owner, &NOTHING, out)
+    state.accept(owner, &NOTHING, out)
 }
 
 /// `replace-data T OFFSET COUNT STR`: from an offset on, so many code units of a Text or a Comment give way to others.
@@ -43,7 +42,7 @@ pub fn replace_data(
     state
         .doc
         .replace_data(node, offset as usize, count as usize, text)?;
-    state.accept(*owner, &NOTHING, out)
+    state.accept(owner, &NOTHING, out)
 }
 
 /// `split N OFFSET`: the code units of a Text from an offset on go into a new Text behind it.
@@ -60,7 +59,7 @@ pub fn split(
     let node = state.admit_one(*owner, Operand::Text(node))?;
     let tail = state.doc.split(node, offset as usize)?;
     let made = state.doc.forest().name(tail);
-    state.accept(*owner, &Value::Node(made), out)
+    state.accept_node(owner, &made, out)
 }
 
 /// `text N STR`: the text of a node: the data of a Text or a Comment, nothing of a document, and of others one Text in
@@ -77,7 +76,7 @@ pub fn set_text(
 {
     let node = state.admit_one(*owner, Operand::Any(node))?;
     state.doc.set_text(node, text)?;
-    state.accept(*owner, &NOTHING, out)
+    state.accept(owner, &NOTHING, out)
 }
 
 /// `normalize N`: below a node no Text is empty, and none stands directly behind another.
@@ -92,5 +91,5 @@ pub fn normalize(
 {
     let node = state.admit_one(*owner, Operand::Any(node))?;
     state.doc.normalize(node)?;
-    state.accept(*owner, &NOTHING, out)
+    state.accept(owner, &NOTHING, out)
 }

@@ -11,7 +11,6 @@ ghost use Rattle.dom_mutation.specs.Doc.{HoldsNode, name_in};
 
 use dom_admission::State;
 use dom_base::{DomStr, Fault, Kind, Owner};
-use dom_printer::Value;
 use dom_reader::NodeWord;
 use dom_tree::NodeData;
 use indexmap::IndexMap;
@@ -104,7 +103,7 @@ fn make(
     };
     let key = state.doc.add(*owner, node)?;
     let made = state.doc.forest().name(key);
-    state.accept(*owner, &Value::Node(made), out)
+    state.accept_node(owner, &made, out)
 }
 
 /// The node document of an owner's new node: the page's first document, or that of a component's shadow root; a

@@ -21,7 +21,7 @@ pub fn append(
 {
     let (parent, node) = state.admit_two(*owner, Operand::Any(parent), Operand::Any(node))?;
     state.doc.insert(parent, node, None)?;
-    state.accept(*owner, &NOTHING, out)
+    state.accept(owner, &NOTHING, out)
 }
 
 /// `insert P N C`: a node becomes the child of a parent just before another child.
@@ -44,7 +44,7 @@ pub fn insert(
         Operand::Any(child),
     )?;
     state.doc.insert(parent, node, Some(child))?;
-    state.accept(*owner, &NOTHING, out)
+    state.accept(owner, &NOTHING, out)
 }
 
 /// `replace P N C`: a node takes the place of a child of a parent.
@@ -67,7 +67,7 @@ pub fn replace(
         Operand::Any(child),
     )?;
     state.doc.replace(parent, node, child)?;
-    state.accept(*owner, &NOTHING, out)
+    state.accept(owner, &NOTHING, out)
 }
 
 /// `remove N`: a node leaves its parent.
@@ -82,7 +82,7 @@ pub fn remove(
 {
     let node = state.admit_one(*owner, Operand::Child(node))?;
     state.doc.remove(node)?;
-    state.accept(*owner, &NOTHING, out)
+    state.accept(owner, &NOTHING, out)
 }
 
 /// `adopt D N`: a node leaves its parent and gets a document for its node document, with all below it.
@@ -102,5 +102,5 @@ pub fn adopt(
         Operand::Any(node),
     )?;
     state.doc.adopt(document, node)?;
-    state.accept(*owner, &NOTHING, out)
+    state.accept(owner, &NOTHING, out)
 }

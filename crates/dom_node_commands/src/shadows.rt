@@ -29,7 +29,7 @@ pub fn attach(
     let host = state.admit_one(*owner, Operand::Element(host))?;
     let root = state.doc.attach(host)?;
     let component = state.doc.forest().name(root).owner;
-    state.accept(*owner, &Value::Component(component), out)
+    state.accept(owner, &Value::Component(component), out)
 }
 
 /// `shadow-root E`: always `null`, since all shadow roots are closed (DOM Standard, the shadowRoot getter).
@@ -43,7 +43,7 @@ pub fn shadow_root(
     ensures names { KeepsNames state.old.names state.new.names result }
 {
     state.admit(*owner, &[Operand::Element(element)])?;
-    state.accept(*owner, &Value::Null, out)
+    state.accept(owner, &Value::Null, out)
 }
 
 /// `slot-of N`: always `null`, since all shadow trees are closed (DOM Standard, the assignedSlot getter).
@@ -57,7 +57,7 @@ pub fn slot_of(
     ensures names { KeepsNames state.old.names state.new.names result }
 {
     state.admit(*owner, &[Operand::Slottable(node)])?;
-    state.accept(*owner, &Value::Null, out)
+    state.accept(owner, &Value::Null, out)
 }
 
 /// `assigned E`: the nodes assigned to a slot; components' alone (DOM Standard, concept: assigned nodes).
@@ -75,7 +75,7 @@ pub fn assigned(
     }
     let slot = state.admit_one(*owner, Operand::Slot(slot))?;
     let nodes = assigned_to(state, slot)?;
-    state.accept(*owner, &Value::List(&nodes), out)
+    state.accept(owner, &Value::List(&nodes), out)
 }
 
 /// The names of the nodes assigned to a slot.

@@ -12,6 +12,6 @@ mod trees;
 
 pub use names::{put_owner_word, put_path};
 pub use records::{Change, Event, put_event, put_micro, put_record};
-pub use replies::{Boundary, Value, put_refusal, put_reply};
+pub use replies::{Boundary, Value, put_node_reply, put_refusal, put_reply};
 pub use strings::put_string;
 pub use trees::{Attribute, NodeContent, Opening, TreeStep, put_tree};

@@ -1,9 +1,10 @@
 //! Replies and refusals.
-ghost use Rattle.std.specs.Prelude.{◌≡◌, ◌++◌, ◌∷◌, [], OnOk, OnErr, codes};
+ghost use Rattle.std.specs.Prelude.{◌≡◌, ◌++◌, ◌∷◌, [], IfSome, OnOk, OnErr, codes};
 ghost use Rattle.std.specs.Fmt.{decimal};
 ghost use Rattle.dom_base.specs.declared.Owner.TheVariants.{Page};
 ghost use Rattle.dom_model.specs.Output.{a_node, boundaries, nothing, reference, replied, says};
 ghost use Rattle.dom_text.specs.Text.{node_text, output_text};
+ghost use Rattle.dom_text.specs.Words.{owner_word};
 ghost use Rattle.dom_printer.specs.Keeping.{Keeps};
 ghost use Rattle.dom_printer.specs.Lines.{line_text};
 ghost use Rattle.dom_printer.specs.Replies.{boundary_view, value_view, refusal_output};
@@ -56,14 +57,26 @@ pub enum Value<'a> {
 ///
 /// Own rule.
 #[inline(always)]
-pub fn put_reply(out: &mut Vec<u8>, owner: Owner, value: &Value<'_>) -> Result<(), AllocError>
+pub fn put_reply(out: &mut Vec<u8>, owner: &Owner, value: &Value<'_>) -> Result<(), AllocError>
     ensures ok { OnOk result (out.new.items
-        ≡ out.old.items ++ output_text (says owner (replied (value_view value.now)) ∷ [])) }
+        ≡ out.old.items ++ output_text (says owner.now (replied (value_view value.now)) ∷ [])) }
     ensures err { OnErr result (out.new.items ≡ out.old.items) }
 {
     match owner {
         Owner::Page => put_page_value(out, value),
-        _ => put_value(out, &owner, value),
+        _ => put_value(out, owner, value),
+    }
+}
+
+/// Puts the reply that has a node, as `put_reply` does, and makes no room for other values.
+#[inline(always)]
+pub fn put_node_reply(out: &mut Vec<u8>, owner: &Owner, node: &NodeName) -> Result<(), AllocError>
+    ensures ok { OnOk result (out.new.items ≡ out.old.items ++ output_text (says owner.now (replied (a_node node.now)) ∷ [])) }
+    ensures err { OnErr result (out.new.items ≡ out.old.items) }
+{
+    match (owner, &node.owner) {
+        (Owner::Page, Owner::Page) => put_page_node(out, node.number),
+        _ => put_found(out, owner, node),
     }
 }
 
@@ -115,11 +128,27 @@ fn put_page_node(out: &mut Vec<u8>, number: u32) -> Result<(), AllocError>
     Ok(())
 }
 
-/// Puts the reply that has no value.
+/// The digit of a component's word that is `c` and this digit.
+fn only_digit(owner: &Owner) -> Option<u8>
+    ensures { IfSome result (λ digit. owner_word owner.now ≡ 99 ∷ digit ∷ []) }
+{
+    let Owner::Component(component) = owner else {
+        return None;
+    };
+    match component.numbers() {
+        [number] if *number < 10 => Some(b'0' + *number as u8),
+        _ => None,
+    }
+}
+
+/// Puts the reply that has no value, at once where the owner's word is short.
 fn put_done(out: &mut Vec<u8>, owner: &Owner) -> Result<(), AllocError>
     ensures ok { OnOk result (out.new.items ≡ out.old.items ++ output_text (says owner.now (replied nothing) ∷ [])) }
     ensures err { OnErr result (out.new.items ≡ out.old.items) }
 {
+    if let Some(digit) = only_digit(owner) {
+        return out.extend_from_slice(&[b'c', digit, b' ', b'o', b'k', b'\n']);
+    }
     let length = out.len();
     let put = put_done_parts(out, owner);
     cut_if_refused(out, length, put)
@@ -135,13 +164,14 @@ fn put_done_parts(out: &mut Vec<u8>, owner: &Owner) -> Result<(), AllocError>
     out.extend_from_slice(b" ok\n")
 }
 
-/// Puts the reply that has a node.
-fn put_found(out: &mut Vec<u8>, owner: &Owner, node: NodeName) -> Result<(), AllocError>
-    ensures ok { OnOk result (out.new.items ≡ out.old.items ++ output_text (says owner.now (replied (a_node node)) ∷ [])) }
+/// Puts the reply that has a node, of whatever owners.
+#[inline(never)]
+fn put_found(out: &mut Vec<u8>, owner: &Owner, node: &NodeName) -> Result<(), AllocError>
+    ensures ok { OnOk result (out.new.items ≡ out.old.items ++ output_text (says owner.now (replied (a_node node.now)) ∷ [])) }
     ensures err { OnErr result (out.new.items ≡ out.old.items) }
 {
     let length = out.len();
-    let put = put_found_parts(out, owner, node);
+    let put = put_found_parts(out, owner, *node);
     cut_if_refused(out, length, put)
 }
 
@@ -165,7 +195,7 @@ fn put_value(out: &mut Vec<u8>, owner: &Owner, value: &Value<'_>) -> Result<(), 
 {
     let piece = match value {
         Value::Nothing => return put_done(out, owner),
-        Value::Node(node) => return put_found(out, owner, *node),
+        Value::Node(node) => return put_found(out, owner, node),
         Value::Null => Piece::Text(b"ok null"),
         Value::List(nodes) => Piece::Nodes(b"ok ", nodes),
         Value::Component(component) => Piece::Owner(b"ok ", *component),

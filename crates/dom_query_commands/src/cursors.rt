@@ -41,7 +41,7 @@ pub fn new_cursor(
     let (root, filter) = words;
     let root = state.admit_one(owner, Operand::Any(root))?;
     let value = make(&mut state.doc, owner, cursor, root, node_filter(filter))?;
-    state.accept(owner, &value, out)
+    state.accept(&owner, &value, out)
 }
 
 /// Makes an iterator or a walker at its root, and answers its number.
@@ -87,7 +87,7 @@ pub fn set_walker(
     state.admit(owner, &[Operand::Any(current), Operand::Walker(number)])?;
     let current = state.key(owner, current);
     state.doc.walk_set(owner, number, current);
-    state.accept(owner, &Value::Nothing, out)
+    state.accept(&owner, &Value::Nothing, out)
 }
 
 /// The filter of a line's words.

@@ -23,7 +23,7 @@ pub fn micro(state: &mut State, owner: Owner, label: String, out: &mut Vec<u8>) 
 {
     state.admit(owner, &[])?;
     state.doc.push_micro(owner, label.into_bytes())?;
-    state.accept(owner, &Value::Nothing, out)
+    state.accept(&owner, &Value::Nothing, out)
 }
 
 /// The slots of an owner that are signalled, in their order; then none of that owner is (DOM Standard, notify mutation observers:

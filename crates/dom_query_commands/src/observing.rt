@@ -19,7 +19,7 @@ pub fn new_observer(state: &mut State, owner: Owner, out: &mut Vec<u8>) -> Resul
 {
     state.admit(owner, &[])?;
     let number = state.doc.observer_make(owner)?;
-    state.accept(owner, &Value::Observer(number), out)
+    state.accept(&owner, &Value::Observer(number), out)
 }
 
 /// `observe O N ..`: an observer is registered on a node, or its registration there gets other options.
@@ -40,7 +40,7 @@ pub fn observe(
     state
         .doc
         .observe(owner, number, node, observer_options(words))?;
-    state.accept(owner, &Value::Nothing, out)
+    state.accept(&owner, &Value::Nothing, out)
 }
 
 /// `take O`: the records of an observer, which are then gone, and their count.
@@ -57,7 +57,7 @@ pub fn take_records(
     let records = state.doc.take_records(owner, number);
     let forest = state.doc.forest();
     put_records(state.alloc, forest, owner, number, records.as_slice(), out)?;
-    state.accept(owner, &Value::Count(records.len()), out)
+    state.accept(&owner, &Value::Count(records.len()), out)
 }
 
 /// The options of a line's words.

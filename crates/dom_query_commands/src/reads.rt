@@ -32,7 +32,7 @@ pub fn tree(state: &mut State, owner: Owner, node: NodeWord, out: &mut Vec<u8>) 
 {
     let node = state.admit_one(owner, Operand::Any(node))?;
     reply_tree(state, owner, node, out)?;
-    state.open_turn(owner);
+    state.open_turn(&owner);
     Ok(())
 }
 
@@ -48,7 +48,7 @@ pub fn parent(
 {
     let node = state.admit_one(owner, Operand::Any(node))?;
     let value = node_or_null(state, parent_of(state, node));
-    state.accept(owner, &value, out)
+    state.accept(&owner, &value, out)
 }
 
 /// `docof N`: the node document of a node, or `null`.
@@ -63,7 +63,7 @@ pub fn document_of(
 {
     let node = state.admit_one(owner, Operand::Any(node))?;
     let value = node_or_null(state, state.document_of(node));
-    state.accept(owner, &value, out)
+    state.accept(&owner, &value, out)
 }
 
 /// `children N`: the children of a node.
@@ -78,7 +78,7 @@ pub fn children(
 {
     let node = state.admit_one(owner, Operand::Any(node))?;
     let children = children_of(state, node)?;
-    state.accept(owner, &Value::List(&children), out)
+    state.accept(&owner, &Value::List(&children), out)
 }
 
 /// `contains N N`: whether the first node is the second or stands above it.
@@ -94,7 +94,7 @@ pub fn contains(
 {
     let (above, node) = state.admit_two(owner, Operand::Any(above), Operand::Any(node))?;
     let truth = is_above(state, above, node);
-    state.accept(owner, &Value::Truth(truth), out)
+    state.accept(&owner, &Value::Truth(truth), out)
 }
 
 /// `connected N`: whether a document is the shadow-including root of a node.
@@ -109,7 +109,7 @@ pub fn connected(
 {
     let node = state.admit_one(owner, Operand::Any(node))?;
     let connected = state.doc.is_connected(node);
-    state.accept(owner, &Value::Truth(connected), out)
+    state.accept(&owner, &Value::Truth(connected), out)
 }
 
 /// Puts the reply with the text of a node's tree.

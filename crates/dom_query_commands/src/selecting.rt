@@ -30,7 +30,7 @@ pub fn query(
     state.admit(owner, &[Operand::Parent(node)])?;
     let selector = Selector::parse(state.alloc, &text)?;
     let found = selected(state, owner, node, &selector)?;
-    state.accept(owner, &Value::List(&found), out)
+    state.accept(&owner, &Value::List(&found), out)
 }
 
 /// `matches E STR`: whether an element matches a selector.
@@ -47,7 +47,7 @@ pub fn matches(
     state.admit(owner, &[Operand::Element(element)])?;
     let selector = Selector::parse(state.alloc, &text)?;
     let truth = is_selected(state, owner, element, &selector);
-    state.accept(owner, &Value::Truth(truth), out)
+    state.accept(&owner, &Value::Truth(truth), out)
 }
 
 /// The names of the nodes below a node that is there which match a selector.

@@ -54,7 +54,7 @@ pub fn perform(
 {
     state.admit(owner, &[thing_of(request, number)])?;
     let value = grant(&mut state.doc, owner, number, request);
-    state.accept(owner, &value, out)
+    state.accept(&owner, &value, out)
 }
 
 /// The thing that a line names.

@@ -17,11 +17,11 @@ returns-clause-handled c =
     plans _ c.state.inside.doc _ c.state.view_is (may_act _ _ _ _ (naming-extract c.args.owner c.args.number) c.admit.ensures c.in_ok-admit.was) _ _ _ _
     (none_stopped refl c.in_ok-fragment.fragment e.stopped) refl
     (ap (changes (plan_of_range p c.args.number (extracting c.args.number))) (ap a_node (sym (rw c.forest.ensures.names at c.name-made.ensures.at) ∙ fragment)))
-    e.world c.accept.ensures.done
+    e.world c.accept_node.ensures.done
 
 pub returns-clause-names : goal.returns-clause-names
 returns-clause-names c =
     let d = c.state.inside.doc in
     let known = thing_there _ c.state.inside.doc _ c.state.view_is _ (Range c.args.number) c.admit.ensures c.in_ok-admit.was in
     let kept = extracted-kept d.names c.extract.new.doc.names d.world c.args.owner c.args.number known c.in_ok-fragment.ensures.names in
-    rw (← c.state.view_is, c.accept.ensures.names) (keeps_names _ _ c.accept.result kept)
+    rw (← c.state.view_is, c.accept_node.ensures.names) (keeps_names _ _ c.accept_node.result kept)

@@ -23,7 +23,7 @@ returns-clause-handled c =
     (may_act _ _ _ (Text c.args.node ∷ []) (search namings) c.in_ok-node.ensures.passed refl) _ _ _ _ _ _ c.in_ok-node.ensures.key.name
     (none_stopped (told_one (λ q x. splitting_refusal q x c.args.offset) node) c.in_ok-tail.tail e.stopped) refl
     (ap (changes (splitting (named p (word_view c.args.node)) c.args.offset p))
-    (ap a_node (name-last d.names (next_name p) names e.key c.name-made.ensures.at))) e.world c.accept.ensures.done
+    (ap a_node (name-last d.names (next_name p) names e.key c.name-made.ensures.at))) e.world c.accept_node.ensures.done
 
 pub split-requires-clause-text : goal.split-requires-clause-text
 split-requires-clause-text c = kind_in _ c.state.inside.doc _ (Text c.args.node) _ c.state.view_is c.in_ok-node.ensures.key.kind

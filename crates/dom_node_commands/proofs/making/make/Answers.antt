@@ -38,4 +38,4 @@ returns-clause-handled c =
     (none_refused (is.refused _) c.in_ok-key.key e.refused) (is.runs (with_turn c.state.inside.turn d.world) c.args.owner.now)
     (ap (λ x. changes (make (build [] (document_for k own)) ∷ []) (a_node x)) made_last ∙ is.does own)
     (e.world ∙ (λ j. world_after c.args.owner.now d.world (make (build (attributes_from (c.new.ensures.empty j)) (document j)) ∷ [])))
-    c.accept.ensures.done
+    c.accept_node.ensures.done
