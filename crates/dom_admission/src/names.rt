@@ -1,5 +1,5 @@
 //! The names of nodes.
-ghost use Rattle.std.specs.Prelude.{◌≡◌, map, All, IfOk};
+ghost use Rattle.std.specs.Prelude.{◌≡◌, ◌++◌, map, All, IfOk, OnOk};
 ghost use Rattle.dom_tree.specs.Forest.{IsNode, name_of};
 
 use dom_base::NodeName;
@@ -13,8 +13,18 @@ pub fn names_of(alloc: Global, forest: &Forest, keys: &[Key]) -> Result<Vec<Node
     ensures { IfOk result (λ names. names.items ≡ map (name_of forest.now) keys.now) }
 {
     let mut names = Vec::with_capacity(alloc, keys.len())?;
+    put_names(&mut names, forest, keys)?;
+    Ok(names)
+}
+
+/// Puts the names of nodes, in their order, behind others. The only error is memory refused; some of the names may have been put then
+/// (own rule).
+pub fn put_names(names: &mut Vec<NodeName>, forest: &Forest, keys: &[Key]) -> Result<(), AllocError>
+    requires { All (IsNode forest.now) keys.now }
+    ensures { OnOk result (names.new.items ≡ names.old.items ++ map (name_of forest.now) keys.now) }
+{
     for key in keys {
         names.push(forest.name(*key))?;
     }
-    Ok(names)
+    Ok(())
 }

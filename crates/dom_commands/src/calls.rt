@@ -9,12 +9,12 @@ ghost use Rattle.dom_dispatch.specs.Dispatches.{event_words, line_in, IsOwnLine,
 ghost use Rattle.dom_commands.specs.Machine.{AreAtNodes, IsAtRest, NamesNodes, line_shown, path_shown};
 
 use crate::machine::Machine;
-use dom_admission::names_of;
+use crate::path_text::PathText;
 use dom_dispatch::{EventInit, LogLine};
-use dom_printer::{Event, put_event, put_path};
+use dom_printer::{Event, put_event};
 use dom_tree::Forest;
 use node_arena::Key;
-use std::alloc::{AllocError, Global};
+use std::alloc::AllocError;
 
 impl Machine {
     /// Dispatches an event at a node, puts the lines of the calls of listeners, and answers whether it was not cancelled (DOM
@@ -45,7 +45,7 @@ impl Machine {
         let outcome = self
             .listeners
             .dispatch_in_world(forest, slots, target, event)?;
-        put_lines(self.alloc, forest, outcome.lines.as_slice(), out)?;
+        put_lines(&mut self.path, forest, outcome.lines.as_slice(), out)?;
         Ok(outcome.answer)
     }
 }
@@ -53,7 +53,7 @@ impl Machine {
 /// Puts the lines of the calls of listeners, each as its owner sees it. The text of a path is made once for lines on end that
 /// show the same owner the same path.
 fn put_lines(
-    alloc: Global,
+    path: &mut PathText,
     forest: &Forest,
     lines: &[LogLine],
     out: &mut Vec<u8>,
@@ -67,26 +67,15 @@ fn put_lines(
         return Ok(());
     };
     let mut shown = first;
-    let mut path = path_text(alloc, forest, first)?;
+    path.set(forest, first)?;
     for line in lines {
         if !has_path_of(line, shown) {
-            path = path_text(alloc, forest, line)?;
+            path.set(forest, line)?;
             shown = line;
         }
-        put_line(forest, line, path.as_slice(), out)?;
+        put_line(forest, line, path.text(), out)?;
     }
     Ok(())
-}
-
-/// The text of a line's path, as its owner sees it.
-fn path_text(alloc: Global, forest: &Forest, line: &LogLine) -> Result<Vec<u8>, AllocError>
-    requires { NamesNodes forest.now.names (line_in line.now) }
-    ensures { IfOk result (λ text. text.items ≡ path_shown forest.now.names line.now) }
-{
-    let path = names_of(alloc, forest, line.path.as_slice())?;
-    let mut text = Vec::with_capacity(alloc, 64)?;
-    put_path(&mut text, line.owner, path.as_slice())?;
-    Ok(text)
 }
 
 /// Whether a line shows the owner of another one the same path.

@@ -6,6 +6,7 @@ mod calls;
 mod commands;
 mod events;
 mod machine;
+mod path_text;
 mod ranging;
 mod tasks;
 mod turns;

@@ -3,16 +3,18 @@ ghost use Rattle.std.specs.Prelude.{◌≡◌, IfOk};
 ghost use Rattle.dom_model.specs.DocumentMachine.{first_world};
 ghost use Rattle.dom_commands.specs.Machine.{IsAtRest};
 
+use crate::path_text::PathText;
 use dom_admission::State;
 use dom_dispatch::Listeners;
 use std::alloc::{AllocError, Global};
 use std::marker::Model;
 
-/// The documents with the open turn, and the listeners of all nodes.
+/// The documents with the open turn, the listeners of all nodes, and the text of the path that was shown last.
 #[derive(Drop)]
 pub struct Machine {
     pub(crate) state: State,
     pub(crate) listeners: Listeners,
+    pub(crate) path: PathText,
     pub(crate) alloc: Global,
 }
 
@@ -39,6 +41,7 @@ impl Machine {
         Ok(Machine {
             state,
             listeners: Listeners::new(alloc),
+            path: PathText::new(alloc),
             alloc,
         })
     }

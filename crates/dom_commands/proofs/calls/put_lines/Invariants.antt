@@ -5,5 +5,5 @@ use Rattle.dom_commands.proofs.calls.put_lines.Given as goal
 abbrev pub invariant-loop-line : goal.invariant-loop-line
 invariant-loop-line l =
     (l.out.items ≡ l.initial.out.items ++ output_text (map (line_shown l.forest.names) (take l.line-index l.lines)))
-    × (l.path.items ≡ path_shown l.forest.names l.shown)
+    × (l.path ≡ path_shown l.forest.names l.shown)
     × ((paths : ℕ → List ℕ) → AllByRecursion (HasPathOf paths) l.lines → HasPathOf paths l.shown)

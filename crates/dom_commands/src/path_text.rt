@@ -1,0 +1,55 @@
+//! The text of an event's path.
+ghost use Rattle.std.specs.Prelude.{◌≡◌, OnOk};
+ghost use Rattle.dom_commands.specs.Machine.{NamesNodes, path_shown};
+ghost use Rattle.dom_dispatch.specs.Dispatches.{line_in};
+
+use dom_admission::put_names;
+use dom_base::NodeName;
+use dom_dispatch::LogLine;
+use dom_printer::put_path;
+use dom_tree::Forest;
+use std::alloc::{AllocError, Global};
+use std::marker::Model;
+
+/// The text of a path, and room for the names of its nodes. The memory stays for the next path.
+#[derive(Drop)]
+pub(crate) struct PathText {
+    names: Vec<NodeName>,
+    text: Vec<u8>,
+}
+
+impl Model for PathText {
+    ghost use Rattle.std.specs.Prelude.{ℕ, List};
+
+    ghost Value = { List ℕ };
+
+    ghost view = { λ p. p.text.items };
+}
+
+impl PathText {
+    /// No text. It takes no memory yet.
+    pub(crate) fn new(alloc: Global) -> Self {
+        PathText {
+            names: Vec::new(alloc),
+            text: Vec::new(alloc),
+        }
+    }
+
+    /// The text.
+    pub(crate) fn text(&self) -> &[u8]
+        ensures { result.now ≡ self.now }
+    {
+        self.text.as_slice()
+    }
+
+    /// Makes it the text of a line's path, as the line's owner sees it.
+    pub(crate) fn set(&mut self, forest: &Forest, line: &LogLine) -> Result<(), AllocError>
+        requires { NamesNodes forest.now.names (line_in line.now) }
+        ensures { OnOk result (self.new ≡ path_shown forest.now.names line.now) }
+    {
+        self.names.clear();
+        put_names(&mut self.names, forest, line.path.as_slice())?;
+        self.text.clear();
+        put_path(&mut self.text, line.owner, self.names.as_slice())
+    }
+}
