@@ -27,11 +27,11 @@ pub use Rattle.dom_laws.specs.Within.{behind, from_node}
 pub use Rattle.dom_model.specs.SelectorText.{whole}
 pub use Rattle.dom_model.specs.Selectors.{simple_matches, value_passes, with_attribute}
 pub use Rattle.dom_selectors.specs.Definitions.{AreEach, as_parts, begins_with_word, behind_list, behind_space, ChainEnds, ChainIsBefore, combinator_signs}
-pub use Rattle.dom_selectors.specs.Definitions.{combinator_view, complex_from, complex_view, compound_view, double, element_on, elements_to, Form, IsBracketed}
-pub use Rattle.dom_selectors.specs.Definitions.{IsCombinator, IsComplex, IsCompound, IsCompoundOf, IsDescendant, IsKnown, IsKnownOfFirst, IsLink, IsName}
-pub use Rattle.dom_selectors.specs.Definitions.{IsPart, IsQuoted, IsSearched, IsSelector, IsSimple, IsSpaced, IsSpaces, IsTested, IsType, IsValue}
-pub use Rattle.dom_selectors.specs.Definitions.{last_compound, link_view, MatchesAbove, only_left, part_view, plain, SegmentEnds, SegmentIsAbove, selector_view}
-pub use Rattle.dom_selectors.specs.Definitions.{sibling_on, sign, simple_view, single, StopsAt}
+pub use Rattle.dom_selectors.specs.Definitions.{combinator_view, complex_from, complex_view, compound_view, double, element_on, elements_to, Form, has_asked}
+pub use Rattle.dom_selectors.specs.Definitions.{is_among, IsBracketed, IsCombinator, IsComplex, IsCompound, IsCompoundOf, IsDescendant, IsKnown}
+pub use Rattle.dom_selectors.specs.Definitions.{IsKnownOfFirst, IsLink, IsName, IsPart, IsQuoted, IsSearched, IsSelector, IsSimple, IsSpaced, IsSpaces}
+pub use Rattle.dom_selectors.specs.Definitions.{IsTested, IsType, IsValue, last_compound, link_view, MatchesAbove, nodes_behind, nodes_from, only_left}
+pub use Rattle.dom_selectors.specs.Definitions.{part_view, plain, SegmentEnds, SegmentIsAbove, selector_view, sibling_on, sign, simple_view, single, StopsAt}
 pub use Rattle.dom_selectors.specs.declared.above.Above.{Above}
 pub use Rattle.dom_selectors.specs.declared.selector.Combinator.TheVariants.{Descendant, Later}
 pub use Rattle.dom_selectors.specs.declared.selector.Link.{Link}

@@ -2,7 +2,7 @@
 use Rattle.dom_selectors.proofs.Cited.{◌≡◌, ℕ, Bool, true, false, [], ◌∷◌, ◌++◌, Option, Some, None, refl, ap, ◌∙◌, append_assoc, arith, ◌||◌, ◌==◌}
 use Rattle.dom_selectors.proofs.Cited.{option_map, take_while, codes, option_and_then, option_or, list_all, cond-true, cond-false, and_parts, eq-eqb}
 use Rattle.dom_selectors.proofs.Cited.{nat_tests, take_while-cons, Word, DomString, begins_name, continues_name, is_name, Simple, AttributeTest}
-use Rattle.dom_selectors.proofs.Cited.{is_space, of_type, of_any_type, of_id, of_class, with_value, first_child, last_child, equals, begins, drop_while}
+use Rattle.dom_selectors.proofs.Cited.{is_space, of_type, of_any_type, of_id, of_class, with_value, first_child, last_child, equals, drop_while}
 use Rattle.dom_selectors.proofs.Cited.{skip_space, read_map, expect, closed_by, read_name, may_stand_quoted, read_quoted, read_value, read_one_of}
 use Rattle.dom_selectors.proofs.Cited.{signs, read_test_of, read_test, read_attribute, read_simple, with_attribute, IsBracketed, IsTested, IsSpaces}
 use Rattle.dom_selectors.proofs.Cited.{IsValue, plain, double, single, sign, IsSimple}

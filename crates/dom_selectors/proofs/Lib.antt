@@ -1,5 +1,4 @@
 mod Cited
-mod AskedOfAll
 mod TokenLaws
 mod NameLaws
 mod Shorter

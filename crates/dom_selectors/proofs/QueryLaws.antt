@@ -1,13 +1,36 @@
 -- A walk through the tree below a node.
 use Rattle.dom_selectors.proofs.Cited.{◌≡◌, ℕ, Bool, true, false, List, [], ◌∷◌, ◌++◌, ap, sym, ◌∙◌, append_assoc, map, filter, drop, map-append, None}
 use Rattle.dom_selectors.proofs.Cited.{none-some, NodeName, Trees, descendants, NamedTrees, behind, IsKnownOfFirst, filter-yes, filter-no, IsWithin, ordered}
-use Rattle.dom_selectors.proofs.Cited.{top_places}
+use Rattle.dom_selectors.proofs.Cited.{top_places, has_asked, inl, inr, true≢false, or_cases, cases_Bool, compound_matches, complex_matches, selector_matches}
+use Rattle.dom_selectors.proofs.Cited.{last_compound, complex_view}
+use Rattle.dom_selectors.proofs.Chains.{not_last}
+use Rattle.dom_selectors.specs.Known.{CompoundAsks, IsFirstLeft, IsFirstUnasked, SelectorAsks}
+use Rattle.dom_selectors.specs.declared.asking.Asked.{Asked}
 use Rattle.dom_selectors.specs.declared.selector.Complex.{Complex}
+use Rattle.dom_selectors.specs.declared.selector.CompoundPart.{CompoundPart}
 
 -- at first nothing is remembered
 pub nothing_known : (f : NamedTrees) (cs : List Complex) → IsKnownOfFirst f cs None
 nothing_known f [] = tt
 nothing_known f (c ∷ cs) = λ a e. absurd (none-some a e)
+
+module _ (asked : Asked) where
+  -- what is left of a compound where a node has what is asked for
+  pub left_here : (ts : Trees) (x : NodeName) (cs : List Complex) (left : List CompoundPart) → IsFirstUnasked cs left asked → has_asked ts x asked ≡ true →
+      IsFirstLeft ts x cs left
+  left_here ts x [] left u h = tt
+  left_here ts x (c ∷ cs) left u h = u ts x h
+
+  -- one more complex selector asks for it
+  pub one_more : (c : Complex) (cs : List Complex) → CompoundAsks (last_compound (complex_view c)) asked → SelectorAsks (map complex_view cs) asked →
+      SelectorAsks (map complex_view (c ∷ cs)) asked
+  one_more c cs one rest ts x e = elim (or_cases (complex_matches ts (complex_view c) x) (selector_matches ts (map complex_view cs) x) e) [
+    | inl m ↦ elim (cases_Bool (compound_matches ts (last_compound (complex_view c)) x)) [
+      | inl h ↦ one ts x h
+      | inr h ↦ absurd (true≢false (sym m ∙ not_last ts (complex_view c) x h))
+    ]
+    | inr m ↦ rest ts x m
+  ]
 
 -- the nodes behind the top are those below it
 pub behind_top : (ts : Trees) (top : NodeName) → IsWithin ts top top → behind ts top top ≡ descendants ts top

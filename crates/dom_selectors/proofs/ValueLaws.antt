@@ -1,7 +1,7 @@
 -- Words of strings, and fronts of strings.
-use Rattle.dom_selectors.proofs.Cited.{◌≡◌, ℕ, ◌<◌, Bool, true, false, List, [], ◌∷◌, ◌++◌, length, drop, refl, ap, sym, ◌∙◌, arith, not, ◌&&◌, ◌||◌, ◌==◌}
-use Rattle.dom_selectors.proofs.Cited.{nat_eq, Option, Some, None, if◌then◌else◌, starts_with, list_any, none-some, DomString, text_eq, is_space, words_from}
-use Rattle.dom_selectors.proofs.Cited.{begins_with_word, behind_space}
+use Rattle.dom_selectors.proofs.Cited.{◌≡◌, ℕ, ◌<◌, Bool, true, false, List, [], ◌∷◌, ◌++◌, length, drop, zero, suc, ◌≤◌, refl, ap, sym, ◌∙◌, arith, not}
+use Rattle.dom_selectors.proofs.Cited.{◌&&◌, ◌||◌, ◌==◌, nat_eq, Option, Some, None, if◌then◌else◌, starts_with, list_any, none-some, DomString, text_eq}
+use Rattle.dom_selectors.proofs.Cited.{is_space, words_from, begins_with_word, behind_space, is_among}
 
 -- a front of two parts stands where the first does and the second behind it
 pub behind_front : (front more text : List ℕ) →
@@ -25,11 +25,6 @@ left_of (c ∷ cs) (x ∷ xs) = if x == c then left_of cs xs else None
 abbrev begins : Option DomString → DomString → Bool
 begins None cs = false
 begins (Some word) cs = begins_with_word word cs
-
--- whether a word is among those of a string that is left
-abbrev pub among : DomString → Option DomString → Bool
-among word None = false
-among word (Some cs) = list_any (text_eq word) (words_from [] cs)
 
 -- nothing is left of a word behind itself alone
 done : (front word : DomString) → text_eq word front ≡ begins (left_of front word) []
@@ -73,15 +68,15 @@ goes_on (Some (x ∷ xs)) c cs h =
 
 -- the first word of a string, or those behind it, where this is in front of the string
 abbrev IsAmong : DomString → DomString → DomString → Type 0
-IsAmong word front cs = list_any (text_eq word) (words_from front cs) ≡ (begins (left_of front word) cs || among word (behind_space cs))
+IsAmong word front cs = list_any (text_eq word) (words_from front cs) ≡ (begins (left_of front word) cs || is_among word (behind_space cs))
 
 module _ (word front : DomString) (c : ℕ) (cs : DomString) where
   -- one unit more, which is white space or not
   at_unit : (b : Bool) → is_space c ≡ b → IsAmong word (front ++ c ∷ []) cs →
       list_any (text_eq word) (if b then front ∷ words_from [] cs else words_from (front ++ c ∷ []) cs) ≡
-      (begins (left_of front word) (c ∷ cs) || among word (if b then Some cs else behind_space cs))
+      (begins (left_of front word) (c ∷ cs) || is_among word (if b then Some cs else behind_space cs))
   at_unit true h more = ap (λ b. b || list_any (text_eq word) (words_from [] cs)) (done front word ∙ ends (left_of front word) c cs h)
-  at_unit false h more = more ∙ ap (λ b. b || among word (behind_space cs))
+  at_unit false h more = more ∙ ap (λ b. b || is_among word (behind_space cs))
       (ap (λ left. begins left cs) (longer front word c) ∙ goes_on (left_of front word) c cs h)
 
 -- of any string
@@ -92,12 +87,11 @@ among_words word front (c ∷ cs) = at_unit word front c cs (is_space c) refl (a
 module _ (word rest : DomString) where
   -- the first word is the one
   pub word_here : begins_with_word word rest ≡ true → list_any (text_eq word) (words_from [] rest) ≡ true
-  word_here h = among_words word [] rest ∙ ap (λ b. b || among word (behind_space rest)) h
+  word_here h = among_words word [] rest ∙ ap (λ b. b || is_among word (behind_space rest)) h
 
   -- it is another one: those behind it are left
-  pub word_behind : begins_with_word word rest ≡ false → (o : Option DomString) → o ≡ behind_space rest →
-      among word o ≡ list_any (text_eq word) (words_from [] rest)
-  word_behind h o e = ap (among word) e ∙ sym (among_words word [] rest ∙ ap (λ b. b || among word (behind_space rest)) h)
+  pub word_behind : begins_with_word word rest ≡ false → is_among word (behind_space rest) ≡ list_any (text_eq word) (words_from [] rest)
+  word_behind h = sym (among_words word [] rest ∙ ap (λ b. b || is_among word (behind_space rest)) h)
 
 -- less is behind white space
 pub behind-less : (cs r : DomString) → Some r ≡ behind_space cs → length r < length cs
@@ -109,8 +103,29 @@ behind-less (c ∷ cs) r e = at_space (is_space c) (behind-less cs r) e
     at_space true less f = grind (arith, f)
     at_space false less f = omega (arith, less f)
 
--- a word that is not at its end is not in front of nothing
-pub not_begun : (word text : DomString) → 0 < length word → length text < 1 → false ≡ begins_with_word word text
-not_begun [] text h e = absurd (omega (arith, h))
-not_begun (x ∷ xs) [] h e = refl
-not_begun (x ∷ xs) (c ∷ cs) h e = absurd (omega (arith, e))
+-- a longer word is not in front of a string
+pub too_long : (word text : DomString) → length text < length word → begins_with_word word text ≡ false
+too_long [] text l = absurd (omega (arith, l))
+too_long (x ∷ xs) [] l = refl
+too_long (x ∷ xs) (c ∷ cs) l = ap (λ b. (not (is_space c) && (x == c)) && b) (too_long xs cs (omega (arith, l))) ∙ and_false (not (is_space c) && (x == c))
+  where
+    and_false : (b : Bool) → (b && false) ≡ false
+    and_false true = refl
+    and_false false = refl
+
+module _ (word : DomString) where
+  -- behind white space of a string that is no longer than a word there is less than the word
+  no_room : (n : ℕ) (cs : DomString) → length cs ≤ n → n ≤ length word → is_among word (behind_space cs) ≡ false
+  no_room zero [] l m = refl
+  no_room zero (c ∷ cs) l m = absurd (omega (arith, l))
+  no_room (suc n) cs l m = behind (behind_space cs) refl (λ r h. no_room n r h (omega (arith, m)))
+    where
+      behind : (o : Option DomString) → o ≡ behind_space cs → ((r : DomString) → length r ≤ n → is_among word (behind_space r) ≡ false) →
+          is_among word o ≡ false
+      behind None e less = refl
+      behind (Some r) e less =
+          among_words word [] r ∙ ap (λ b. b || is_among word (behind_space r)) (too_long word r (omega (arith, behind-less cs r e, l, m)))
+          ∙ less r (omega (arith, behind-less cs r e, l))
+
+  pub none_behind : (cs : DomString) → length cs ≤ length word → is_among word (behind_space cs) ≡ false
+  none_behind cs l = no_room (length cs) cs (omega arith) l

@@ -3,7 +3,7 @@ ghost use Rattle.std.specs.Prelude.{◌≡◌, true, MatchOption};
 ghost use Rattle.std.specs.List.{list_any};
 ghost use Rattle.std.specs.Option.{ForSome};
 ghost use Rattle.dom_model.specs.Tree.{ancestors};
-ghost use Rattle.dom_model.specs.Selectors.{complex_matches as spec_complex_matches, descendant};
+ghost use Rattle.dom_model.specs.Selectors.{complex_matches as spec_complex_matches, compound_matches as spec_compound_matches, descendant};
 ghost use Rattle.dom_tree.specs.Forest.{IsNode, name_of};
 ghost use Rattle.dom_tree.specs.Spots.{name_here};
 ghost use Rattle.dom_selectors.specs.Known.{IsKnown, left_part};
@@ -11,7 +11,7 @@ ghost use Rattle.dom_selectors.specs.Search.{last_compound};
 ghost use Rattle.dom_selectors.specs.Views.{combinator_view, compound_view, complex_from, complex_view};
 
 use crate::joined::{ancestors_match, segments_match};
-use crate::matching::compound_matches;
+use crate::matching::element_matches;
 use crate::selector::{Combinator, Complex, CompoundPart, Link};
 use dom_tree::{Forest, NodeAt};
 use node_arena::Key;
@@ -70,21 +70,22 @@ fn is_descendant(combinator: Combinator) -> bool
     matches!(combinator, Combinator::Descendant)
 }
 
-/// Whether a node matches a complex selector, whose compound on the right is given. That is tried first, since most nodes fail there.
-/// Behind white space what is remembered is asked before the tree.
+/// Whether a node matches a complex selector, where what of its compound on the right is left to be tried is given. That is tried first,
+/// since most nodes fail there. Behind white space what is remembered is asked before the tree.
 #[inline(always)]
 pub(crate) fn matches_knowing(
     node: &NodeAt,
     complex: &Complex,
-    last: &[CompoundPart],
+    unasked: &[CompoundPart],
     known: &mut Option<Above>,
 ) -> bool
-    requires last { compound_view last.now ≡ last_compound (complex_view complex.now) }
+    requires unasked { spec_compound_matches node.now.whole.trees (compound_view unasked.now) (name_here node.now) ≡
+        spec_compound_matches node.now.whole.trees (last_compound (complex_view complex.now)) (name_here node.now) }
     requires known { IsKnown node.now.whole (left_part (complex_view complex.now)) known.old }
     ensures value { result ≡ spec_complex_matches node.now.whole.trees (complex_view complex.now) (name_here node.now) }
     ensures known { IsKnown node.now.whole (left_part (complex_view complex.now)) known.new }
 {
-    if !compound_matches(node, last) {
+    if !element_matches(node, unasked) {
         return false;
     }
     let Some((link, left)) = complex.links.as_slice().split_last() else {

@@ -1,38 +1,97 @@
 //! What a selector asks of every element that matches: it is tried first, since most elements fail there.
-ghost use Rattle.std.specs.Prelude.{◌≡◌, map, true};
+ghost use Rattle.std.specs.Prelude.{◌≡◌, ◌≤◌, Bool, filter, length, map, true};
+ghost use Rattle.std.specs.Option.{ForSome};
 ghost use Rattle.dom_base.specs.declared.NodeName.{NodeName};
-ghost use Rattle.dom_model.specs.Selectors.{simple_matches as spec_simple_matches};
+ghost use Rattle.dom_model.specs.Selectors.{part_matches as spec_part_matches, simple_matches as spec_simple_matches};
 ghost use Rattle.dom_model.specs.Tree.{Trees};
+ghost use Rattle.node_arena.specs.Spots.{key_in};
+ghost use Rattle.dom_tree.specs.Forest.{IsNode, name_of};
 ghost use Rattle.dom_tree.specs.Spots.{name_here};
-ghost use Rattle.dom_selectors.specs.Known.{has_asked as spec_has_asked, CompoundAsks, SelectorAsks};
-ghost use Rattle.dom_selectors.specs.Views.{complex_view, compound_view, selector_view, simple_view};
+ghost use Rattle.dom_tree.specs.Within.{StandsIn};
+ghost use Rattle.dom_selectors.specs.Known.{has_asked as spec_has_asked, nodes_behind, nodes_from, AreUnasked, CompoundAsks, IsFirstUnasked, SelectorAsks};
+ghost use Rattle.dom_selectors.specs.Views.{complex_view, compound_view, part_view, selector_view, simple_view};
 
 use crate::joined::last_of_complex;
+use crate::matching::has_class;
 use crate::selector::{Complex, CompoundPart, Selector, Simple};
-use dom_attributes::is_same_text;
-use dom_tree::NodeAt;
+use dom_attributes::{is_same_string, is_same_text};
+use dom_tree::{Forest, NodeAt};
+use node_arena::Key;
 
-/// What is asked of an element: a local name, an attribute, or nothing.
+/// What is asked of an element: a local name, an attribute, a class, or nothing.
 #[derive(Clone, Copy)]
 pub(crate) enum Asked<'a> {
     Nothing,
     Name(&'a str),
     Attribute(&'a str),
+    Class(&'a [u16]),
 }
 
 /// Whether a node has what is asked for.
 #[inline(always)]
-pub(crate) fn has_asked(node: &NodeAt, asked: Asked) -> bool
+fn has_asked(node: &NodeAt, asked: Asked) -> bool
     ensures { result ≡ spec_has_asked node.now.whole.trees (name_here node.now) asked.entry }
 {
     match asked {
         Asked::Nothing => true,
         Asked::Name(name) => is_same_text(node.element(), name),
         Asked::Attribute(name) => node.attr(name).is_some(),
+        Asked::Class(class) => has_class(node, class),
     }
 }
 
-/// Whether the same is asked for.
+/// The first node that has what is asked for behind one in the tree of a node `top`.
+#[inline(always)]
+fn next_with<'a>(forest: &Forest, top: Key, from: NodeAt<'a>, asked: Asked) -> Option<NodeAt<'a>>
+    requires top { IsNode forest.now top }
+    requires same { from.whole ≡ forest.now }
+    requires stands { StandsIn forest.now top from.key }
+    ensures same { ForSome result (λ n. n.whole ≡ forest.now) }
+    ensures stands { ForSome (key_in result) (StandsIn forest.now top) }
+    ensures has { ForSome (key_in result) (λ k. spec_has_asked forest.now.trees (name_of forest.now k) asked.entry ≡ true) }
+    ensures passed { (test : NodeName → Bool) → ((x : NodeName) → test x ≡ true → spec_has_asked forest.now.trees x asked.entry ≡ true) →
+        filter test (nodes_from forest.now top result) ≡ filter test (nodes_behind forest.now top from.entry.key) }
+    ensures shorter { length (nodes_from forest.now top result) ≤ length (nodes_behind forest.now top from.entry.key) }
+{
+    forest.law_nodes_stand_once();
+    let mut at = from.following(top);
+    while let Some(node) = at {
+        if has_asked(&node, asked) {
+            return Some(node);
+        }
+        at = node.following(top);
+    }
+    None
+}
+
+/// The first node that has what is asked for behind one in the tree of a node `top`. What kind of thing is asked for is told once for
+/// all nodes that have it not.
+#[inline(always)]
+pub(crate) fn next_asked<'a>(
+    forest: &Forest,
+    top: Key,
+    from: NodeAt<'a>,
+    asked: Asked,
+) -> Option<NodeAt<'a>>
+    requires top { IsNode forest.now top }
+    requires same { from.whole ≡ forest.now }
+    requires stands { StandsIn forest.now top from.key }
+    ensures same { ForSome result (λ n. n.whole ≡ forest.now) }
+    ensures stands { ForSome (key_in result) (StandsIn forest.now top) }
+    ensures has { ForSome (key_in result) (λ k. spec_has_asked forest.now.trees (name_of forest.now k) asked.entry ≡ true) }
+    ensures passed { (test : NodeName → Bool) → ((x : NodeName) → test x ≡ true → spec_has_asked forest.now.trees x asked.entry ≡ true) →
+        filter test (nodes_from forest.now top result) ≡ filter test (nodes_behind forest.now top from.entry.key) }
+    ensures shorter { length (nodes_from forest.now top result) ≤ length (nodes_behind forest.now top from.entry.key) }
+{
+    match asked {
+        Asked::Nothing => next_with(forest, top, from, Asked::Nothing),
+        Asked::Name(name) => next_with(forest, top, from, Asked::Name(name)),
+        Asked::Attribute(name) => next_with(forest, top, from, Asked::Attribute(name)),
+        Asked::Class(class) => next_with(forest, top, from, Asked::Class(class)),
+    }
+}
+
+/// Whether the same local name or attribute is asked for.
 fn is_same(asked: Asked, other: Asked) -> bool
     ensures { result ≡ true → (ts : Trees) (x : NodeName) → spec_has_asked ts x other.entry ≡ spec_has_asked ts x asked.entry }
 {
@@ -43,13 +102,14 @@ fn is_same(asked: Asked, other: Asked) -> bool
     }
 }
 
-/// What a simple selector asks for. A class asks for nothing: most elements have some.
+/// What a simple selector asks for.
 fn asked_by(simple: &Simple) -> Asked<'_>
     ensures { (ts : Trees) (x : NodeName) → spec_simple_matches ts x (simple_view simple.now) ≡ true → spec_has_asked ts x result ≡ true }
 {
     match simple {
         Simple::OfType(name) => Asked::Name(name.as_str()),
         Simple::OfId(_) => Asked::Attribute("id"),
+        Simple::OfClass(class) => Asked::Class(class.as_slice()),
         Simple::WithAttribute(name) | Simple::WithValue(name, _, _) => {
             Asked::Attribute(name.as_str())
         }
@@ -67,6 +127,52 @@ fn first_asked(parts: &[CompoundPart]) -> Asked<'_>
     }
 }
 
+/// Whether a simple selector says no more than what is asked for.
+fn is_asked(simple: &Simple, asked: Asked) -> bool
+    ensures { result ≡ true → (ts : Trees) (x : NodeName) → spec_has_asked ts x asked.entry ≡ true →
+        spec_simple_matches ts x (simple_view simple.now) ≡ true }
+{
+    match (simple, asked) {
+        (Simple::OfType(name), Asked::Name(named)) => is_same_text(name.as_str(), named),
+        (Simple::WithAttribute(name), Asked::Attribute(named)) => {
+            is_same_text(name.as_str(), named)
+        }
+        (Simple::OfClass(class), Asked::Class(named)) => is_same_string(class, named),
+        _ => false,
+    }
+}
+
+/// Whether a part of a compound says no more than what is asked for.
+fn is_part_asked(part: &CompoundPart, asked: Asked) -> bool
+    ensures { result ≡ true → (ts : Trees) (x : NodeName) → spec_has_asked ts x asked.entry ≡ true →
+        spec_part_matches ts x (part_view part.now) ≡ true }
+{
+    match part {
+        CompoundPart::Is(simple) => is_asked(simple, asked),
+        CompoundPart::IsNot(_) => false,
+    }
+}
+
+/// What of a compound is left to be tried at an element that has what is asked for.
+fn unasked<'a>(parts: &'a [CompoundPart], asked: Asked) -> &'a [CompoundPart]
+    ensures { AreUnasked (compound_view parts.entry.now) (compound_view result.now) asked.entry }
+{
+    match parts.split_first() {
+        Some((first, others)) if is_part_asked(first, asked) => others,
+        _ => parts,
+    }
+}
+
+/// What of the compound on the right of the first of these complex selectors is left to be tried at an element that has what is asked for.
+pub(crate) fn first_unasked<'a>(complexes: &'a [Complex], asked: Asked) -> &'a [CompoundPart]
+    ensures { IsFirstUnasked complexes.entry.now result.now asked.entry }
+{
+    match complexes {
+        [first, ..] => unasked(last_of_complex(first), asked),
+        [] => &[],
+    }
+}
+
 /// Whether a compound asks for this first.
 fn asks_first(parts: &[CompoundPart], asked: Asked) -> bool
     ensures { result ≡ true → CompoundAsks (compound_view parts.now) asked.entry }
@@ -75,33 +181,36 @@ fn asks_first(parts: &[CompoundPart], asked: Asked) -> bool
 }
 
 /// Whether the compound on the right of each of some complex selectors asks for this first.
+#[tactic(auto, using(crate::proofs::QueryLaws::one_more))]
 fn all_ask(complexes: &[Complex], asked: Asked) -> bool
     ensures { result ≡ true → SelectorAsks (map complex_view complexes.now) asked.entry }
 {
-    for complex in complexes {
+    let mut rest = complexes;
+    while let [complex, others @ ..] = rest {
         if !asks_first(last_of_complex(complex), asked) {
             return false;
         }
+        rest = others;
     }
     true
 }
 
 impl Selector {
-    /// What the compounds on the right ask for first, if each asks for the same.
+    /// What the compounds on the right ask for first, if each asks for the same. A class is asked for by one alone.
+    #[tactic(auto, using(crate::proofs::QueryLaws::one_more))]
     pub(crate) fn asked(&self) -> Asked<'_>
         ensures { SelectorAsks (selector_view self.now) result }
     {
-        let complexes = self.complexes.as_slice();
-        match complexes.first() {
-            Some(first) => {
+        match self.complexes.as_slice() {
+            [first, others @ ..] => {
                 let asked = first_asked(last_of_complex(first));
-                if all_ask(complexes, asked) {
+                if all_ask(others, asked) {
                     asked
                 } else {
                     Asked::Nothing
                 }
             }
-            None => Asked::Nothing,
+            [] => Asked::Nothing,
         }
     }
 }

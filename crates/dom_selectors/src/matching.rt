@@ -46,7 +46,7 @@ fn has_id(node: &NodeAt, id: &[u16]) -> bool
 
 /// Whether a node has this class.
 #[inline(always)]
-fn has_class(node: &NodeAt, class: &[u16]) -> bool
+pub(crate) fn has_class(node: &NodeAt, class: &[u16]) -> bool
     ensures { result ≡ spec_simple_matches node.now.whole.trees (name_here node.now) (of_class class.now) }
 {
     match node.attr("class") {
@@ -96,19 +96,21 @@ fn part_matches(node: &NodeAt, part: &CompoundPart) -> bool
 /// Whether an element matches all of some parts of a compound.
 #[inline(always)]
 fn all_parts_match(node: &NodeAt, parts: &[CompoundPart]) -> bool
-    ensures { result ≡ list_all (λ p. spec_part_matches node.now.whole.trees (name_here node.now) (part_view p)) parts.now }
+    ensures { result ≡ list_all (spec_part_matches node.now.whole.trees (name_here node.now)) (compound_view parts.now) }
 {
-    for part in parts {
+    let mut rest = parts;
+    while let [part, others @ ..] = rest {
         if !part_matches(node, part) {
             return false;
         }
+        rest = others;
     }
     true
 }
 
 /// Whether a node is an element that matches some parts.
 #[inline(always)]
-fn element_matches(node: &NodeAt, parts: &[CompoundPart]) -> bool
+pub(crate) fn element_matches(node: &NodeAt, parts: &[CompoundPart]) -> bool
     ensures { result ≡ spec_compound_matches node.now.whole.trees (compound_view parts.now) (name_here node.now) }
 {
     is_element(node) && all_parts_match(node, parts)

@@ -4,11 +4,11 @@ ghost use Rattle.std.specs.List.{list_any};
 ghost use Rattle.dom_model.specs.Selectors.{complex_matches as spec_complex_matches, selector_matches, query_all as spec_query_all};
 ghost use Rattle.dom_tree.specs.Forest.{IsNode, name_of};
 ghost use Rattle.dom_tree.specs.Spots.{name_here};
-ghost use Rattle.dom_selectors.specs.Known.{IsFirstLast, IsKnownOfFirst, SelectorAsks};
+ghost use Rattle.dom_selectors.specs.Known.{IsFirstLeft, IsKnownOfFirst};
 ghost use Rattle.dom_selectors.specs.Views.{complex_view, selector_view};
 
 use crate::above::{Above, matches_knowing};
-use crate::asking::{Asked, has_asked};
+use crate::asking::{first_unasked, next_asked};
 use crate::joined::{complex_matches, last_of_complex};
 use crate::selector::{Complex, CompoundPart, Selector};
 use dom_tree::{Forest, NodeAt};
@@ -18,68 +18,41 @@ use std::alloc::{AllocError, Global};
 /// Whether a node matches some of these complex selectors.
 #[inline(always)]
 fn some_complex_matches(node: &NodeAt, complexes: &[Complex]) -> bool
-    ensures { result ≡ list_any (λ c. spec_complex_matches node.now.whole.trees (complex_view c) (name_here node.now)) complexes.now }
+    ensures { result ≡ selector_matches node.now.whole.trees (map complex_view complexes.now) (name_here node.now) }
 {
-    for complex in complexes {
+    let mut rest = complexes;
+    while let [complex, others @ ..] = rest {
         if complex_matches(node, complex, last_of_complex(complex)) {
             return true;
         }
+        rest = others;
     }
     false
 }
 
-/// The compound on the right of the first of these complex selectors, or nothing where there is none.
-fn first_last(complexes: &[Complex]) -> &[CompoundPart]
-    ensures { IsFirstLast complexes.now result.now }
-{
-    match complexes {
-        [first, ..] => last_of_complex(first),
-        [] => &[],
-    }
-}
-
-/// Whether a node matches some of these complex selectors, where the compound on the right of the first one is given, and something
-/// may be remembered of what is left of that.
+/// Whether a node matches some of these complex selectors, where what of the compound on the right of the first one is left to be tried is
+/// given, and something may be remembered of what is left of that.
 #[inline(always)]
 fn some_matches(
     node: &NodeAt,
     complexes: &[Complex],
-    last: &[CompoundPart],
+    unasked: &[CompoundPart],
     known: &mut Option<Above>,
 ) -> bool
-    requires last { IsFirstLast complexes.now last.now }
+    requires unasked { IsFirstLeft node.now.whole.trees (name_here node.now) complexes.now unasked.now }
     requires known { IsKnownOfFirst node.now.whole complexes.now known.old }
-    ensures value { result ≡ list_any (λ c. spec_complex_matches node.now.whole.trees (complex_view c) (name_here node.now)) complexes.now }
+    ensures value { result ≡ selector_matches node.now.whole.trees (map complex_view complexes.now) (name_here node.now) }
     ensures known { IsKnownOfFirst node.now.whole complexes.now known.new }
 {
     match complexes {
         [first, others @ ..] => {
-            matches_knowing(node, first, last, known) || some_complex_matches(node, others)
+            matches_knowing(node, first, unasked, known) || some_complex_matches(node, others)
         }
         [] => false,
     }
 }
 
 impl Selector {
-    /// Whether a node matches a selector, where what that asks for and the compound on the right of its first complex selector are given,
-    /// and something may be remembered of what is left of that. What is asked for comes first, since most elements fail there.
-    #[inline(always)]
-    fn matches_with(
-        &self,
-        node: &NodeAt,
-        asked: Asked,
-        last: &[CompoundPart],
-        known: &mut Option<Above>,
-    ) -> bool
-        requires asked { SelectorAsks (selector_view self.now) asked }
-        requires last { IsFirstLast self.now.complexes.items last.now }
-        requires known { IsKnownOfFirst node.now.whole self.now.complexes.items known.old }
-        ensures value { result ≡ selector_matches node.now.whole.trees (selector_view self.now) (name_here node.now) }
-        ensures known { IsKnownOfFirst node.now.whole self.now.complexes.items known.new }
-    {
-        has_asked(node, asked) && some_matches(node, self.complexes.as_slice(), last, known)
-    }
-
     /// Whether an element matches a selector, which a node of another kind never does (DOM Standard, matches()). It
     /// takes no memory.
     pub fn matches(&self, forest: &Forest, key: Key) -> bool
@@ -104,16 +77,17 @@ impl Selector {
         ensures nodes { IfOk result (λ keys. All (IsNode forest.now) keys.items) }
     {
         forest.law_nodes_stand_once();
+        let complexes = self.complexes.as_slice();
         let asked = self.asked();
-        let last = first_last(self.complexes.as_slice());
+        let unasked = first_unasked(complexes, asked);
         let mut known = None;
         let mut found = Vec::new(alloc);
-        let mut at = forest.at(top).following(top);
+        let mut at = next_asked(forest, top, forest.at(top), asked);
         while let Some(node) = at {
-            if self.matches_with(&node, asked, last, &mut known) {
+            if some_matches(&node, complexes, unasked, &mut known) {
                 found.push(node.key())?;
             }
-            at = node.following(top);
+            at = next_asked(forest, top, node, asked);
         }
         Ok(found)
     }

@@ -1,12 +1,12 @@
 //! What selectors ask of attributes' values (CSS Selectors Level 4, 6 Attribute selectors).
-ghost use Rattle.std.specs.Prelude.{◌≡◌, [], nat_eq};
+ghost use Rattle.std.specs.Prelude.{◌≡◌, ◌<◌, [], length, nat_eq, IfSome};
 ghost use Rattle.std.specs.List.{list_any, starts_with};
 ghost use Rattle.std.specs.Option.{option_map};
 ghost use Rattle.dom_model.specs.Names.{text_eq};
 ghost use Rattle.dom_model.specs.Selectors.{words_from, has_space as spec_has_space, holds_text as spec_holds_text};
 ghost use Rattle.dom_model.specs.Selectors.{value_passes as spec_value_passes};
 ghost use Rattle.dom_selectors.specs.Views.{test_view};
-ghost use Rattle.dom_selectors.specs.Words.{begins_with_word as spec_begins_with_word, behind_space as spec_behind_space};
+ghost use Rattle.dom_selectors.specs.Words.{begins_with_word as spec_begins_with_word, behind_space as spec_behind_space, is_among as spec_is_among};
 
 use crate::selector::AttributeTest;
 use crate::tokens::is_space;
@@ -37,17 +37,25 @@ fn begins_with_word(text: &[u16], word: &[u16]) -> bool
     }
 }
 
-/// What is behind the first white space of a string, if there is some.
+/// What is behind the first white space of a string, if there is some and a word could stand there: no more than the word has units is
+/// not looked at.
 #[inline(always)]
-fn behind_space(text: &[u16]) -> Option<&[u16]>
-    ensures { option_map (λ behind. behind.now) result ≡ spec_behind_space text.entry.now }
+#[tactic(auto, using(crate::proofs::ValueLaws::none_behind))]
+fn behind_space<'a>(text: &'a [u16], word: &[u16]) -> Option<&'a [u16]>
+    ensures value { spec_is_among word.now (option_map (λ behind. behind.now) result) ≡ spec_is_among word.now (spec_behind_space text.entry.now) }
+    ensures shorter { IfSome result (λ behind. length behind.now < length text.entry.now) }
 {
     let mut rest = text;
-    while let [first, others @ ..] = rest {
-        if is_space(*first) {
-            return Some(others);
+    while rest.len() > word.len() {
+        match rest {
+            [first, others @ ..] => {
+                if is_space(*first) {
+                    return Some(others);
+                }
+                rest = others;
+            }
+            [] => return None,
         }
-        rest = others;
     }
     None
 }
@@ -62,7 +70,7 @@ fn has_word(text: &[u16], word: &[u16]) -> bool
         if begins_with_word(rest, word) {
             return true;
         }
-        match behind_space(rest) {
+        match behind_space(rest, word) {
             Some(behind) => rest = behind,
             None => return false,
         }

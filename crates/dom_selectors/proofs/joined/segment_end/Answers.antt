@@ -1,5 +1,5 @@
 -- From the end of one chain to that of the next, left of `~`.
-use Rattle.dom_selectors.proofs.Cited.{◌≡◌, refl, ap, sym, subst, ◌∙◌, arith, true≢false, joined, later, name_at, Once-forest, Descendant, Later}
+use Rattle.dom_selectors.proofs.Cited.{◌≡◌, refl, ap, sym, subst, ◌∙◌, arith, true≢false, joined, later, name_at, Once-forest, Later}
 use Rattle.dom_selectors.proofs.Cited.{IsDescendant, IsSearched, StopsAt, compound_view, combinator_view, complex_from}
 use Rattle.dom_selectors.specs.declared.selector.Combinator.{Combinator}
 use Rattle.dom_selectors.proofs.JoinedLaws.{last-joined, no-links}

@@ -1,8 +1,11 @@
 -- Some that is left matches where some of all does.
-use Rattle.dom_selectors.proofs.Cited.{◌≡◌, drop, list_any, complex_matches, name_at, complex_view}
+use Rattle.dom_selectors.proofs.Cited.{◌≡◌, length, map, selector_matches, name_at, complex_view}
 use Rattle.dom_selectors.proofs.query.some_complex_matches.Given as goal
 
-abbrev pub invariant-loop-complex : goal.invariant-loop-complex
-invariant-loop-complex l =
-    list_any (λ c. complex_matches l.node.whole.trees (complex_view c) (name_at l.node.whole.names l.node.key)) (drop l.complex-index l.complexes) ≡ list_any
-    (λ c. complex_matches l.node.whole.trees (complex_view c) (name_at l.node.whole.names l.node.key)) l.complexes
+abbrev pub invariant-loop-rest : goal.invariant-loop-rest
+invariant-loop-rest l =
+    selector_matches l.node.whole.trees (map complex_view l.rest) (name_at l.node.whole.names l.node.key) ≡
+    selector_matches l.node.whole.trees (map complex_view l.complexes) (name_at l.node.whole.names l.node.key)
+
+abbrev pub decreases-loop-rest : goal.decreases-loop-rest
+decreases-loop-rest l = length l.rest
