@@ -2,10 +2,10 @@
 pub use Rattle.dom_base.proofs.Std.{[], add-one, AllByRecursion, and_parts, ap, append-nil, append_assoc, arith, Bool, cases_Bool, cond, cond-false, cond-true}
 pub use Rattle.dom_base.proofs.Std.{count_by, drop, drop-append-le, drop-cons, eqb-true, Err, false, false_from_ne_true, filter, filter-append, find, flat_map}
 pub use Rattle.dom_base.proofs.Std.{fold, ForSome, get_or, get_or-append, get_or-append_seam, IfErr, IfOk, if◌then◌else◌, inl, inr, is_some, IsTrue, leb-false}
-pub use Rattle.dom_base.proofs.Std.{length, length-append, length-map, length_push, List, ltb-false, map, map-append, min, nat_eq, nat_le, None, not, not-false}
+pub use Rattle.dom_base.proofs.Std.{length, length-append, length-map, length_push, List, ltb-false, map, map-append, min, nat_eq, nat_le, None, none-some, not}
 pub use Rattle.dom_base.proofs.Std.{Ok, on_ok_weaker, OnErr, OnOk, Option, option_flatten, option_map, option_map_or, or_left, or_parts, refl, Result}
 pub use Rattle.dom_base.proofs.Std.{same_Some, slice_get, slice_get-map, slice_set, Some, subst, suc, sym, take_while, take_while-cons, true, true≢false}
-pub use Rattle.dom_base.proofs.Std.{unwrap_or, zero, ℕ, ⊤, ◌&&◌, ◌++◌, ◌+◌, ◌-◌, ◌<◌, ◌==◌, ◌||◌, ◌↔◌, ◌∙◌, ◌∷◌, ◌≡◌, ◌≢◌, ◌≤◌, ◌⊎◌}
+pub use Rattle.dom_base.proofs.Std.{not-false, unwrap_or, zero, ℕ, ⊤, ◌&&◌, ◌++◌, ◌+◌, ◌-◌, ◌<◌, ◌==◌, ◌||◌, ◌↔◌, ◌∙◌, ◌∷◌, ◌≡◌, ◌≢◌, ◌≤◌, ◌⊎◌}
 pub use Rattle.dom_model.proofs.Model.{a_node, a_range, a_string, a_walker, adopt_plan, after, after_replace_data, an_iterator, an_observer, answers}
 pub use Rattle.dom_model.proofs.Model.{append_once, at, attaching, attribute_value, attributes, both_at, boundaries, Boundary, cannot_take_node, Change}
 pub use Rattle.dom_model.proofs.Model.{change_node, change_subtree, changes, changing_document, character_data, child_list, children_of, collapsed_to}
@@ -32,11 +32,12 @@ pub use Rattle.dom_model.proofs.Model.{tables, take_out, taken_out, target_of, t
 pub use Rattle.dom_model.proofs.Model.{Walker, walker_move, with_data_replaced, with_document, with_end, with_name, with_node, with_notify_if}
 pub use Rattle.dom_model.proofs.Model.{with_part, with_range, with_removal_signals, with_shadow_document, with_signal, with_start, Word, World}
 pub use Rattle.dom_model.proofs.Model.{world_after, world_step, ◌and_then◌}
-pub use Rattle.dom_laws.proofs.Laws.{all_drop, below_lacks, by_times, children_once, children_parent, Each, each_all, first_inside, first_lacks, Lacks}
+pub use Rattle.dom_laws.proofs.Laws.{all_drop, below_lacks, by_times, children_once, children_parent, Each, each_all, first_inside, first_lacks}
 pub use Rattle.dom_laws.proofs.Laws.{lacks_both, lacks_from, lacks_to, left, names_once, next_child, next_walked, none_or_some, NoTwice, Once}
 pub use Rattle.dom_laws.proofs.Laws.{once_counted, once_parts, once_subtree, one-true, parent_path, parent_taken, path_after, path_below, path_here}
 pub use Rattle.dom_laws.proofs.Laws.{path_lacks, path_mapped, path_none, path_placed, path_put_root, path_root, path_taken, StandsIn, subtree_mapped}
-pub use Rattle.dom_laws.proofs.Laws.{swapped, times_in-none, times_in-tree, walked, Walks, walks, is_some-map}
+pub use Rattle.dom_laws.proofs.Laws.{from_first, from_next, Lacks, swapped, times_in-none, times_in-tree, walked, Walks, walks, is_some-map}
+pub use Rattle.dom_laws.specs.Siblings.{from_sibling}
 pub use Rattle.dom_mutation.specs.Definitions.{AreReady, attaching_refusal, DropsNone, HasNodes, HasStill, HasStillAll, HasStillTables, IsReady, IsReadyPart}
 pub use Rattle.dom_mutation.specs.Definitions.{MayStand, observing_of}
 pub use Rattle.dom_observers.specs.Definitions.{words_of}
@@ -64,6 +65,6 @@ pub use Rattle.dom_worlds.proofs.PlanLemmas.{tables-after, whole-pieces}
 pub use Rattle.dom_worlds.proofs.ShadowTreeLemmas.{found-absent, found-there, kind-root, not_taken, shadow-kind}
 pub use Rattle.dom_worlds.proofs.TreeLemmas.{inside-no_ancestor, kids-absent, kids-map_nodes, length-absent, length-kids, no_parent-root}
 pub use Rattle.dom_worlds.proofs.TreeLemmas.{node-map_nodes, nodes-listed, nodes-named, nodes-then, nodes-with_node, read-all, root-below_none}
-pub use Rattle.dom_worlds.proofs.TreeLemmas.{roots-equal, roots-same, roots-there, times-has_node, times-map_nodes, nodes-step, NewHas}
+pub use Rattle.dom_worlds.proofs.TreeLemmas.{roots-equal, roots-same, roots-there, self-above, times-has_node, times-map_nodes, nodes-step, NewHas}
 pub use Rattle.dom_worlds.proofs.WorldLemmas.{each-part, holds-world_after, IsKeptIn, root-alone}
 pub use Rattle.dom_worlds.specs.Definitions.{AllNodes, EndsIn, EndsWithin, HasBounds, HasEnds, HasTables, IsNodeIn, IsPart, IsShadowAt, IsWithin}

@@ -2,31 +2,18 @@
 use Rattle.dom_mutation.proofs.Cited.{◌≡◌, ℕ, suc, ◌<◌, ◌≤◌, inl, inr, Bool, true, false, List, [], ◌∷◌, ◌++◌, drop, length, map, Option, Some, None}
 use Rattle.dom_mutation.proofs.Cited.{option_map, refl, sym, ap, subst, ◌∙◌, arith, ◌==◌, filter, flat_map, take_while, if◌then◌else◌, AllByRecursion}
 use Rattle.dom_mutation.proofs.Cited.{ForSome, option_map_or, cases_Bool, cond-true, cond-false, or_left, map-append, append-nil, append_assoc}
-use Rattle.dom_mutation.proofs.Cited.{drop-append-le, filter-append, take_while-cons, NodeName, Owner, DomString, name_eq, first_of, is_empty, is_in}
-use Rattle.dom_mutation.proofs.Cited.{items_before, items_after, Trees, kind_of, is_text, node_in, length_of, siblings, children_of, parent_of}
-use Rattle.dom_mutation.proofs.Cited.{next_sibling, times_in, is_inclusive_ancestor, subtree, inclusive_descendants, Step, part_of, world_after}
+use Rattle.dom_mutation.proofs.Cited.{drop-append-le, filter-append, none-some, take_while-cons, NodeName, Owner, DomString, name_eq, first_of, is_empty, is_in}
+use Rattle.dom_mutation.proofs.Cited.{Step, items_before, items_after, Trees, kind_of, is_text, node_in, length_of, siblings, parent_of}
+use Rattle.dom_mutation.proofs.Cited.{from_next, from_sibling, next_sibling, has_node, has_node-times, is_inclusive_ancestor, inclusive_ancestors}
 use Rattle.dom_mutation.proofs.Cited.{observed, remove_plan, contiguous_texts_after, joining, normalizing_text, name_eq-same, name_at, DocState}
-use Rattle.dom_mutation.proofs.Cited.{planned, name_in, owner_in, trees_in, IsOwnNode, Lacks, swapped, path_none, Once, none_or_some, once_subtree}
-use Rattle.dom_mutation.proofs.Cited.{NoTwice, children_once, next_child, names_once, walked, StandsIn, left, Walks, walks, first_inside}
+use Rattle.dom_mutation.proofs.Cited.{planned, name_in, owner_in, trees_in, IsOwnNode, Once, once_subtree, first_inside, self-above}
+use Rattle.dom_mutation.proofs.Cited.{inclusive_descendants, part_of, subtree, world_after, NoTwice, names_once, walked, StandsIn, left, Walks, walks}
+use Rattle.dom_tree.proofs.Owned.{read_own, stays_own}
+use Rattle.dom_tree.specs.Definitions.{AreOwned, NamedTrees, trees_of_owner}
 use Rattle.dom_mutation.proofs.Placed.{Counted, once_in}
 use Rattle.dom_mutation.proofs.Listing.{all_push}
-use Rattle.dom_mutation.proofs.Replaced.{lacks_after}
 
 -- ---- the Texts directly after a Text
-
--- what stands behind the next name is what stands behind that one
-after_first : (x y : NodeName) (xs rest : List NodeName) → NoTwice xs → items_after name_eq x xs ≡ y ∷ rest → items_after name_eq y xs ≡ rest
-after_first x y [] rest once e = cc
-after_first x y (w ∷ ws) rest once e = elim (cases_Bool (name_eq x w)) [
-  | inl h ↦
-      let is : ws ≡ y ∷ rest = rw h at e in
-      let off : name_eq y w ≡ false = swapped w y (subst (Lacks w) is once.0).0 in
-      rw off (ap (items_after name_eq y) is ∙ cond-true (name_eq y y) rest (items_after name_eq y rest) (name_eq-same y))
-  | inr h ↦
-      let is : items_after name_eq x ws ≡ y ∷ rest = rw h at e in
-      let off : name_eq y w ≡ false = swapped w y (subst (Lacks w) is (lacks_after w x ws once.0)).0 in
-      rw off (after_first x y ws rest once.1 is)
-]
 
 -- some names, and where a walk along these Texts stands, that Text and those after it
 abbrev pub with_rest : Trees → List NodeName → Option NodeName → List NodeName
@@ -50,36 +37,20 @@ rest_some ts zs y e = subst (λ ys. IsRest ts ys (first_of ys)) (sym e) (record 
 
 -- so they are with the first Text after a Text
 after_rest : (ts : Trees) → Once ts → (x : NodeName) → IsRest ts (contiguous_texts_after ts x) (first_of (contiguous_texts_after ts x))
-after_rest ts once x = by_parent (parent_of ts x) refl
+after_rest ts once x = by (next_sibling ts x) refl
   where
-    by_items : (q : NodeName) (zs : List NodeName) → parent_of ts x ≡ Some q → items_after name_eq x (children_of ts q) ≡ zs →
-        contiguous_texts_after ts x ≡ take_while (λ y. is_text (kind_of ts y)) zs → IsRest ts (contiguous_texts_after ts x) (first_of
-        (contiguous_texts_after ts x))
-    by_items q [] up items e = rest_none ts (contiguous_texts_after ts x) e
-    by_items q (y ∷ rest) up items e = elim (cases_Bool (is_text (kind_of ts y))) [
-      | inl h ↦
-          let next : next_sibling ts x ≡ Some y =
-          ap (λ o. first_of (items_after name_eq x (option_map_or (children_of ts) o (x ∷ [])))) up ∙ ap first_of items in
-          let beside = (next_child ts once x q y up next).0 in
-          let behind : contiguous_texts_after ts y ≡ take_while (λ y. is_text (kind_of ts y)) rest =
-          ap (λ o. take_while (λ y. is_text (kind_of ts y)) (items_after name_eq y (option_map_or (children_of ts) o (y ∷ [])))) beside
-          ∙ ap (λ zs. take_while (λ y. is_text (kind_of ts y)) zs) (after_first x y (children_of ts q) rest (children_once ts q once) items) in
-          rest_some ts (contiguous_texts_after ts x) y
-          (e ∙ take_while-cons (λ y. is_text (kind_of ts y)) y rest ∙
-          cond-true (is_text (kind_of ts y)) (y ∷ take_while (λ y. is_text (kind_of ts y)) rest) [] h ∙ ap (λ zs. y ∷ zs) (sym behind))
-      | inr h ↦ rest_none ts (contiguous_texts_after ts x)
-          (e ∙ take_while-cons (λ y. is_text (kind_of ts y)) y rest ∙
-          cond-false (is_text (kind_of ts y)) (y ∷ take_while (λ y. is_text (kind_of ts y)) rest) [] h)
-    ]
+    text : NodeName → Bool
+    text y = is_text (kind_of ts y)
 
-    by_parent : (o : Option NodeName) → parent_of ts x ≡ o → IsRest ts (contiguous_texts_after ts x) (first_of (contiguous_texts_after ts x))
-    by_parent None up =
-        rest_none ts (contiguous_texts_after ts x)
-        (ap (λ o. take_while (λ y. is_text (kind_of ts y)) (items_after name_eq x (option_map_or (children_of ts) o (x ∷ [])))) up
-        ∙ ap (λ zs. take_while (λ y. is_text (kind_of ts y)) zs) (cond-true (name_eq x x) [] [] (name_eq-same x)))
-    by_parent (Some q) up =
-        by_items q (items_after name_eq x (children_of ts q)) up refl
-        (ap (λ o. take_while (λ y. is_text (kind_of ts y)) (items_after name_eq x (option_map_or (children_of ts) o (x ∷ [])))) up)
+    by : (o : Option NodeName) → next_sibling ts x ≡ o → IsRest ts (contiguous_texts_after ts x) (first_of (contiguous_texts_after ts x))
+    by None e = rest_none ts (contiguous_texts_after ts x) (ap (take_while text) (sym (from_next ts once x) ∙ ap (from_sibling ts) e))
+    by (Some y) e =
+        let is : contiguous_texts_after ts x ≡ (if text y then y ∷ contiguous_texts_after ts y else []) =
+        ap (take_while text) (sym (from_next ts once x) ∙ ap (from_sibling ts) e) ∙ take_while-cons text y (items_after name_eq y (siblings ts y)) in
+        elim (cases_Bool (text y)) [
+          | inl h ↦ rest_some ts (contiguous_texts_after ts x) y (is ∙ cond-true (text y) (y ∷ contiguous_texts_after ts y) [] h)
+          | inr h ↦ rest_none ts (contiguous_texts_after ts x) (is ∙ cond-false (text y) (y ∷ contiguous_texts_after ts y) [] h)
+        ]
 
 -- the first of them
 first_while : (p : NodeName → Bool) (zs : List NodeName) (y : NodeName) → first_of zs ≡ Some y → first_of (take_while p zs) ≡ (if p y then Some y else None)
@@ -94,6 +65,14 @@ first_while p (z ∷ zs) y e = by (p z) refl
         ap first_of (take_while-cons p z zs ∙ cond-true (p z) (z ∷ take_while p zs) [] h) ∙ ap (λ w. Some w) same ∙
         sym (cond-true (p y) (Some y) None (ap p (sym same) ∙ h))
     by false h = ap first_of (take_while-cons p z zs ∙ cond-false (p z) (z ∷ take_while p zs) [] h) ∙ sym (cond-false (p y) (Some y) None (ap p (sym same) ∙ h))
+
+-- one that no Text is behind is the only one
+pub only_rest : (ts : Trees) → Once ts → (x y : NodeName) → first_of (contiguous_texts_after ts x) ≡ Some y → None ≡ first_of (contiguous_texts_after ts y) →
+    y ∷ [] ≡ contiguous_texts_after ts x
+only_rest ts once x y is none =
+    let no = after_rest ts once y in
+    ap (λ zs. y ∷ zs) ((subst (IsRest ts (contiguous_texts_after ts y)) (sym none) no).all []) ∙
+    (subst (IsRest ts (contiguous_texts_after ts x)) is (after_rest ts once x)).all []
 
 -- that is the next sibling, where it is a Text
 pub text_next : (ts : Trees) (x y : NodeName) (b : Bool) → next_sibling ts x ≡ Some y → is_text (kind_of ts y) ≡ b →
@@ -176,28 +155,52 @@ module _ (d : DocState) (node : ℕ) where
   abbrev after_steps : List Step → DocState
   after_steps steps = record d { world = world_after o d.world steps }
 
-  pub normal_joined : {e : DocState} {q : NodeName} (ks : List ℕ) → (length_of ts x == 0) ≡ false → parent_of ts x ≡ Some q →
-      map (name_in d) ks ≡ contiguous_texts_after ts x → is_empty ks ≡ false
+  pub normal_joined : {e : DocState} {q y : NodeName} (ks : List ℕ) → (length_of ts x == 0) ≡ false → parent_of ts x ≡ Some q →
+      map (name_in d) ks ≡ contiguous_texts_after ts x → first_of (contiguous_texts_after ts x) ≡ Some y
       → e ≡ planned o (joining x q (map (name_in d) ks)) d → e ≡ planned o (normalizing_text x) d
-  normal_joined [] h up listed some is = cc
-  normal_joined {q} (k ∷ ks) h up listed some is =
+  normal_joined {y = y} [] h up listed some is = absurd (none-some y (ap first_of listed ∙ some))
+  normal_joined {q = q} (k ∷ ks) h up listed some is =
       is ∙ ap (λ ys. after_steps (steps_if false (Some q) ys)) listed ∙ ap (λ a. after_steps (steps_if false a (contiguous_texts_after ts x))) (sym up) ∙
       ap (λ b. after_steps (steps_if b (parent_of ts x) (contiguous_texts_after ts x))) (sym h)
 
 -- ---- the Texts below a node
-
--- a node stands in its own tree, first
-pub first_own : (ts : Trees) (x : NodeName) → is_inclusive_ancestor ts x x ≡ true → (rest : List NodeName) × (inclusive_descendants ts x ≡ x ∷ rest)
-first_own ts x h = elim (none_or_some (times_in ts x)) [
-  | inl e ↦ let gone = ap (is_in name_eq x) (path_none ts x e) in cc
-  | inr there ↦ first_inside ts x there
-]
 
 abbrev pub below_of : DocState → ℕ → List NodeName
 below_of d top = inclusive_descendants (trees_in d top) (name_in d top)
 
 abbrev pub texts_in : DocState → ℕ → List NodeName → List NodeName
 texts_in d top xs = filter (λ y. is_text (kind_of (trees_in d top) y)) xs
+
+-- what the forest finds of an owner's nodes is so in the owner's trees
+module _ (d : DocState) (f : NamedTrees) (names : f.names ≡ d.names) (trees : (o : Owner) → trees_of_owner o f.trees ≡ (part_of d.world o).trees)
+    (owned : AreOwned f.trees) (top : ℕ) where
+  pub stands_own : has_node (trees_in d top) (name_in d top) ≡ true → is_inclusive_ancestor f.trees (name_at f.names top) (name_at f.names top) ≡ true
+  stands_own there =
+      ap (λ ns. is_inclusive_ancestor f.trees (name_at ns top) (name_at ns top)) names ∙
+      ap (is_in name_eq (name_in d top)) ((read_own f.trees owned (owner_in d top) (name_in d top) refl).path ∙
+      ap (λ ts. inclusive_ancestors ts (name_in d top)) (trees (owner_in d top))) ∙
+      self-above (trees_in d top) (name_in d top) (has_node-times (trees_in d top) (name_in d top) there)
+
+  pub found_own : (k : ℕ) (next : Option ℕ) → option_map (name_at f.names) next ≡ first_of
+      (items_after name_eq (name_at f.names k) (inclusive_descendants f.trees (name_at f.names top))) →
+      option_map (name_in d) next ≡ first_of (items_after name_eq (name_in d k) (below_of d top))
+  found_own k next e =
+      subst (λ ns. option_map (name_at ns) next ≡ first_of (items_after name_eq (name_at ns k) (inclusive_descendants f.trees (name_at ns top)))) names e ∙
+      ap (λ zs. first_of (items_after name_eq (name_in d k) zs)) ((read_own f.trees owned (owner_in d top) (name_in d top) refl).inside ∙
+      ap (λ ts. inclusive_descendants ts (name_in d top)) (trees (owner_in d top)))
+
+  pub near_own : (next : Option ℕ) → ForSome next (λ j. j < length f.names) →
+      ForSome next (λ j. is_inclusive_ancestor f.trees (name_at f.names top) (name_at f.names j) ≡ true) → ForSome next (IsOwnNode d top)
+  near_own next node within j e = (
+    subst (λ ns. j < length ns) names (node j e),
+    subst (λ ns. (name_at ns j).owner ≡ (name_at ns top).owner) names
+        (sym ((stays_own f.trees owned (name_at f.names j).owner (name_at f.names j) refl).path (name_at f.names top) (within j e))),
+  )
+
+  pub text_own : (k : ℕ) → is_text (kind_of f.trees (name_at f.names k)) ≡ is_text (kind_of (trees_in d k) (name_in d k))
+  text_own k =
+      ap (λ ns. is_text (kind_of f.trees (name_at ns k))) names ∙
+      ap (λ n. is_text n.kind) ((read_own f.trees owned (owner_in d k) (name_in d k) refl).node ∙ ap (λ ts. node_in ts (name_in d k)) (trees (owner_in d k)))
 
 -- how far the loop has come that lists them
 pub record Gathers (d : DocState) (top : ℕ) (keys : List ℕ) (at : Option ℕ) : Type 0 where
@@ -206,7 +209,6 @@ pub record Gathers (d : DocState) (top : ℕ) (keys : List ℕ) (at : Option ℕ
   pub some : 1 ≤ length (walked (below_of d top) (option_map (name_in d) at))
   pub nodes : AllByRecursion (IsOwnNode d top) keys
   pub here : ForSome at (IsOwnNode d top)
-  pub within : ForSome at (λ k. is_inclusive_ancestor (trees_in d top) (name_in d top) (name_in d k) ≡ true)
 
 -- each stands once in tree order
 below_once : (d : DocState) → Counted d → (top : ℕ) → NoTwice (below_of d top)
@@ -214,13 +216,12 @@ below_once d counted top = names_once (subtree (trees_in d top) (name_in d top))
     (once_subtree (trees_in d top) (name_in d top) (once_in d counted (owner_in d top)))
 
 -- at the first one
-pub gathers_first : {d : DocState} → Counted d → {top : ℕ} {at : Option ℕ} → is_inclusive_ancestor (trees_in d top) (name_in d top) (name_in d top) ≡ true
-    → option_map (name_in d) at ≡ first_of (items_after name_eq (name_in d top) (below_of d top)) → ForSome at (IsOwnNode d top)
-    → ForSome at (λ k. is_inclusive_ancestor (trees_in d top) (name_in d top) (name_in d k) ≡ true) → Gathers d top [] at
-gathers_first {d} counted {top} {at} there found near inside =
+pub gathers_first : {d : DocState} → Counted d → {top : ℕ} {at : Option ℕ} → has_node (trees_in d top) (name_in d top) ≡ true
+    → option_map (name_in d) at ≡ first_of (items_after name_eq (name_in d top) (below_of d top)) → ForSome at (IsOwnNode d top) → Gathers d top [] at
+gathers_first {d} counted {top} {at} there found near =
     let x = name_in d top in
     let xs = below_of d top in
-    let first = first_own (trees_in d top) x there in
+    let first = first_inside (trees_in d top) x (has_node-times (trees_in d top) x there) in
     let in_it : is_in name_eq x xs ≡ true = ap (is_in name_eq x) first.1 ∙ or_left (name_eq x x) (is_in name_eq x first.0) (name_eq-same x) in
     let w = subst (λ o. Walks xs x o) (sym found) (walks xs (below_once d counted top) x in_it) in
     let none : items_before name_eq x xs ≡ [] =
@@ -232,13 +233,11 @@ gathers_first {d} counted {top} {at} there found near inside =
       some = subst (λ (zs : List NodeName). 1 ≤ length zs) (sym start) (omega arith);
       nodes = tt;
       here = near;
-      within = inside;
     }
 
 -- a step of it, at a Text or another node
 module _ (d : DocState) (counted : Counted d) (top : ℕ) (keys : List ℕ) (at next : Option ℕ) (k : ℕ) (is : at ≡ Some k) (gathers : Gathers d top keys at)
-    (found : option_map (name_in d) next ≡ first_of (items_after name_eq (name_in d k) (below_of d top))) (near : ForSome next (IsOwnNode d top))
-    (inside : ForSome next (λ j. is_inclusive_ancestor (trees_in d top) (name_in d top) (name_in d j) ≡ true)) where
+    (found : option_map (name_in d) next ≡ first_of (items_after name_eq (name_in d k) (below_of d top))) (near : ForSome next (IsOwnNode d top)) where
   abbrev xs : List NodeName
   xs = below_of d top
 
@@ -278,7 +277,6 @@ module _ (d : DocState) (counted : Counted d) (top : ℕ) (keys : List ℕ) (at 
     some = longer;
     nodes = all_push (IsOwnNode d top) keys k gathers.nodes (gathers.here k is);
     here = near;
-    within = inside;
   }
 
   pub gathers_other : false ≡ is_text (kind_of (trees_in d k) y) → Gathers d top keys next
@@ -289,7 +287,6 @@ module _ (d : DocState) (counted : Counted d) (top : ℕ) (keys : List ℕ) (at 
     some = longer;
     nodes = gathers.nodes;
     here = near;
-    within = inside;
   }
 
   pub gathers_fewer : left xs (option_map (name_in d) next) < left xs (option_map (name_in d) at)

@@ -1,5 +1,5 @@
 -- The plans of changes keep an owner's part ready for calls.
-use Rattle.dom_mutation.proofs.Cited.{◌≡◌, ◌<◌, ℕ, length, Bool, true, false, not, ◌||◌, List, [], ◌∷◌, Option, Some, None, refl, sym, ap, ◌∙◌, arith}
+use Rattle.dom_mutation.proofs.Cited.{◌≡◌, ◌<◌, ℕ, length, Bool, true, false, ◌||◌, List, [], ◌∷◌, Option, Some, None, refl, sym, ap, ◌∙◌, arith}
 use Rattle.dom_mutation.proofs.Cited.{true≢false, subst, IsTrue, if◌then◌else◌, option_map_or, NodeName, Plan, observed, remove_plan, adopt_plan}
 use Rattle.dom_mutation.proofs.Cited.{insert_plan, replace_plan, setting_attribute, unsetting_attribute, of_range, plan_of_range, extracting, Word}
 use Rattle.dom_mutation.proofs.Cited.{DomString, Part, range_at, deleting, insert_node_refusal, insertion_parent, start_reference, cannot_take_node}

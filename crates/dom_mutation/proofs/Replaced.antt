@@ -38,7 +38,7 @@ child_below ts once x p up = (subst NoTwice (parent_path ts once x p up) (path_o
 -- ---- the reference
 
 -- what a list lacks, what stands behind a name lacks
-pub lacks_after : (x z : NodeName) (xs : List NodeName) → Lacks x xs → Lacks x (items_after name_eq z xs)
+lacks_after : (x z : NodeName) (xs : List NodeName) → Lacks x xs → Lacks x (items_after name_eq z xs)
 lacks_after x z [] h = tt
 lacks_after x z (y ∷ ys) h = elim (cases_Bool (name_eq z y)) [
   | inl e ↦ rw e h.1

@@ -19,6 +19,7 @@ use crate::removing::{SuppressObserversFlag, adopting, removing};
 use dom_base::Kind;
 use dom_parts::Parts;
 use node_arena::Key;
+use smallvec::SmallVec;
 use std::alloc::AllocError;
 
 /// The Standard's *reference child*, before which a node is put: the child given, or the node's next sibling where that is the node
@@ -124,13 +125,13 @@ fn sibling_before(parts: &Parts, parent: Key, before: Option<Key>) -> Option<Key
 }
 
 /// The children of a node.
-pub(crate) fn children(parts: &Parts, node: Key) -> Result<Vec<Key>, AllocError>
+pub(crate) fn children(parts: &Parts, node: Key) -> Result<SmallVec<Key, 8>, AllocError>
     requires { HoldsNode parts.now node }
     ensures names { IfOk result (λ keys. map (name_in parts.now) keys.items ≡ children_of (trees_in parts.now node) (name_in parts.now node)) }
     ensures nodes { IfOk result (λ keys. AllByRecursion (λ k. (HoldsNode parts.now k) × (owner_in parts.now k ≡ owner_in parts.now node)) keys.items) }
 {
     parts.laws();
-    let mut keys = Vec::new(parts.alloc());
+    let mut keys = SmallVec::new(parts.alloc());
     let mut at = parts.first(node);
     while let Some(child) = at {
         keys.push(child)?;

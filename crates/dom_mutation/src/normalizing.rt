@@ -1,13 +1,16 @@
 //! Normalization (DOM Standard, normalize(); concept: contiguous exclusive Text nodes).
-ghost use Rattle.std.specs.Prelude.{◌≡◌, map, filter, flat_map, true, IfOk, OnOk, Some};
+ghost use Rattle.std.specs.Prelude.{◌≡◌, ◌≢◌, map, filter, flat_map, true, IfOk, OnOk, Some};
 ghost use Rattle.std.specs.List.{AllByRecursion};
 ghost use Rattle.std.specs.Option.{option_map, ForSome};
 ghost use Rattle.dom_model.specs.Names.{first_of};
-ghost use Rattle.dom_model.specs.Tree.{kind_of, is_text, node_in, parent_of, descendants, is_inclusive_ancestor};
-ghost use Rattle.dom_model.specs.Changes.{in_turn};
+ghost use Rattle.dom_model.specs.Tree.{kind_of, is_text, node_in, parent_of, length_of, descendants};
+ghost use Rattle.dom_model.specs.Changes.{in_turn, observed, remove_plan};
 ghost use Rattle.dom_model.specs.TextChanges.{contiguous_texts_after, joining, normalizing_text};
 ghost use Rattle.dom_model.specs.World.{part_of};
 ghost use Rattle.dom_worlds.specs.Bounds.{HasBounds};
+ghost use Rattle.dom_base.specs.declared.Owner.{Owner as OwnerOf};
+ghost use Rattle.dom_tree.specs.Owners.{trees_of_owner, AreOwned};
+ghost use Rattle.dom_tree.specs.Spots.{name_here};
 ghost use Rattle.dom_parts.specs.Doc.{planned, name_in, owner_in, trees_in, IsOwnNode, HoldsNode};
 
 use crate::character_data::replacing_data;
@@ -15,7 +18,9 @@ use crate::inserting::take_each;
 use crate::removing::{SuppressObserversFlag, removing};
 use dom_base::{DomStr, Kind};
 use dom_parts::{DataChange, Parts};
+use dom_tree::{Forest, NodeAt};
 use node_arena::Key;
+use smallvec::SmallVec;
 use std::alloc::AllocError;
 
 /// Some Texts are normalized, one after another.
@@ -34,6 +39,7 @@ pub(crate) fn normalize_each(parts: &mut Parts, top: Key, texts: &[Key]) -> Resu
 }
 
 /// A Text without data leaves, and another one is joined with those after it, if there are some.
+#[inline(always)]
 fn normalize_text(parts: &mut Parts, node: Key) -> Result<(), AllocError>
     requires node_is_node { HoldsNode parts.old node }
     requires is_text { is_text (kind_of (trees_in parts.old node) (name_in parts.old node)) ≡ true }
@@ -41,15 +47,42 @@ fn normalize_text(parts: &mut Parts, node: Key) -> Result<(), AllocError>
     ensures { OnOk result (parts.new ≡ planned (owner_in parts.old node) (normalizing_text (name_in parts.old node)) parts.old) }
 {
     if parts.length(node) == 0 {
-        return removing(parts, SuppressObserversFlag::Observed, node);
+        return removing_text(parts, node);
     }
+    let Some(next) = text_after(parts, node) else {
+        return Ok(());
+    };
+    join_next(parts, node, next)
+}
+
+/// A Text leaves.
+#[inline(never)]
+fn removing_text(parts: &mut Parts, node: Key) -> Result<(), AllocError>
+    requires { HoldsNode parts.old node }
+    ensures { OnOk result (parts.new ≡ planned (owner_in parts.old node) (remove_plan observed (name_in parts.old node)) parts.old) }
+{
+    removing(parts, SuppressObserversFlag::Observed, node)
+}
+
+/// A Text with data is joined with those after it, of which the first is given. Where that is the only one, no list of them is made.
+#[inline(never)]
+fn join_next(parts: &mut Parts, node: Key, next: Key) -> Result<(), AllocError>
+    requires node_is_node { HoldsNode parts.old node }
+    requires next_is_node { IsOwnNode parts.old node next }
+    requires is_text { is_text (kind_of (trees_in parts.old node) (name_in parts.old node)) ≡ true }
+    requires has_data { length_of (trees_in parts.old node) (name_in parts.old node) ≢ 0 }
+    requires is_next { first_of (contiguous_texts_after (trees_in parts.old node) (name_in parts.old node)) ≡ Some (name_in parts.old next) }
+    requires bounds { HasBounds (part_of parts.old.world (owner_in parts.old node)) }
+    ensures { OnOk result (parts.new ≡ planned (owner_in parts.old node) (normalizing_text (name_in parts.old node)) parts.old) }
+{
+    parts.laws();
     let Some(parent) = parts.parent(node) else {
         return Ok(());
     };
+    let Some(_) = text_after(parts, next) else {
+        return joining(parts, node, parent, &[next]);
+    };
     let nexts = texts_after(parts, node)?;
-    if nexts.as_slice().is_empty() {
-        return Ok(());
-    }
     joining(parts, node, parent, nexts.as_slice())
 }
 
@@ -84,6 +117,9 @@ fn data_of(parts: &Parts, top: Key, texts: &[Key]) -> Result<DomStr, AllocError>
     requires { AllByRecursion (IsOwnNode parts.now top) texts.now }
     ensures { IfOk result (λ units. units.items ≡ flat_map (λ y. (node_in (trees_in parts.now top) y).text) (map (name_in parts.now) texts.now)) }
 {
+    if let [only] = texts {
+        return Vec::from_slice(parts.alloc(), parts.text(*only));
+    }
     let mut units = Vec::new(parts.alloc());
     for text in texts {
         units.extend_from_slice(parts.text(*text))?;
@@ -129,29 +165,41 @@ fn is_text(parts: &Parts, node: Key) -> bool
 }
 
 /// The Texts below a node, in tree order.
-pub(crate) fn texts_below(parts: &Parts, top: Key) -> Result<Vec<Key>, AllocError>
+pub(crate) fn texts_below(parts: &Parts, top: Key) -> Result<SmallVec<Key, 64>, AllocError>
     requires { HoldsNode parts.now top }
     ensures names { IfOk result (λ keys. map (name_in parts.now) keys.items ≡ filter (λ y. is_text (kind_of (trees_in parts.now top) y))
         (descendants (trees_in parts.now top) (name_in parts.now top))) }
     ensures nodes { IfOk result (λ keys. AllByRecursion (IsOwnNode parts.now top) keys.items) }
 {
+    texts_in(parts, parts.forest(), top)
+}
+
+/// The Texts below a node, in tree order, where the forest is given.
+fn texts_in(parts: &Parts, forest: &Forest, top: Key) -> Result<SmallVec<Key, 64>, AllocError>
+    requires top_is_node { HoldsNode parts.now top }
+    requires names { forest.now.names ≡ parts.now.names }
+    requires trees { (o : OwnerOf) → trees_of_owner o forest.now.trees ≡ (part_of parts.now.world o).trees }
+    requires owned { AreOwned forest.now.trees }
+    ensures names { IfOk result (λ keys. map (name_in parts.now) keys.items ≡ filter (λ y. is_text (kind_of (trees_in parts.now top) y))
+        (descendants (trees_in parts.now top) (name_in parts.now top))) }
+    ensures nodes { IfOk result (λ keys. AllByRecursion (IsOwnNode parts.now top) keys.items) }
+{
     parts.laws();
-    let mut keys = Vec::new(parts.alloc());
-    stands(parts, top);
-    let mut at = parts.following(top, top);
+    let mut keys = SmallVec::new(parts.alloc());
+    let mut at = forest.at(top).following(top);
     while let Some(node) = at {
-        if is_text(parts, node) {
-            keys.push(node)?;
+        if is_text_at(&node) {
+            keys.push(node.key())?;
         }
-        at = parts.following(node, top);
+        at = node.following(top);
     }
     Ok(keys)
 }
 
-/// Holds of every node: it stands in its owner's trees.
-pub(crate) fn stands(parts: &Parts, node: Key)
-    requires { HoldsNode parts.now node }
-    ensures { is_inclusive_ancestor (trees_in parts.now node) (name_in parts.now node) (name_in parts.now node) ≡ true }
+/// Whether a node is a Text, where it lies.
+#[inline(always)]
+fn is_text_at(node: &NodeAt) -> bool
+    ensures { result ≡ is_text (kind_of node.now.whole.trees (name_here node.now)) }
 {
-    parts.laws();
+    matches!(node.kind(), Kind::Text)
 }

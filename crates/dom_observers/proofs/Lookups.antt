@@ -1,6 +1,6 @@
 -- An owner's tables in the map of all owners'.
-use Rattle.dom_base.proofs.Std.{◌≡◌, ℕ, Bool, true, false, cond, ltb, List, [], ◌∷◌, map, Option, Some, None, refl, sym, ap, ◌∙◌, subst, arith, unwrap_or}
-use Rattle.dom_base.proofs.Std.{option_map, is_some, option_map_or, IsSome, lookup, get, cond-true, cond-false, false_from_ne_true, ltb-true}
+use Rattle.dom_base.proofs.Std.{◌≡◌, ℕ, Bool, true, false, cond, ltb, List, [], ◌∷◌, length, map, Option, Some, None, refl, sym, ap, ◌∙◌, subst, arith}
+use Rattle.dom_base.proofs.Std.{unwrap_or, option_map, is_some, option_map_or, IsSome, lookup, get, cond-true, cond-false, false_from_ne_true, ltb-true}
 use Rattle.dom_model.proofs.Model.{Owner, owner_eq, owner_eq-true, same_owner}
 use Rattle.dom_base.specs.contracts.OwnerPartialEq.TheImpl as OwnerImpl
 use Rattle.dom_observers.specs.declared.observers.Observers.TheInside.{Inside}
@@ -21,6 +21,11 @@ lookup-map f p q same (e ∷ es) = by (p e.0) (q e.0) (same e.0) (lookup-map f p
     by true false i rest = cc
     by false true i rest = cc
     by false false i rest = rest
+
+-- nothing is found where there is nothing
+pub none-empty : {K X : Type 0} (p : K → Bool) (es : List (K × X)) → length es ≡ 0 → None ≡ lookup p es
+none-empty p [] e = refl
+none-empty p (x ∷ es) e = absurd (omega (arith, e))
 
 -- an owner's tables, by what the map has at the owner
 pub tables_of-get : (q : Inside) (o : Owner) → tables_of (all_tables q) o ≡ option_map_or table_of (get OwnerImpl.ghosts.eq q.tables o) no_tables

@@ -202,6 +202,9 @@ impl Observers {
         ensures { OnOk result (ChangesTables (name_of forest.now node).owner
             (left nat_eq node (path_keys forest.now parent) (tables_of self.old (name_of forest.now node).owner)) self.old self.new) }
     {
+        if self.tables.is_empty() {
+            return Ok(());
+        }
         let owner = forest.name(node).owner;
         let Some(table) = self.tables.get_mut(&owner) else {
             return Ok(());

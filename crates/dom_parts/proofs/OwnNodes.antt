@@ -30,7 +30,7 @@ module _ (ts : Trees) (owned : AreOwned ts) (o : Owner) where
   owner_inside x y own i = (stays_own ts owned o x own).inside y (is_in-from y (inclusive_descendants ts x) i)
 
   -- and who stands in the tree of one
-  pub owner_below : (a x : NodeName) → a.owner ≡ o → is_inclusive_ancestor ts a x ≡ true → x.owner ≡ o
+  owner_below : (a x : NodeName) → a.owner ≡ o → is_inclusive_ancestor ts a x ≡ true → x.owner ≡ o
   owner_below a x own h = sym ((stays_own ts owned x.owner x refl).path a h) ∙ own
 
   -- ---- iterators

@@ -17,6 +17,9 @@ pub(crate) mod paths;
 mod runs;
 mod sides;
 
+/// For so many pieces there is room from the first on.
+const SOME: usize = 8;
+
 /// A piece of what is extracted.
 #[derive(Clone, Copy)]
 pub(crate) enum Piece {
@@ -68,7 +71,7 @@ pub(crate) fn pieces_apart(
 {
     forest.law_nodes_stand_once();
     let (start_path, end_path) = parted_paths(alloc, forest, points)?;
-    let mut pieces = Vec::new(alloc);
+    let mut pieces = Vec::with_capacity(alloc, SOME)?;
     push_pieces(
         &mut pieces,
         forest,

@@ -111,6 +111,9 @@ fn turn(ends: &mut [RangeEnd], first: usize, middle: usize, behind: usize)
     ensures len { length ends.new ≡ length ends.old }
     ensures turned { IsTurned ends.old ends.new first middle behind }
 {
+    if first == middle || middle == behind {
+        return;
+    }
     ends[first..behind].rotate_left(middle - first);
 }
 

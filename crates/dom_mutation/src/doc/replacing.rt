@@ -16,6 +16,7 @@ use crate::settling::given_up;
 use dom_base::Fault;
 use dom_parts::Parts;
 use node_arena::Key;
+use smallvec::SmallVec;
 use std::alloc::AllocError;
 
 impl Doc {
@@ -80,7 +81,7 @@ fn replacing(parts: &mut Parts, parent: Key, node: Key, child: Key) -> Result<()
 }
 
 /// The nodes that an insertion places: a fragment's children, or the node itself.
-fn placed_nodes(parts: &Parts, node: Key) -> Result<Vec<Key>, AllocError>
+fn placed_nodes(parts: &Parts, node: Key) -> Result<SmallVec<Key, 8>, AllocError>
     requires { HoldsNode parts.now node }
     ensures value { IfOk result (λ keys. map (name_in parts.now) keys.items ≡ placed_nodes (trees_in parts.now node) (name_in parts.now node)) }
     ensures nodes { IfOk result (λ keys. AreNodes parts.now keys.items) }
@@ -88,5 +89,5 @@ fn placed_nodes(parts: &Parts, node: Key) -> Result<Vec<Key>, AllocError>
     if is_fragment(parts, node) {
         return children(parts, node);
     }
-    Vec::from_slice(parts.alloc(), &[node])
+    SmallVec::from_slice(parts.alloc(), &[node])
 }

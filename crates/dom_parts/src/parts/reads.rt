@@ -1,9 +1,9 @@
 //! What is read of a node, in its owner's trees.
 ghost use Rattle.std.specs.Prelude.{◌≡◌, ℕ, ◌≤◌, true, false, count_by, is_some, Some};
 ghost use Rattle.std.specs.Option.{option_map, ForSome};
-ghost use Rattle.dom_model.specs.Names.{first_of, last_of, name_eq, items_after};
+ghost use Rattle.dom_model.specs.Names.{first_of, last_of, name_eq};
 ghost use Rattle.dom_model.specs.Tree.{nodes, node_in, attribute_value, kind_of, parent_of, children_of, next_sibling, previous_sibling, length_of};
-ghost use Rattle.dom_model.specs.Tree.{index_of, has_node, is_inclusive_ancestor, is_document, inclusive_descendants, root_of};
+ghost use Rattle.dom_model.specs.Tree.{index_of, has_node, is_document, root_of};
 ghost use Rattle.dom_base.specs.declared.NodeName.{NodeName as Name};
 ghost use Rattle.dom_base.specs.declared.Owner.{Owner as OwnerOf};
 ghost use Rattle.dom_model.specs.World.{part_of, is_there, is_connected};
@@ -13,7 +13,7 @@ ghost use Rattle.dom_slots.specs.Hosts.{HostsAreNodes};
 ghost use Rattle.dom_slots.specs.Shadows.{shadows};
 ghost use Rattle.dom_tree.specs.Forest.{IsNode, name_of};
 ghost use Rattle.dom_parts.specs.Calls.{IsReadFrom};
-ghost use Rattle.dom_parts.specs.Doc.{name_in, owner_in, trees_in, IsOwnNode, HoldsNode};
+ghost use Rattle.dom_parts.specs.Doc.{name_in, owner_in, trees_in, HoldsNode};
 ghost use Rattle.dom_parts.specs.Hosting.{IsAlone, outermost_root};
 
 use crate::Parts;
@@ -136,20 +136,6 @@ impl Parts {
         ensures { IsReadFrom self.now node previous_sibling result }
     {
         self.trees.forest.prev(node)
-    }
-
-    /// The node just after a node in tree order, within the tree of a node `top` in which it stands.
-    pub fn following(&self, node: Key, top: Key) -> Option<Key>
-        requires node_is_node { HoldsNode self.now node }
-        requires top_is_node { HoldsNode self.now top }
-        requires one_owner { owner_in self.now node ≡ owner_in self.now top }
-        requires within { is_inclusive_ancestor (trees_in self.now top) (name_in self.now top) (name_in self.now node) ≡ true }
-        ensures value { option_map (name_in self.now) result ≡ first_of
-            (items_after name_eq (name_in self.now node) (inclusive_descendants (trees_in self.now top) (name_in self.now top))) }
-        ensures node { ForSome result (IsOwnNode self.now top) }
-        ensures within { ForSome result (λ k. is_inclusive_ancestor (trees_in self.now top) (name_in self.now top) (name_in self.now k) ≡ true) }
-    {
-        self.trees.forest.following(node, top)
     }
 }
 

@@ -1,4 +1,4 @@
-use Rattle.dom_mutation.proofs.Cited.{option_map, children_of, name_in, trees_in, left}
+use Rattle.dom_mutation.proofs.Cited.{length, option_map, from_sibling, name_in, trees_in}
 use Rattle.dom_mutation.proofs.Listing.{Lists}
 use Rattle.dom_mutation.proofs.inserting.children.Given as goal
 
@@ -6,4 +6,4 @@ abbrev pub invariant-loop-at : goal.invariant-loop-at
 invariant-loop-at l = Lists l.parts l.fn.node l.keys.items l.at
 
 abbrev pub decreases-loop-at : goal.decreases-loop-at
-decreases-loop-at l = left (children_of (trees_in l.parts l.fn.node) (name_in l.parts l.fn.node)) (option_map (name_in l.parts) l.at)
+decreases-loop-at l = length (from_sibling (trees_in l.parts l.fn.node) (option_map (name_in l.parts) l.at))

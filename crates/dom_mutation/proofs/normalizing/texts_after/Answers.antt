@@ -9,13 +9,11 @@ loop-at-init c =
 
 pub loop-at-smaller : goal.loop-at-smaller
 loop-at-smaller c =
-    (follows_next c.laws.ensures.once c.text_after-at-in-Some.result
-    c.in-Some.is c.loop-at.invariant
+    (follows_next c.laws.ensures.once c.text_after-at-in-Some.result c.in-Some.is c.loop-at.invariant
     c.text_after-at-in-Some.ensures.value c.text_after-at-in-Some.ensures.node).1
 
 pub loop-at-preserved : goal.loop-at-preserved
 loop-at-preserved c =
     subst (λ (ks : List ℕ). Follows c.args.parts.now c.args.node ks c.text_after-at-in-Some.result) (sym c.in_ok-push.ensures.items)
-    (follows_next c.laws.ensures.once c.text_after-at-in-Some.result
-    c.in-Some.is c.loop-at.invariant
+    (follows_next c.laws.ensures.once c.text_after-at-in-Some.result c.in-Some.is c.loop-at.invariant
     c.text_after-at-in-Some.ensures.value c.text_after-at-in-Some.ensures.node).0

@@ -10,7 +10,7 @@ pub inserting-requires-clause-may_move : goal.inserting-requires-clause-may_move
 inserting-requires-clause-may_move c =
     let d = c.args.parts.now in
     text_may d c.take_each.new.parts c.laws.ensures.once c.args.node c.args.text c.as_slice.result.now
-    (ap (map (name_in d)) c.as_slice.ensures.value ∙ c.in_ok-children.ensures.names)
+    (ap (map (name_in d)) c.as_slice.ensures ∙ c.in_ok-children.ensures.names)
     c.in_ok-take_each.ensures.state c.in_ok-take_each.ensures.paths c.requires.text_is_node c.requires.one_owner c.requires.not_above
 
 -- the steps are the plan's
@@ -30,14 +30,14 @@ returns c =
     let record_of : List NodeName → Plan = λ zs. doing (queue_record (child_list x (y ∷ []) zs None None)) in
     let cleared = keeps-each (own_moves o) (remove_plan suppressed) (keeps-removing (own_moves o) suppressed) (map (name_in d) ks) in
     on_ok_weaker c.queue_tree_record.result
-    (λ told. told ∙ ap (λ js. tell js c.inserting.new.parts) (c.as_slice-2.ensures.value ∙ sym c.as_slice.ensures.value)
+    (λ told. told ∙ ap (λ js. tell js c.inserting.new.parts) (c.as_slice-2.ensures ∙ sym c.as_slice.ensures)
     ∙ ap (tell ks) c.in_ok-inserting.ensures ∙ ap (λ s. tell ks (put s)) c.in_ok-take_each.ensures.state
     ∙ ap (planned o (record_of (map (name_in d) ks))) (planned_then o (clear (map (name_in d) ks)) (insert_plan suppressed y x None) d alone cleared)
     ∙ planned_then o (clear (map (name_in d) ks) and_then insert_plan suppressed y x None) (record_of (map (name_in d) ks)) d alone
     (keeps-and_then (own_moves o) (clear (map (name_in d) ks)) (insert_plan suppressed y x None) cleared
     (keeps-inserting (own_moves o) suppressed y x None c.requires.one_owner))
     ∙ ap (λ zs. planned o (clear zs and_then insert_plan suppressed y x None and_then record_of zs) d)
-    (ap (map (name_in d)) c.as_slice.ensures.value ∙ c.in_ok-children.ensures.names))
+    (ap (map (name_in d)) c.as_slice.ensures ∙ c.in_ok-children.ensures.names))
     c.queue_tree_record.ensures
 
 pub inserting-requires-clause-bounds : goal.inserting-requires-clause-bounds
@@ -54,6 +54,6 @@ queue_tree_record-requires-clause-removed_are_nodes c =
     let d = c.args.parts.now in
     let same : c.inserting.new.parts.names ≡ d.names =
     ap (λ (s : DocState). s.names) c.in_ok-inserting.ensures ∙ ap (λ (s : DocState). s.names) c.in_ok-take_each.ensures.state in
-    subst (AreNodes c.inserting.new.parts) (sym c.as_slice-2.ensures.value)
+    subst (AreNodes c.inserting.new.parts) (sym c.as_slice-2.ensures)
     (nodes_kept d c.inserting.new.parts same c.in_ok-children.children.items
     (own_nodes d c.args.node c.in_ok-children.children.items c.in_ok-children.ensures.nodes))

@@ -12,7 +12,7 @@ returns-clause-paths c = (c.in_ok-start_path.start_path.items, c.in_ok-start_pat
 
 pub returns-clause-items : goal.returns-clause-items
 returns-clause-items c =
-    let none : AreItems c.args.forest.now.names c.new-pieces.result.items [] =
-    subst (λ (ps : List Piece). AreItems c.args.forest.now.names ps []) (sym c.new-pieces.ensures.items)
+    let none : AreItems c.args.forest.now.names c.in_ok-pieces.pieces.items [] =
+    subst (λ (ps : List Piece). AreItems c.args.forest.now.names ps []) (sym c.in_ok-pieces.ensures.items)
     (record { value = refl; nodes = tt }) in
     c.in_ok-push_pieces.ensures [] none

@@ -61,7 +61,7 @@ returns-clause-world c =
     let all : List NodeName → Option NodeName → Option NodeName → DocState =
     λ xs a b. planned o (take and_then insert_plan suppressed x p b and_then record_of xs a b) d in
     on_ok_weaker c.queue_tree_record.result
-    (λ told. told ∙ ap (λ ks. tell ks c.inserting.new.parts) c.as_slice.ensures.value ∙ ap (tell added) c.in_ok-inserting.ensures
+    (λ told. told ∙ ap (λ ks. tell ks c.inserting.new.parts) c.as_slice.ensures ∙ ap (tell added) c.in_ok-inserting.ensures
     ∙ ap (λ s. tell added (put s)) (c.in_ok-removing.ensures ∙ ap (λ w. planned w take d) child_owner)
     ∙ ap (planned o (record_of (map (name_in d) added) before ref))
     (planned_then o take (insert_plan suppressed x p ref) d alone (keeps-removing (own_moves o) suppressed y))
@@ -78,7 +78,7 @@ pub queue_tree_record-requires-clause-added_are_nodes : goal.queue_tree_record-r
 queue_tree_record-requires-clause-added_are_nodes c =
     let same : c.inserting.new.parts.names ≡ c.args.parts.now.names =
     ap (λ (s : DocState). s.names) c.in_ok-inserting.ensures ∙ ap (λ (s : DocState). s.names) c.in_ok-removing.ensures in
-    subst (AreNodes c.inserting.new.parts) (sym c.as_slice.ensures.value)
+    subst (AreNodes c.inserting.new.parts) (sym c.as_slice.ensures)
     (nodes_kept c.args.parts.now c.inserting.new.parts same c.in_ok-added.added.items c.in_ok-added.ensures.nodes)
 
 pub inserting-requires-clause-bounds : goal.inserting-requires-clause-bounds
