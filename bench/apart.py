@@ -23,7 +23,8 @@ from kinds import down, new_range, wide  # noqa: E402
 
 PROGRAM = os.path.join(os.path.dirname(os.path.abspath(__file__)), "..", "crates", "domrun", "out", "domrun")
 SIZES = (500, 2000)
-TURNS = 1000
+# So many lines are counted that what a run pays once, at its end, for all that it frees counts for little.
+TURNS = 2000
 LAST = 14
 
 # A list of ten rows, the first of which holds a Text; a row and a section beside it; and one each of what a page may have.
