@@ -68,8 +68,8 @@ OBSERVERS = {
         p .""")),
     "removal-notifies": Known(
         "fixed", "F",
-        "`remove` and `adopt` of a node below one that an observer observes, whatever it asks for: a notification is queued, which "
-        "then stands before microtasks that come before the first record", lines("""
+        "`remove` and `adopt` of a node below one that an observer observes, whatever it asks for, and a Text there that `normalize` takes: "
+        "a notification is queued, which then stands before microtasks that come before the first record", lines("""
         p new element a
         p new element b
         p append n1 n2

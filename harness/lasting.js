@@ -201,7 +201,7 @@
       const taken = run.queue.wanted ? run.queue.wanted.taken : [];
       for (const { lasting } of following) for (const one of taken) if (noteLeft(lasting, one)) run.queue.noteFirst("leaving-notifies");
       const isBelow = ({ lasting }) => taken.some(({ above }) => above.some((node) => lasting.observed.has(node)));
-      if (["remove", "adopt"].includes(name) && following.some(isBelow)) run.queue.noteFirst("removal-notifies");
+      if (["remove", "adopt", "normalize"].includes(name) && following.some(isBelow)) run.queue.noteFirst("removal-notifies");
       return following.length > 0 && !run.habits.observesWhatLeft && following.map(keepLeft).includes(true);
     } };
   }
