@@ -1,18 +1,22 @@
 /* Preloaded into a program: of its requests for memory the one with the number in REFUSED is refused, and file 9 then has a
- * byte: `!`, or `-` where nothing was read yet. Each read of standard input gives one byte, which is written to file 8 too. */
+ * byte: `!`, or `-` where nothing was read yet, or where so much was asked for as an arena asks for a chunk of cells. Each read of
+ * standard input gives one byte, which is written to file 8 too. */
 #define _GNU_SOURCE
 #include <dlfcn.h>
 #include <errno.h>
 #include <stdlib.h>
 #include <unistd.h>
 
+/* An arena's second chunk has nearly a kilobyte, and each further one twice as much. Its first is smaller. */
+enum { CHUNK = 900 };
+
 static long count;
 static int has_read;
 
-static int is_refused(void) {
+static int is_refused(size_t size) {
     const char *number = getenv("REFUSED");
     if (number == NULL || ++count != atol(number)) return 0;
-    if (write(9, has_read ? "!" : "-", 1) != 1) abort();
+    if (write(9, has_read && size < CHUNK ? "!" : "-", 1) != 1) abort();
     errno = ENOMEM;
     return 1;
 }
@@ -23,17 +27,17 @@ static int is_refused(void) {
 
 void *malloc(size_t size) {
     NEXT(malloc);
-    return is_refused() ? NULL : next(size);
+    return is_refused(size) ? NULL : next(size);
 }
 
 void *realloc(void *old, size_t size) {
     NEXT(realloc);
-    return is_refused() ? NULL : next(old, size);
+    return is_refused(size) ? NULL : next(old, size);
 }
 
 void *aligned_alloc(size_t alignment, size_t size) {
     NEXT(aligned_alloc);
-    return is_refused() ? NULL : next(alignment, size);
+    return is_refused(size) ? NULL : next(alignment, size);
 }
 
 ssize_t read(int file, void *buffer, size_t size) {

@@ -225,6 +225,7 @@ fn move_before<T>(rt: &impl Abort, arena: &mut Arena<T>, root: Key, child: Key, 
 {
     arena.remember_siblings(child, usize::MAX);
     arena.unlink(child);
+    assert!(rt; arena.index_below(child, usize::MAX) == Some(0));
     arena.remember_siblings(next, usize::MAX);
     link(rt, arena, root, child, Some(next));
 }
@@ -258,6 +259,7 @@ fn reorder<T>(
         let child = child_at(rt, arena, children, number);
         order.insert(to, number)?;
         move_before(rt, arena, root, child, next);
+        assert!(rt; arena.index_below(next, usize::MAX) == Some(to + 1));
         assert!(rt; arena.index_below(child, usize::MAX) == Some(to));
     }
     Ok(())

@@ -1,23 +1,21 @@
--- Where owned cells lie: each in a block of the heap, and no two at one place. Assumes `Logic`.
+-- Where owned cells lie: each in a block, and no two at one place. Assumes `Logic`.
 use Rattle.std.proofs.Common.{◌≡◌, ◌<◌, true, false, List, [], ◌∷◌, None, refl, subst, arith}
 use seplogic.Ra.Ura.{Ura}
 use base.Fraction.{full_share}
 use mir.Val.{Val}
-use base.Logic.{ent, sep, never, never_e, via, fst∗, snd∗}
+use base.Logic.{ent, sep, never, never_e, via, fst∗}
 use base.Fml.{fat, froom}
 use prog.Memory.{size}
 use prog.Model.{Model}
 use types.Logic.{Logic, sem}
-use contract.Monad.{fact, fact_i, fact_use, fact_mono}
+use contract.Monad.{fact, fact_i, fact_use}
 use types.Kit.{Item, Goal, Seq, mean, prop, ‵, raw, some, ◌⊛◌, ◌$◌, ◌∵◌, !, qed, by, move, keep, use1, use2, pick, split, fsplit, done}
 use denote.RattleType.{RattleType}
-use denote.Memory.{part_at, lone}
-use mir.Raw.{raw as bare}
+use denote.Memory.{part_at}
 use denote.Param.{param, layout}
-use denote.RawPtr.{Ptr, block_ptr, null_ptr, lies_at, InBlock, Testable}
-use Rattle.std.proofs.GlobalToken.{dealloc_token-Testable}
+use denote.RawPtr.{Ptr, block_ptr, null_ptr, lies_at}
 use borrow.Table.OneValue.{part_out}
-use Rattle.node_arena.specs.Owned.{may_free, Placed, same_ptr, value_at, pool_owns}
+use Rattle.node_arena.specs.Owned.{Heap, Placed, same_ptr, value_at, pool_owns}
 use Rattle.node_arena.proofs.Places.{same_ptr_eq}
 
 module _ {M : Type 1} {𝓤 : Ura M} {𝓛 : Logic 𝓤} {K : Type 0} {Γ : List (Item 𝓤)} {G : Goal 𝓤 𝓛.H} where
@@ -53,21 +51,11 @@ module _ {M : Type 1} {𝓤 : Ura M} (𝓛 : Logic 𝓤) (𝓜 : Model 𝓤 𝓛
         | false ↦ λ e. fact_i 𝓤 (same_ptr p q ≡ false) _ e
       ]) refl
 
-  -- a boxed value lies in a block, and its pointer may be compared with null
-  pub boxed : (p : Ptr) (x : V.Denot) → ent 𝓤 (sep 𝓤 (sem 𝓛 (lies_at R full_share p x)) (sem 𝓛 (may_free (bare (lone R.mir)) p)))
-      (fact 𝓤 (InBlock p × Testable p))
-  boxed (block_ptr b o) x =
-      let p : Ptr = block_ptr b o in
-      via 𝓤 (sem 𝓛 (may_free (bare (lone R.mir)) p)) (snd∗ 𝓤 (sem 𝓛 (lies_at R full_share p x)) (sem 𝓛 (may_free (bare (lone R.mir)) p)))
-      (via 𝓤 (fact 𝓤 (Testable p)) (dealloc_token-Testable 𝓛 (record { memory = record { seal = tt } }) (bare (lone R.mir)) p)
-      (fact_mono 𝓤 (Testable p) (InBlock p × Testable p) (λ t. (tt, t))))
-  boxed null_ptr x = via 𝓤 (never 𝓤) (fst∗ 𝓤 (never 𝓤) (sem 𝓛 (may_free (bare (lone R.mir)) null_ptr))) (never_e 𝓤 _)
-
   -- a cell that the pool does not own lies apart from those that it owns
-  pub fresh : (ns : List (Placed V.Denot)) (p : Ptr) (x : V.Denot) →
-      ent 𝓤 (sep 𝓤 (sem 𝓛 (lies_at R full_share p x)) (sem 𝓛 (pool_owns R ns))) (fact 𝓤 (value_at ns p ≡ None))
-  fresh [] p x = fact_i 𝓤 (value_at {V = V.Denot} [] p ≡ None) _ refl
-  fresh (n ∷ ns) p x =
-      qed 𝓛 (‵ (lies_at R full_share p x) ∷ ‵ (pool_owns R (n ∷ ns)) ∷ []) ∵ move ! (1 ∷ []) $ fsplit ! $ fsplit ! $ move ! (0 ∷ 3 ∷ []) $
+  pub fresh : (heap : Heap) (ns : List (Placed V.Denot)) (p : Ptr) (x : V.Denot) →
+      ent 𝓤 (sep 𝓤 (sem 𝓛 (lies_at R full_share p x)) (sem 𝓛 (pool_owns heap R ns))) (fact 𝓤 (value_at ns p ≡ None))
+  fresh heap [] p x = fact_i 𝓤 (value_at {V = V.Denot} [] p ≡ None) _ refl
+  fresh heap (n ∷ ns) p x =
+      qed 𝓛 (‵ (lies_at R full_share p x) ∷ ‵ (pool_owns heap R (n ∷ ns)) ∷ []) ∵ move ! (1 ∷ []) $ fsplit ! $ fsplit ! $ move ! (0 ∷ 3 ∷ []) $
       knows ! (same_ptr n.at p ≡ false) (differ n.at p n.value x) (λ here. move ! (1 ∷ 3 ∷ []) $
-      knows ! (value_at ns p ≡ None) (fresh ns p x) (λ rest. by ! (fact_i 𝓤 (value_at (n ∷ ns) p ≡ None) _ (rw here rest))))
+      knows ! (value_at ns p ≡ None) (fresh heap ns p x) (λ rest. by ! (fact_i 𝓤 (value_at (n ∷ ns) p ≡ None) _ (rw here rest))))

@@ -1,12 +1,12 @@
 -- The numbers of places in a list of them, and what stands at a number of a list.
-use Rattle.std.proofs.Common.{◌≡◌, ℕ, zero, suc, ◌⊎◌, true≢false, inl, inr, true, false, List, [], ◌∷◌, ◌++◌, length, set, Option, Some, None, IsSome}
+use Rattle.std.proofs.Common.{◌≡◌, ℕ, zero, suc, ◌⊎◌, true≢false, inl, inr, Bool, true, false, List, [], ◌∷◌, ◌++◌, length, set, Option, Some, None, IsSome}
 use Rattle.std.proofs.Common.{slice_get, drop, refl, sym, ap, ◌∙◌, subst}
 use Rattle.std.specs.Option.{option_map, is_some}
 use Rattle.std.proofs.lemmas.Bool.{cases_Bool}
 use Rattle.std.proofs.lemmas.Option.{none-some, same_Some}
 use denote.RawPtr.{Ptr, block_ptr, null_ptr, InBlock}
 use Rattle.node_arena.specs.Owned.{Placed, placed, same_ptr, value_at, set_at, without_at}
-use Rattle.node_arena.specs.Store.{number_of, key_at, LeadsInside, places_of}
+use Rattle.node_arena.specs.Store.{number_of, key_at, IsMarked, places_of}
 use Rattle.node_arena.proofs.Places.{same_ptr_eq, same_ptr-refl}
 
 module _ {X : Type 0} where
@@ -74,23 +74,19 @@ number-key ps (block_ptr b o) k h = h
 number-key ps null_ptr k h = absurd (none-some k h)
 
 -- a place with a key is that of a cell
-pub leads-key : (ps : List Ptr) (p : Ptr) (k : ℕ) → key_at ps p ≡ Some k → LeadsInside ps p
-leads-key ps (block_ptr b o) k h = rw h refl
-leads-key ps null_ptr k h = tt
-
--- null leads nowhere
-pub leads-null : (ps : List Ptr) (p : Ptr) → p ≡ null_ptr → (key_at ps p ≡ None) × LeadsInside ps p
-leads-null ps p e = subst (λ q. (key_at ps q ≡ None) × LeadsInside ps q) (sym e) (refl, tt)
+pub leads-key : (ps : List Ptr) (p : Ptr) (k : ℕ) → key_at ps p ≡ Some k → IsMarked ps true p
+leads-key ps p k h = rw h refl
 
 -- where another cell comes last each link leads where it did
-pub key-kept : (ps : List Ptr) (p q : Ptr) → LeadsInside ps q → key_at (ps ++ p ∷ []) q ≡ key_at ps q
-key-kept ps p (block_ptr b o) h = number-kept ps p (block_ptr b o) h
-key-kept ps p null_ptr h = refl
+pub key-kept : (ps : List Ptr) (p q : Ptr) (mark : Bool) → IsMarked ps mark q → key_at (ps ++ p ∷ []) q ≡ key_at ps q
+key-kept ps p (block_ptr b o) true h = number-kept ps p (block_ptr b o) h
+key-kept ps p (block_ptr b o) false h = ap (key_at (ps ++ p ∷ [])) h ∙ sym (ap (key_at ps) h)
+key-kept ps p null_ptr mark h = refl
 
 -- and leads to a cell as it did
-pub leads-kept : (ps : List Ptr) (p q : Ptr) → LeadsInside ps q → LeadsInside (ps ++ p ∷ []) q
-leads-kept ps p (block_ptr b o) h = rw (number-kept ps p (block_ptr b o) h) h
-leads-kept ps p null_ptr h = tt
+pub leads-kept : (ps : List Ptr) (p q : Ptr) (mark : Bool) → IsMarked ps mark q → IsMarked (ps ++ p ∷ []) mark q
+leads-kept ps p q true h = rw (key-kept ps p q true h) h
+leads-kept ps p q false h = h
 
 module _ {V : Type 0} where
   -- the cell of a number, which is found by its place and written there

@@ -14,7 +14,7 @@ use denote.Sharing.{ShrLaws}
 use denote.SharingLaws.{beside_shr_laws, nothing_shr_laws}
 use denote.Shares.{Shares-less}
 use denote.Struct.Lending.{Lends, lent_at, lent_at_shr_laws, Lends-lies, Lends-first, Lends-both, Lends-nothing}
-use Rattle.node_arena.specs.Owned.{may_free, Placed, cell_owns, pool_owns, pool_lent}
+use Rattle.node_arena.specs.Owned.{Heap, may_free, Placed, cell_owns, pool_owns, pool_lent}
 
 module _ (V : RattleType) (LV : RowLaws V) where
   -- what is lent of all cells is shared as any reference is
@@ -22,17 +22,17 @@ module _ (V : RattleType) (LV : RowLaws V) where
   pool_lent_laws [] = nothing_shr_laws
   pool_lent_laws (n ∷ ns) = beside_shr_laws _ _ (lent_at_shr_laws V LV n.at n.value) (pool_lent_laws ns)
 
-module _ {M : Type 1} {𝓤 : Ura M} (𝓛 : Logic 𝓤) (l : Lft) (V : RattleType) (LV : Laws V) (inc : Incl l V.lives) where
+module _ {M : Type 1} {𝓤 : Ura M} (𝓛 : Logic 𝓤) (l : Lft) (heap : Heap) (V : RattleType) (LV : Laws V) (inc : Incl l V.lives) where
   -- a borrow of a cell's block lends the cell
-  Lends-cell : (n : Placed V.Denot) → Lends 𝓛 (cell_owns V n) (lent_at V n.at n.value) l
+  Lends-cell : (n : Placed V.Denot) → Lends 𝓛 (cell_owns heap V n) (lent_at V n.at n.value) l
   Lends-cell n =
-      Lends-first 𝓛 (lies_at V full_share n.at n.value) (may_free (bare (lone V.mir)) n.at) (lent_at V n.at n.value) l
+      Lends-first 𝓛 (lies_at V full_share n.at n.value) (may_free heap (bare (lone V.mir)) n.at) (lent_at V n.at n.value) l
       (Lends-lies 𝓛 V l n.at n.value (Shares-less 𝓛 V V.lives l inc (LV.shares 𝓛) n.value))
 
   -- a borrow of all blocks lends all cells
-  pub Lends-pool : (ns : List (Placed V.Denot)) → Lends 𝓛 (pool_owns V ns) (pool_lent V ns) l
+  pub Lends-pool : (ns : List (Placed V.Denot)) → Lends 𝓛 (pool_owns heap V ns) (pool_lent V ns) l
   Lends-pool [] = Lends-nothing 𝓛 ftrue l
-  Lends-pool (n ∷ ns) = Lends-both 𝓛 (cell_owns V n) (pool_owns V ns) (lent_at V n.at n.value) (pool_lent V ns) l (Lends-cell n) (Lends-pool ns)
+  Lends-pool (n ∷ ns) = Lends-both 𝓛 (cell_owns heap V n) (pool_owns heap V ns) (lent_at V n.at n.value) (pool_lent V ns) l (Lends-cell n) (Lends-pool ns)
 
 -- what is lent of all shows what is lent of one
 module _ {M : Type 1} {𝓤 : Ura M} (𝓛 : Logic 𝓤) (V : RattleType) (κ : Lft) where

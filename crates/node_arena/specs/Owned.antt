@@ -7,7 +7,11 @@ use denote.RawPtr.{Ptr, block_ptr, null_ptr}
 use denote.Struct.Lending.{lent_at}
 use Rattle.std.specs.Box.Ownership.{box_owns}
 use mir.Syntax.{Ty}
-use Rattle.std.specs.contracts.impls.GlobalAllocator.TheImpl.{ghosts}
+use Rattle.std.specs.Coded.{Coded}
+use Rattle.std.specs.contracts.alloc.Global.{the_row as GlobalRow}
+use Rattle.std.specs.contracts.impls.GlobalAllocator.TheImpl.{ghosts as global}
+use Rattle.bumpalo.specs.contracts.bump.Bump.{the_row as BumpRow}
+use Rattle.bumpalo.specs.contracts.bump.BumpAllocator.TheImpl.{ghosts, no_dict}
 
 -- own rule: a cell: where it lies, and what it holds
 pub record Placed (V : Type 0) : Type 0 where
@@ -25,9 +29,21 @@ same_ptr (block_ptr b o) null_ptr = false
 same_ptr null_ptr (block_ptr c p) = false
 same_ptr null_ptr null_ptr = true
 
--- own rule: the right to free a block of the heap
-abbrev pub may_free : Ty → Ptr → Fml
-may_free = ghosts.dealloc_token (record { memory = record { seal = tt } })
+-- own rule: the type of the bump allocator from which the blocks of the cells come
+abbrev pub HeapRow : RattleType
+HeapRow = BumpRow GlobalRow global
+
+-- own rule: such an allocator
+abbrev pub Heap : Type 0
+Heap = HeapRow.Denot
+
+-- own rule: its code
+abbrev pub heap_code : Coded Heap
+heap_code = HeapRow.coded
+
+-- own rule: the right to give a block back to it
+abbrev pub may_free : Heap → Ty → Ptr → Fml
+may_free = (ghosts GlobalRow global no_dict no_dict).dealloc_token
 
 module _ {V : Type 0} where
   -- own rule: what the cell at p holds, if one lies there
@@ -45,16 +61,17 @@ module _ {V : Type 0} where
   without_at [] p = []
   without_at (n ∷ ns) p = if same_ptr n.at p then ns else n ∷ without_at ns p
 
-module _ (V : RattleType) where
+module _ (heap : Heap) (V : RattleType) where
   -- own rule: a cell's block, and the right to free it
   abbrev pub cell_owns : Placed V.Denot → Fml
-  cell_owns n = box_owns may_free V n.at n.value
+  cell_owns n = box_owns (may_free heap) V n.at n.value
 
   -- own rule: the blocks of all cells
   abbrev pub pool_owns : List (Placed V.Denot) → Fml
   pool_owns [] = ftrue
   pool_owns (n ∷ ns) = fsep (cell_owns n) (pool_owns ns)
 
+module _ (V : RattleType) where
   -- own rule: what the holder of a `&` to the pool has of its cells
   abbrev pub pool_lent : List (Placed V.Denot) → Lft → Fml
   pool_lent [] = nothing

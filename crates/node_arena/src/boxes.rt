@@ -1,5 +1,6 @@
 //! A box taken apart.
 ghost use Rattle.std.specs.Prelude.{◌≡◌};
+ghost use Rattle.std.specs.Box.{box_allocator};
 ghost use Rattle.std.specs.Box.Ownership.{box_owns};
 
 use std::alloc::Allocator;
@@ -19,7 +20,8 @@ impl<T, A: Allocator> Model for Raw<T, A> {
 impl<T: Drop, A: Allocator> Raw<T, A> {
     /// The box taken apart.
     pub fn of(value: Box<T, A>) -> Raw<T, A>
-        ensures { result.value ≡ value.value }
+        ensures value { result.value ≡ value.value }
+        ensures allocator { result.alloc ≡ box_allocator value }
     {
         let (at, alloc) = Box::into_raw_with_allocator(value);
         Raw { at, alloc }

@@ -37,12 +37,11 @@ impl<'a, T> CellAt<'a, T> {
         ensures value { key_in result ≡ link_at self.now.whole.links self.now.key link }
         ensures same { ForSome result (λ c. c.whole ≡ self.now.whole) }
     {
-        let to = self.cell.pointer(link);
-        if to.is_nowhere() {
+        if !self.cell.leads(link) {
             return None;
         }
         let pool = self.pool;
-        let cell = pool.get(to);
+        let cell = pool.get(self.cell.pointer(link));
         Some(CellAt { pool, cell })
     }
 

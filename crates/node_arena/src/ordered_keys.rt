@@ -12,7 +12,7 @@ use std::alloc::{AllocError, Global};
 use std::marker::Model;
 
 /// A block gets so many keys before another one is begun behind it, and is cut in two when it has twice as many.
-const FILLED: usize = 64;
+const FILLED: usize = 32;
 
 /// Keys in order, in blocks. For each key there is the number of the block that has it; what stands there for others
 /// means nothing.

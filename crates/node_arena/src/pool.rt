@@ -1,17 +1,16 @@
-//! The cells that a pool owns, each in a block of its own.
+//! The cells that a pool owns, each in a block of a bump allocator.
 ghost use Rattle.std.specs.Prelude.{◌≡◌, ◌<◌, List, [], ◌∷◌, ◌++◌, IsSome, Some, None};
 ghost use prog.Memory.{size};
 ghost use denote.Param.{layout};
-ghost use denote.RawPtr.{null_ptr, InBlock, Testable};
-ghost use Rattle.std.specs.Bool.{MatchBool};
+ghost use denote.RawPtr.{null_ptr, InBlock};
 ghost use Rattle.std.specs.Borrow.{sem};
 ghost use Rattle.std.specs.Box.Ownership.{box_owns};
-ghost use Rattle.node_arena.specs.Owned.{may_free, Placed, placed, value_at, without_at, pool_owns, pool_lent};
+ghost use Rattle.node_arena.specs.Owned.{Heap, heap_code, may_free, Placed, placed, value_at, without_at, pool_owns, pool_lent};
 
 use crate::boxes::Raw;
-use std::alloc::Global;
+use bumpalo::Bump;
 use std::marker::{Model, PhantomData};
-use std::ptr::{self, NonNull};
+use std::ptr;
 
 /// Where a cell lies, whatever it holds, or null. It owns nothing.
 #[derive(Clone, Copy)]
@@ -28,37 +27,32 @@ impl Place {
             ptr: ptr::null_mut(),
         }
     }
-
-    /// Whether no cell lies here.
-    pub(crate) fn is_nowhere(self) -> bool
-        requires { Testable self.ptr }
-        ensures { MatchBool result (self.ptr ≡ null_ptr) (InBlock self.ptr) }
-    {
-        NonNull::new(self.ptr).is_none()
-    }
 }
 
-/// A boxed cell that is in no pool, by its pointer.
+/// A boxed cell that is in no pool, by its pointer, and the heap of its block.
 pub(crate) struct Loose<V> {
     pub(crate) at: *mut V,
+    pub(crate) ghost heap: { Heap } by { heap_code },
     pub(crate) ghost value: { V },
 }
 
 impl<V> Model for Loose<V> {
-    ghost also_owns = { λ l. box_owns may_free V.row l.at l.value };
+    ghost also_owns = { λ l. box_owns (may_free l.heap) V.row l.at l.value };
 }
 
 impl<V> Loose<V> {
-    /// The cell of a box of the heap, whose allocator takes no space and is forgotten.
-    pub(crate) fn of(cell: Raw<V, Global>) -> Loose<V>
-        ensures { result.value ≡ cell.value }
+    /// The cell of a box, whose allocator is forgotten.
+    pub(crate) fn of(cell: Raw<V, &Bump>) -> Loose<V>
+        ensures value { result.value ≡ cell.entry.value }
+        ensures heap { result.heap ≡ cell.entry.alloc.now }
     {
         let Raw { at, alloc: _ } = cell;
         Loose { at }
     }
 
-    /// The box again, of the heap.
-    pub(crate) fn into_raw(self, alloc: Global) -> Raw<V, Global>
+    /// The box again, of its heap.
+    pub(crate) fn into_raw<'a>(self, alloc: &'a Bump) -> Raw<V, &'a Bump>
+        requires { self.heap ≡ alloc.now }
         ensures { result.value ≡ self.value }
     {
         let Loose { at } = self;
@@ -66,14 +60,15 @@ impl<V> Loose<V> {
     }
 }
 
-/// The owner of the cells. It takes no space.
+/// The owner of the cells, all of one heap. It takes no space.
 pub(crate) struct Pool<V> {
     mark: PhantomData<*mut V>,
+    ghost heap: { Heap } by { heap_code },
     ghost cells: { List (Placed V) },
 }
 
 impl<V> Model for Pool<V> {
-    ghost also_owns = { λ p. pool_owns V.row p.cells };
+    ghost also_owns = { λ p. pool_owns p.heap V.row p.cells };
 
     ghost also_shares = { λ p _ κ. pool_lent V.row p.cells κ };
 }
@@ -100,9 +95,10 @@ impl<V> Pool<V> {
 }
 
 impl<V> Pool<V> {
-    /// A pool without cells.
-    pub(crate) fn new() -> Pool<V>
-        ensures { result.cells ≡ [] }
+    /// A pool without cells, for those of a heap.
+    pub(crate) fn new(_heap: &Bump) -> Pool<V>
+        ensures cells { result.cells ≡ [] }
+        ensures heap { result.heap ≡ _heap.now }
     {
         Pool { mark: PhantomData }
     }
@@ -116,9 +112,11 @@ impl<V> Pool<V> {
 
     /// Takes a cell in, and tells where it lies.
     pub(crate) fn put(&mut self, cell: Loose<V>) -> Place
-        requires { 0 < size (layout V.row) }
+        requires sized { 0 < size (layout V.row) }
+        requires heap { cell.heap ≡ self.old.heap }
         ensures fresh { value_at self.old.cells result.ptr ≡ None }
-        ensures tested { InBlock result.ptr × Testable result.ptr }
+        ensures within { InBlock result.ptr }
+        ensures same_heap { self.new.heap ≡ self.old.heap }
         ensures cells { self.new.cells ≡ self.old.cells ++ placed result.ptr cell.value ∷ [] }
     {
         let Loose { at } = cell;
@@ -129,6 +127,8 @@ impl<V> Pool<V> {
     pub(crate) fn take(&mut self, at: Place) -> Loose<V>
         requires { IsSome (value_at self.old.cells at.ptr) }
         ensures value { value_at self.old.cells at.ptr ≡ Some result.value }
+        ensures heap { result.heap ≡ self.old.heap }
+        ensures same_heap { self.new.heap ≡ self.old.heap }
         ensures cells { self.new.cells ≡ without_at self.old.cells at.ptr }
     {
         Loose {

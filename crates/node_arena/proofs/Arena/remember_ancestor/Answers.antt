@@ -7,4 +7,5 @@ invariant_of-self g c = record {
   recent = c.self.invariant.recent;
   other = c.self.invariant.other;
   above = rw (← c.self.view_is) at (c.if-not-stands_above.ensures.0 refl);
+  index = c.self.invariant.index;
 }

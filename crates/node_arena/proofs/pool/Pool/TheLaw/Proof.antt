@@ -16,4 +16,4 @@ use Rattle.node_arena.proofs.Sharing.{pool_lent_laws, Lends-pool}
 pub shares : (V : RattleType) (L : Laws V) → statement V L
 shares V L = of_Lends (C.struct V) (C.the_codes V.Denot V.coded (marker.the_row RawPtr).coded) (C.the_heap V) (C.the_lent V)
     (λ d p. pool_lent_laws V L.shr_laws d.cells) (copy_shared (marker.the_field RawPtr) (field_copy (marker.the_type RawPtr) tt), tt)
-    (λ M 𝓤 𝓛 d p. Lends-pool 𝓛 (C.the_row V).lives V L (Incl-trans (meet_⊑_left (V.lives ++ []) _) (meet_⊑_left V.lives [])) d.cells)
+    (λ M 𝓤 𝓛 d p. Lends-pool 𝓛 (C.the_row V).lives d.heap V L (Incl-trans (meet_⊑_left (V.lives ++ []) _) (meet_⊑_left V.lives [])) d.cells)

@@ -52,8 +52,8 @@ use Rattle.node_arena.proofs.pool.Pool.get_mut.Code as code
 -- all of the pool but the value of one cell, and the pool with another value in that cell
 module _ (V : RattleType) {M : Type 1} {𝓤 : Ura M} (𝓛 : Logic 𝓤) (d : (C.the_row V).Denot) (p : Ptr) (spot : First d.cells p) (vs : List Val) (b o : ℕ) where
   abbrev Rest : Fml
-  Rest = fsep (may_free (bare (lone V.mir)) spot.cell.at)
-      (fsep (pool_owns V (spot.before ++ spot.after))
+  Rest = fsep (may_free d.heap (bare (lone V.mir)) spot.cell.at)
+      (fsep (pool_owns d.heap V (spot.before ++ spot.after))
       (fsep ((Struct (shape (C.the_type V))).own_val (tt, tt) vs) (cell_at full_share (C.the_row V).mir vs b o)))
 
   back : (pb po : ℕ) → spot.cell.at ≡ block_ptr pb po → (w : V.Denot) →
@@ -62,9 +62,9 @@ module _ (V : RattleType) {M : Type 1} {𝓤 : Ura M} (𝓛 : Logic 𝓤) (d : (
   back pb po e w =
       let m : Placed V.Denot = placed spot.cell.at w in
       qed 𝓛 (‵ (part_at V full_share w pb po) ∷ ‵ Rest ∷ []) ∵ rewrite ! 0 (λ (q : Ptr). ‵ (lies_at V full_share q w)) (sym e) refl $
-      move ! (1 ∷ []) $ fsplit3 ! $ move ! (3 ∷ 0 ∷ []) $ fjoin ! $ use2 𝓛 (‵ (pool_owns V (spot.before ++ m ∷ spot.after)))
-      (cell_glue 𝓛 V spot.before m spot.after) $
-      rewrite ! 0 (λ (ns : List (Placed V.Denot)). ‵ (pool_owns V ns)) (sym (spot.set w)) refl $
+      move ! (1 ∷ []) $ fsplit3 ! $ move ! (3 ∷ 0 ∷ []) $ fjoin ! $ use2 𝓛 (‵ (pool_owns d.heap V (spot.before ++ m ∷ spot.after)))
+      (cell_glue 𝓛 d.heap V spot.before m spot.after) $
+      rewrite ! 0 (λ (ns : List (Placed V.Denot)). ‵ (pool_owns d.heap V ns)) (sym (spot.set w)) refl $
       move ! (1 ∷ []) $ fsplit ! $ move ! (0 ∷ 2 ∷ []) $ fjoin ! $ move ! (1 ∷ 0 ∷ []) $ fjoin ! $
       fpack ! (List Val) (λ us. fsep (cell_at full_share (C.the_row V).mir us b o) ((C.the_row V).own_val (with_cell d p w) us)) vs $ done !
 
@@ -90,8 +90,8 @@ get_mut_spec 𝓤 𝓛 𝓜 𝓡 wired V L =
     enter ! 𝓣.C 𝓣.Λ fn (vptr b o ∷ word p ∷ []) Post $ alloc_all ! (λ l. pass_all ! refl ((tt, tt), (word-Good [] p, tt)) $ let Ev = env fn.locals l in
     let xs = spot.before in let n : Placed V.Denot = spot.cell in let ys = spot.after in
     opens ! tt Pr {h = d} b o (λ vs. move ! (1 ∷ []) $ fsplit ! $ move ! (1 ∷ []) $
-    rewrite ! 0 (λ (ns : List (Placed V.Denot)). ‵ (pool_owns R ns)) spot.is refl $ use1 𝓛 (‵ (cell_owns R n) ⊛ ‵ (pool_owns R (xs ++ ys)))
-    (cell_cut 𝓛 R xs n ys) $ split ! $ fsplit ! $
+    rewrite ! 0 (λ (ns : List (Placed V.Denot)). ‵ (pool_owns d.heap R ns)) spot.is refl $ use1 𝓛 (‵ (cell_owns d.heap R n) ⊛ ‵ (pool_owns d.heap R (xs ++ ys)))
+    (cell_cut 𝓛 d.heap R xs n ys) $ split ! $ fsplit ! $
     in_a_block ! n.at (λ (q : Ptr). lies_at R full_share q n.value) (id⊢ 𝓤 (never 𝓤)) (λ pb po e.
     let ep : p ≡ block_ptr pb po = sym spot.at ∙ e in let there : Val = vptr pb po in let way = back R 𝓛 d p spot vs b o pb po e in let new =
     with_cell d p in let code' = Pr.coded.code d in

@@ -5,10 +5,10 @@ use mathlib.Core.List.{List, [], ◌∷◌, ◌++◌}
 use mir.Syntax.{a_type}
 use mir.MapTy.{inst_fn}
 use mir.Val.{Val, vptr}
-use base.Logic.{SProp, ent, emp, id⊢}
+use base.Logic.{SProp, ent, emp, never, id⊢}
 use base.Fml.{Lft, Fml, ftrue, fsep, flft}
 use prog.Wp.{WpFn}
-use types.Kit.{‵, raw, ◌⊛◌, ◌$◌, ◌∵◌, !, qed, by, move, keep, drop, use0, use1, use2, split, join, rewrite, fsplit, fsplit3, fjoin, fjoin3, feq_i}
+use types.Kit.{‵, raw, ◌⊛◌, ◌$◌, ◌∵◌, !, qed, by, move, keep, drop, use0, use1, use2, split, split3, join, rewrite, fsplit, fsplit3, fjoin, fjoin3, feq_i}
 use types.Kit.{feq_l, suffices}
 use types.Part.{whole, sub, agg}
 use types.Run.{stop, fld, of_opd, and_then, no_more, returns, enter}
@@ -20,7 +20,8 @@ use denote.Exit.{no}
 use denote.RattleType.{RattleType, owns}
 use denote.Signature.{types_at, plain}
 use denote.Param.{param, layout, layouts}
-use denote.RawPtr.{Ptr, InBlock, Testable}
+use base.Fraction.{full_share}
+use denote.RawPtr.{Ptr, InBlock, lies_at, in_a_block}
 use denote.Steps.{nothing, heard, opens, closes}
 use denote.Triple.Walked.{Stays, stay_ref, stay_dropped, walk_of, Goes-ref}
 use Rattle.std.proofs.lemmas.List.{append-nil}
@@ -29,8 +30,8 @@ use Rattle.std.proofs.raw_atomic.Walks.{proved_at, leaves}
 use Rattle.std_alloc.proofs.RcSteps.{word, word-Good, Ptr-Good}
 use Rattle.std.specs.Prelude.{◌<◌, None}
 use prog.Memory.{size}
-use Rattle.node_arena.specs.Owned.{Placed, placed, value_at, pool_owns}
-use Rattle.node_arena.proofs.Apart.{knows, boxed, fresh}
+use Rattle.node_arena.specs.Owned.{Heap, Placed, placed, value_at, cell_owns, pool_owns}
+use Rattle.node_arena.proofs.Apart.{knows, fresh}
 use Rattle.node_arena.proofs.Cutting.{cell_glue}
 use Rattle.node_arena.proofs.Words.{word_had, word_made}
 use Rattle.node_arena.specs.contracts.pool.Pool as C
@@ -54,19 +55,21 @@ put_spec 𝓤 𝓛 𝓜 𝓡 wired V L =
     let others : Fml = fsep (flft κs.1.0 qs.1.0) ftrue in let m : Placed V.Denot = placed p n.value in let new : Pr.Denot =
     record d { cells = d.cells ++ m ∷ [] } in
     qed 𝓛 (((‵ (flft κ qs.0) ⊛ ‵ others) ⊛ ‵ (owns (types_at En.signature.params κs) a z.0.4)) ∷ raw ((c κs a).requires z.1) ∷ []) ∵
-    split ! $ move ! (2 ∷ []) $ use1 𝓛 (raw (fact 𝓤 (κs.1.0 ⊑ V.lives)) ⊛ raw (fact 𝓤 (0 < size (layout V)))) (id⊢ 𝓤 _) $ split ! $ drop ! $ heard
-    ! (0 < size (layout V)) (λ sized. split ! $ move ! (2 ∷ []) $ fsplit ! $ fsplit3 ! $ feq_l !
+    split ! $ move ! (2 ∷ []) $ use1 𝓛
+    (raw (fact 𝓤 (κs.1.0 ⊑ V.lives)) ⊛ raw (fact 𝓤 (0 < size (layout V))) ⊛ raw (fact 𝓤 (n.heap ≡ d.heap))) (id⊢ 𝓤 _) $ split3 ! $ drop ! $
+    heard ! (0 < size (layout V)) (λ sized. heard ! (n.heap ≡ d.heap) (λ same. split ! $ move ! (2 ∷ []) $ fsplit ! $ fsplit3 ! $ feq_l !
     (λ e0. move ! (2 ∷ []) $ fsplit ! $ fsplit ! $ word_had ! p z.0.4.1.0 (λ e1.
     suffices ! (Run (vptr b o ∷ word p ∷ []))
     (subst (λ (us : List Val). ent 𝓤 (Run (vptr b o ∷ word p ∷ [])) (Run us)) (sym (λ i. e0 i ++ (e1 i ++ [])))
     (id⊢ 𝓤 (Run (vptr b o ∷ word p ∷ [])))) $
     move ! (1 ∷ []) $ drop ! $ move ! (1 ∷ 2 ∷ 3 ∷ []) $
     enter ! 𝓣.C 𝓣.Λ fn (vptr b o ∷ word p ∷ []) Post $ alloc_all ! (λ l. pass_all ! refl ((tt, tt), (word-Good [] p, tt)) $
-    opens ! tt Pr {h = d} b o (λ us. move ! (1 ∷ []) $ fsplit ! $ move ! (6 ∷ 1 ∷ []) $ fsplit ! $ knows ! (InBlock p × Testable p)
-    (boxed 𝓛 𝓜 V sized p n.value) (λ well. move ! (0 ∷ 2 ∷ []) $ knows ! (value_at d.cells p ≡ None) (fresh 𝓛 𝓜 V sized d.cells p n.value)
-    (λ apart. move ! (0 ∷ 2 ∷ []) $ fjoin ! $
-    rewrite ! 1 (λ (ns : List (Placed V.Denot)). ‵ (pool_owns R ns)) (sym (append-nil d.cells)) refl $ use2 𝓛
-    (‵ (pool_owns R (d.cells ++ m ∷ []))) (cell_glue 𝓛 R d.cells m []) $
+    opens ! tt Pr {h = d} b o (λ us. move ! (1 ∷ []) $ fsplit ! $ move ! (6 ∷ 1 ∷ []) $ fsplit ! $ in_a_block ! p
+    (λ (q : Ptr). lies_at R full_share q n.value) (id⊢ 𝓤 (never 𝓤)) (λ pb po e. let well : InBlock p = subst InBlock (sym e) tt in
+    rewrite ! 0 (λ (q : Ptr). ‵ (lies_at R full_share q n.value)) (sym e) refl $ move ! (0 ∷ 2 ∷ []) $ knows ! (value_at d.cells p ≡ None)
+    (fresh 𝓛 𝓜 V sized d.heap d.cells p n.value) (λ apart. move ! (0 ∷ 2 ∷ []) $ fjoin ! $
+    rewrite ! 0 (λ (h : Heap). ‵ (cell_owns h R m)) same refl $ rewrite ! 1 (λ (ns : List (Placed V.Denot)). ‵ (pool_owns d.heap R ns))
+    (sym (append-nil d.cells)) refl $ use2 𝓛 (‵ (pool_owns d.heap R (d.cells ++ m ∷ []))) (cell_glue 𝓛 d.heap R d.cells m []) $
     move ! (1 ∷ 0 ∷ []) $ fjoin ! $ move ! (1 ∷ []) $ closes ! tt Pr new us b o $
     sets ! (of_opd ! (get_in ! (fld ! refl (stop !)) (sub ! 0 refl (whole !)))) refl (Ptr-Good p) $ sets ! (of_opd ! (get ! refl)) refl
     (Ptr-Good p) $ sets ! (agg ! (and_then ! (get ! refl) (no_more !))) refl (word-Good [] p) $
@@ -74,7 +77,8 @@ put_spec 𝓤 𝓛 𝓜 𝓡 wired V L =
     returns ! (look_at ! 0 refl) $ free_all ! refl $ feq_i ! (List Val) z.0.4.0 (vptr b o ∷ []) e0 $ fjoin3 ! $ move ! (1 ∷ 2 ∷ []) $ join ! $
     nothing ! $ nothing ! $ fjoin ! $ move ! (2 ∷ 0 ∷ []) $ fjoin ! $ word_made ! p $
     use0 𝓛 (raw (fact 𝓤 (new.cells ≡ d.cells ++ m ∷ []))) (fact_i 𝓤 (new.cells ≡ d.cells ++ m ∷ []) (emp 𝓤) refl) $
-    use0 𝓛 (raw (fact 𝓤 (InBlock p × Testable p))) (fact_i 𝓤 (InBlock p × Testable p) (emp 𝓤) well) $ join ! $
+    use0 𝓛 (raw (fact 𝓤 (d.heap ≡ d.heap))) (fact_i 𝓤 (d.heap ≡ d.heap) (emp 𝓤) refl) $ join ! $
+    use0 𝓛 (raw (fact 𝓤 (InBlock p))) (fact_i 𝓤 (InBlock p) (emp 𝓤) well) $ join ! $
     use0 𝓛 (raw (fact 𝓤 (value_at d.cells p ≡ None))) (fact_i 𝓤 (value_at d.cells p ≡ None) (emp 𝓤) apart) $ join ! $
     keep ! (3 ∷ 2 ∷ 1 ∷ 0 ∷ []) $ by ! (leaves 𝓛 En hs c z (word p) (record { ptr = p }) (new, (tt, tt)) (tt, (tt, tt)))))))
-    ))))
+    )))))

@@ -15,10 +15,15 @@ put g c =
     let cells = c.self.inside.pool.cells in
     let null = c.nowhere-nowhere.result in
     let number : c.len-index.result ≡ length cells =
-    c.len-index.ensures ∙ c.self.inside.list.ok.0 ∙ sym (length-map list (λ p. p.ptr)) ∙ ap length c.self.invariant.places ∙ length-map cells (λ n. n.at) in
+    c.len-index.ensures ∙ c.self.inside.list.ok.0 ∙ sym (length-map list (λ p. p.ptr)) ∙ ap length c.self.invariant.1.places ∙ length-map cells (λ n. n.at) in
     let value : c.of-2.result.value ≡ alone c.args.payload (length cells) null =
-    c.of-2.ensures ∙ c.of.ensures ∙ c.in_ok-kept.ensures.ok ∙ ap (λ k. alone c.args.payload k null) number in
+    c.of-2.ensures.value ∙ c.of.ensures.value ∙ c.in_ok-kept.ensures.ok ∙
+    (λ i. record (alone c.args.payload (number i) null) { marks = c.none.ensures i }) in
     c.put-place.ensures.cells ∙ ap (λ v. cells ++ placed c.put-place.result.ptr v ∷ []) value
+
+pub put-place-requires-clause-heap : goal.put-place-requires-clause-heap
+put-place-requires-clause-heap g c =
+    c.of-2.ensures.heap ∙ ap (λ r. r.now) (c.of.ensures.allocator ∙ c.in_ok-kept.ensures.allocator) ∙ sym c.self.invariant.0
 
 pub invariant_of-self-2 : goal.invariant_of-self-2
 invariant_of-self-2 g c =
@@ -32,10 +37,12 @@ invariant_of-self-2 g c =
     c.push.ensures.items ∙ ap (λ b. cond b (c.reserve.new.self.items ++ place ∷ []) c.reserve.new.self.items) pushed ∙
     ap (λ ps. ps ++ place ∷ []) c.reserve.ensures.items in
     let at_place : IsFree cells place =
-    record { absent = c.put-place.ensures.fresh; within = c.put-place.ensures.tested.0; tested = c.put-place.ensures.tested.1 } in
-    rw (listed, put g (goal.at.invariant_of-self-2 g c).After-put-place)
-    (IsWired-push c.nowhere-nowhere.result c.args.payload c.self.invariant c.nowhere-nowhere.ensures at_place)
+    record { absent = c.put-place.ensures.fresh; within = c.put-place.ensures.within } in (
+      c.put-place.ensures.same_heap ∙ c.self.invariant.0,
+      rw (listed, put g (goal.at.invariant_of-self-2 g c).After-put-place)
+          (IsWired-push c.nowhere-nowhere.result c.args.payload c.self.invariant.1 c.nowhere-nowhere.ensures at_place),
+    )
 
 pub returns-clause-ok : goal.returns-clause-ok
 returns-clause-ok g c = rw (put g (goal.at.returns-clause-ok g c).After-put-place, ← c.self.view_is)
-    (seen-push c.put-place.result c.nowhere-nowhere.result c.args.payload c.self.invariant c.nowhere-nowhere.ensures)
+    (seen-push c.put-place.result c.nowhere-nowhere.result c.args.payload c.self.invariant.1 c.nowhere-nowhere.ensures)
