@@ -1,5 +1,5 @@
 //! The names of nodes.
-ghost use Rattle.std.specs.Prelude.{◌≡◌, ◌++◌, map, All, IfOk, OnOk};
+ghost use Rattle.std.specs.Prelude.{◌≡◌, ◌≤◌, ℕ, ◌++◌, length, map, take, All, IfOk, OnOk, OnErr};
 ghost use Rattle.dom_tree.specs.Forest.{IsNode, name_of};
 
 use dom_base::NodeName;
@@ -17,11 +17,13 @@ pub fn names_of(alloc: Global, forest: &Forest, keys: &[Key]) -> Result<Vec<Node
     Ok(names)
 }
 
-/// Puts the names of nodes, in their order, behind others. The only error is memory refused; some of the names may have been put then
+/// Puts the names of nodes, in their order, behind others. The only error is memory refused: then the names of the first so many are put
 /// (own rule).
 pub fn put_names(names: &mut Vec<NodeName>, forest: &Forest, keys: &[Key]) -> Result<(), AllocError>
     requires { All (IsNode forest.now) keys.now }
-    ensures { OnOk result (names.new.items ≡ names.old.items ++ map (name_of forest.now) keys.now) }
+    ensures ok { OnOk result (names.new.items ≡ names.old.items ++ map (name_of forest.now) keys.now) }
+    ensures err { OnErr result ((count : ℕ) × (count ≤ length keys.now)
+        × (names.new.items ≡ names.old.items ++ map (name_of forest.now) (take count keys.now))) }
 {
     for key in keys {
         names.push(forest.name(*key))?;

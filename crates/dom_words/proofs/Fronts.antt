@@ -2,9 +2,11 @@
 use Rattle.dom_base.proofs.Std.{◌≡◌, ℕ, ◌+◌, ◌-◌, ◌≤◌, Bool, true, false, List, [], ◌∷◌, ◌++◌, length, get_or, take, drop, min, Option, Some, None, refl}
 use Rattle.dom_base.proofs.Std.{sym, ap, ◌∙◌, arith, one-add, min_comm, drop-cons, and_from, ne_eqb, eq-eqb, le-leb, nat_tests, take-append-drop, take-take}
 use Rattle.dom_base.proofs.Std.{take_min, take_rest, length-take, prefix_len-le-length, nat_le, ◌==◌, ◌&&◌, IfSome, Bor, list_all, prefix_len, take_while}
-use Rattle.dom_base.proofs.Std.{is_in_range, digit_value, is_ascii_digit, is_ascii_graphic, digits_value_after}
-use Rattle.dom_text.specs.Definitions.{is_positive, positive_of, number_of, numbered, next_as, begins_word, word_at}
-use Rattle.dom_text.proofs.WordLaws.{Passes, Stops, run_complete, each_from, list_all_each}
+use Rattle.dom_base.proofs.Std.{bytes_eq, take_at, drop_at, is_in_range, digit_value, is_ascii_digit, is_ascii_graphic, digits_value_after}
+use Rattle.dom_text.specs.Definitions.{is_positive, positive_of, number_of, numbered, next_as, begins_word, word_at, next_word, flag_found}
+use Rattle.dom_text.proofs.NumberLaws.{bytes_eq-true, eq-bytes_eq}
+use Rattle.dom_words.specs.Gives.{comes_next}
+use Rattle.dom_text.proofs.WordLaws.{Passes, Stops, run, behind_run, run_complete, each_from, list_all_each, only_if_some, word_at_sound}
 use Rattle.dom_words.proofs.Texts.{all_of_run}
 use Rattle.dom_words.proofs.Digits.{read_on, digit_is}
 
@@ -23,6 +25,48 @@ pub word_in_front : (word rest : List ℕ) → list_all is_ascii_graphic word �
 word_in_front word rest graphic begins stops =
     let c = run_complete is_ascii_graphic word rest (list_all_each is_ascii_graphic word graphic) (stops_here rest stops) in
     rw (c.0, c.1, begins) refl
+
+-- no byte of words stands in front of what is behind them
+behind_stops : (bytes : List ℕ) → prefix_len is_ascii_graphic (drop (prefix_len is_ascii_graphic bytes) bytes) ≡ 0
+behind_stops [] = refl
+behind_stops (b ∷ bytes) = go (is_ascii_graphic b) refl (behind_stops bytes)
+  where
+    go : (t : Bool) → is_ascii_graphic b ≡ t → prefix_len is_ascii_graphic (drop (prefix_len is_ascii_graphic bytes) bytes) ≡ 0 →
+        prefix_len is_ascii_graphic (drop (prefix_len is_ascii_graphic (b ∷ bytes)) (b ∷ bytes)) ≡ 0
+    go true e rest = rw (e, one-add) rest
+    go false e rest = rw (e, e) refl
+
+-- a word that is read stands in front, and no byte of words comes behind it
+pub read_in_front : (word bytes rest : List ℕ) → word_at bytes ≡ Some (word, rest) →
+    (take (length word) bytes ≡ word) × (prefix_len is_ascii_graphic (drop (length word) bytes) ≡ 0)
+read_in_front word bytes rest read =
+    let said = only_if_some (begins_word (run is_ascii_graphic bytes)) (run is_ascii_graphic bytes, behind_run is_ascii_graphic bytes) (word, rest) read in
+    let whole = (word_at_sound bytes word rest read).1 in
+    let behind : drop (length word) bytes ≡ rest = ap (drop (length word)) whole ∙ drop_at word rest (length word) refl in (
+      ap (take (length word)) whole ∙ take_at word rest (length word) refl,
+      ap (prefix_len is_ascii_graphic) (behind ∙ sym (ap (λ (x : List ℕ × List ℕ). x.1) said.1)) ∙ behind_stops bytes,
+    )
+
+-- a word that is read comes next
+pub next-read : (word bytes : List ℕ) {rest : List ℕ} → next_word bytes ≡ Some (word, rest) → comes_next word bytes ≡ true
+unfolding comes_next
+next-read word bytes {rest} read = ap (λ (found : Option (List ℕ × List ℕ)). (flag_found word bytes found).0) read ∙ same (eq-bytes_eq word)
+  where
+    same : bytes_eq word word ≡ true → (flag_found word bytes (Some (word, rest))).0 ≡ true
+    same e = rw e refl
+
+-- a word that cannot be read does not
+pub not_next-read : (word bytes : List ℕ) → ((rest : List ℕ) → next_word bytes ≡ Some (word, rest) → ⊥) → comes_next word bytes ≡ false
+unfolding comes_next
+not_next-read word bytes never = by (next_word bytes) never
+  where
+    by : (found : Option (List ℕ × List ℕ)) → ((rest : List ℕ) → found ≡ Some (word, rest) → ⊥) → (flag_found word bytes found).0 ≡ false
+    by None never = refl
+    by (Some found) never = test (bytes_eq found.0 word) refl
+      where
+        test : (b : Bool) → bytes_eq found.0 word ≡ b → (flag_found word bytes (Some found)).0 ≡ false
+        test false e = rw e refl
+        test true e = absurd (never found.1 (ap (λ (w : List ℕ). Some (w, found.1)) (bytes_eq-true found.0 word e)))
 
 -- a digit is a byte of words
 digit_graphic : (b : ℕ) → is_ascii_digit b ≡ true → is_ascii_graphic b ≡ true

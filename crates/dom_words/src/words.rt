@@ -1,14 +1,14 @@
 //! A line's words, taken one after the other from the front of its bytes.
 
-ghost use Rattle.std.specs.Prelude.{◌≡◌, ℕ, List, option_map, IfOk, IfErr, IfSome, IsTrue, Some, true, false, length, slice_get, string_bytes, ◌≤◌};
-ghost use Rattle.std.specs.Bool.{OnFalse};
+ghost use Rattle.std.specs.Prelude.{◌≡◌, ℕ, List, option_map, IfOk, IfErr, IfSome, IsTrue, Some, true, false, length, slice_get, string_bytes, None, ◌<◌, ◌≤◌};
+ghost use Rattle.std.specs.Bool.{MatchBool};
 ghost use Rattle.std.specs.List.{prefix_len, list_all};
 ghost use Rattle.std.specs.Char.{is_ascii_graphic};
 ghost use Rattle.dom_model.specs.Names.{is_empty};
 ghost use Rattle.dom_text.specs.Readers.{at_end, behind_space as spec_behind_space, begins_word as spec_begins_word, word_at as spec_word_at};
 ghost use Rattle.dom_text.specs.Readers.{next_word as spec_next_word, flag_at};
 ghost use Rattle.dom_words.specs.declared.not_read.NotRead.TheVariants.{Syntax};
-ghost use Rattle.dom_words.specs.Gives.{Gives, Takes};
+ghost use Rattle.dom_words.specs.Gives.{comes_next, Gives, Takes};
 
 use crate::not_read::NotRead;
 use dom_base::is_same;
@@ -35,7 +35,7 @@ fn word_len(bytes: &[u8]) -> usize
 
 /// Whether a byte of words stands in front.
 pub(crate) fn begins_graphic(bytes: &[u8]) -> bool
-    ensures { OnFalse result (prefix_len is_ascii_graphic bytes.now ≡ 0) }
+    ensures { MatchBool result (0 < prefix_len is_ascii_graphic bytes.now) (prefix_len is_ascii_graphic bytes.now ≡ 0) }
 {
     match bytes {
         [] => false,
@@ -80,7 +80,9 @@ fn next_word(bytes: &[u8]) -> Option<(&[u8], &[u8])>
 fn behind_word<'a>(word: &[u8], bytes: &'a [u8]) -> Option<&'a [u8]>
     requires graphic { IsTrue (list_all is_ascii_graphic word.now) }
     requires begins { spec_begins_word word.now ≡ true }
-    ensures { IfSome result (λ rest. spec_next_word bytes.now ≡ Some (word.now, rest.now)) }
+    ensures some { IfSome result (λ rest. spec_next_word bytes.now ≡ Some (word.now, rest.now)) }
+    ensures next { IfSome result (λ _. comes_next word.now bytes.now ≡ true) }
+    ensures none { result ≡ None → comes_next word.now bytes.now ≡ false }
 {
     let text = behind_space(bytes)?;
     let rest = text.strip_prefix(word)?;
@@ -183,6 +185,7 @@ impl<'a> WordReader<'a> {
         requires begins { spec_begins_word word.now ≡ true }
         ensures taken { result ≡ true → spec_next_word self.old ≡ Some (word.now, self.new) }
         ensures left { result ≡ false → self.new ≡ self.old }
+        ensures next { result ≡ comes_next word.now self.old }
     {
         match behind_word(word, self.rest) {
             Some(rest) => {
