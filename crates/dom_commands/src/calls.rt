@@ -111,5 +111,5 @@ fn put_line(
         related,
         path,
     };
-    put_event(out, line.owner, &event)
+    put_event(out, &line.owner, &event)
 }

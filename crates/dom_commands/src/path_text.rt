@@ -50,6 +50,6 @@ impl PathText {
         self.names.clear();
         put_names(&mut self.names, forest, line.path.as_slice())?;
         self.text.clear();
-        put_path(&mut self.text, line.owner, self.names.as_slice())
+        put_path(&mut self.text, &line.owner, self.names.as_slice())
     }
 }

@@ -45,7 +45,7 @@ impl Machine {
         ensures sound { OnOk result (IsAtRest self.new) }
     {
         match task {
-            Task::Micro(owner, label) => put_micro(out, owner, &label),
+            Task::Micro(owner, label) => put_micro(out, &owner, &label),
             Task::Notify(owner) => self.notify(owner, out),
         }
     }

@@ -1,10 +1,17 @@
 -- A buffer that got more bytes than it keeps.
-use Rattle.dom_base.proofs.Std.{◌≡◌, ℕ, ◌∷◌, [], ◌+◌, ◌-◌, ◌<◌, ◌≤◌, List, ◌++◌, length, take, drop, sym, ap, ◌∙◌, arith, length-append}
+use Rattle.dom_base.proofs.Std.{◌≡◌, ℕ, ◌∷◌, [], ◌+◌, ◌-◌, ◌<◌, ◌≤◌, List, ◌++◌, length, take, drop, sym, ap, ◌∙◌, arith, length-append, append_assoc}
 use Rattle.dom_base.proofs.Std.{length-drop, length-take-le, take-append-add, take-append-drop, take-append-le, take-append_seam}
 
--- ten spaces
+-- twenty spaces
 abbrev pub spaces : List ℕ
-spaces = 32 ∷ 32 ∷ 32 ∷ 32 ∷ 32 ∷ 32 ∷ 32 ∷ 32 ∷ 32 ∷ 32 ∷ []
+spaces = 32 ∷ 32 ∷ 32 ∷ 32 ∷ 32 ∷ 32 ∷ 32 ∷ 32 ∷ 32 ∷ 32 ∷ 32 ∷ 32 ∷ 32 ∷ 32 ∷ 32 ∷ 32 ∷ 32 ∷ 32 ∷ 32 ∷ 32 ∷ []
+
+-- a line's end and spaces, behind a text, parted behind none or one of these bytes
+pub parted : (text : List ℕ) (n : ℕ) → n ≤ 1 → text ++ (10 ∷ spaces) ≡ (text ++ take n (10 ∷ [])) ++ drop n (10 ∷ spaces)
+parted text n few =
+    let tail = 10 ∷ spaces in
+    ap (λ (t : List ℕ). text ++ t) (sym (take-append-drop n tail)) ∙ sym (append_assoc text (take n tail) (drop n tail))
+    ∙ ap (λ (t : List ℕ). (text ++ t) ++ drop n tail) (take-append-le n (10 ∷ []) spaces few)
 
 -- so many bytes stand behind a place where no fewer were found
 module _ (xs front more : List ℕ) (s k : ℕ) where

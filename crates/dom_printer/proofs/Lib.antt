@@ -1,6 +1,5 @@
 mod Cutting
 mod KeepLaws
-mod LineLaws
 mod PlainLaws
 mod PutLaws
 mod TreeLaws

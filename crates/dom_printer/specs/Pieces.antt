@@ -1,13 +1,12 @@
 -- The text of the pieces of a line.
-use Rattle.std.specs.Prelude.{ℕ, List, [], ◌++◌, option_copied}
+use Rattle.std.specs.Prelude.{ℕ, List, [], ◌++◌}
 use Rattle.std.specs.List.{flat_map}
 use Rattle.std.specs.Fmt.{decimal}
 use Rattle.dom_base.specs.declared.Owner.{Owner}
 use Rattle.dom_text.specs.Words.{owner_word}
-use Rattle.dom_text.specs.Text.{string_text, string_or_null, node_text, node_or_null, list_text}
+use Rattle.dom_text.specs.Text.{string_text, node_text, list_text}
 use Rattle.dom_printer.specs.declared.pieces.Piece.{Piece}
 use Rattle.dom_printer.specs.declared.pieces.Piece.TheVariants as pieces
-use Rattle.dom_printer.specs.Records.{call_text}
 
 -- the text with which a piece begins
 abbrev pub text_in : Piece → List ℕ
@@ -16,24 +15,18 @@ text_in (pieces.Bytes text bytes) = text.now
 text_in (pieces.Number text number) = text.now
 text_in (pieces.Owner text owner) = text.now
 text_in (pieces.Node text node) = text.now
-text_in (pieces.NodeOrNull text named) = text.now
 text_in (pieces.Nodes text nodes) = text.now
 text_in (pieces.Units text units) = text.now
-text_in (pieces.UnitsOrNull text units) = text.now
-text_in (pieces.Call text call) = text.now
 
 -- what stands behind that text, as the viewer sees it
 abbrev pub rest_text : Owner → Piece → List ℕ
 rest_text viewer (pieces.Text text) = []
 rest_text viewer (pieces.Bytes text bytes) = bytes.now
 rest_text viewer (pieces.Number text number) = decimal number
-rest_text viewer (pieces.Owner text owner) = owner_word owner
-rest_text viewer (pieces.Node text node) = node_text viewer node
-rest_text viewer (pieces.NodeOrNull text node) = node_or_null viewer node
+rest_text viewer (pieces.Owner text owner) = owner_word owner.now
+rest_text viewer (pieces.Node text node) = node_text viewer node.now
 rest_text viewer (pieces.Nodes text nodes) = list_text viewer nodes.now
 rest_text viewer (pieces.Units text units) = string_text units.now
-rest_text viewer (pieces.UnitsOrNull text units) = string_or_null (option_copied units)
-rest_text viewer (pieces.Call text call) = call_text viewer call.now
 
 -- a piece as the viewer sees it
 abbrev pub piece_text : Owner → Piece → List ℕ

@@ -36,10 +36,6 @@ places_text viewer e =
 abbrev pub shown_text : Owner → Event → List ℕ
 shown_text viewer e = codes " related=" ++ node_or_null viewer e.related ++ codes " path=" ++ e.path.now
 
--- the call of a listener
-abbrev pub call_text : Owner → Event → List ℕ
-call_text viewer e = e.label.now ++ codes " " ++ e.event.now ++ places_text viewer e ++ shown_text viewer e
-
 -- a change
 abbrev pub change_view : Change → model.Change NodeName
 change_view (changes.ChildList target added removed previous next) = model.child_list target added.now removed.now previous next

@@ -1,5 +1,6 @@
 //! Numbers, owners and nodes.
-ghost use Rattle.std.specs.Prelude.{◌≡◌, ◌++◌, OnOk, OnErr};
+ghost use Rattle.std.specs.Prelude.{◌≡◌, ◌≤◌, ◌+◌, ◌++◌, ◌∷◌, [], take, IsOk, OnOk, OnErr};
+ghost use Rattle.std.specs.Vec.{vec_len, vec_capacity};
 ghost use Rattle.std.specs.Fmt.{decimal};
 ghost use Rattle.std.specs.List.{flat_map};
 ghost use Rattle.dom_text.specs.Text.{node_text, node_or_null, next_node_text, list_text};
@@ -8,10 +9,20 @@ ghost use Rattle.dom_printer.specs.Keeping.{Keeps};
 
 use crate::buffers::cut_if_refused;
 use dom_base::{NodeName, Owner, OwnerPath};
-use itoa::Buffer;
+use itoa::{Buffer, write_digits};
 use std::alloc::AllocError;
 
+/// Puts a text of known length, so that it is copied at once.
+#[inline(always)]
+pub(crate) fn put_text<const N: usize>(out: &mut Vec<u8>, text: [u8; N]) -> Result<(), AllocError>
+    ensures ok { OnOk result (out.new.items ≡ out.old.items ++ text.entry) }
+    ensures err { OnErr result (out.new.items ≡ out.old.items) }
+{
+    out.extend_from_slice(&text)
+}
+
 /// Puts a number's digits.
+#[inline(always)]
 pub(crate) fn put_number(out: &mut Vec<u8>, number: usize) -> Result<(), AllocError>
     ensures ok { OnOk result (out.new.items ≡ out.old.items ++ decimal number) }
     ensures err { OnErr result (Keeps out.old.items out.new.items) }
@@ -19,8 +30,62 @@ pub(crate) fn put_number(out: &mut Vec<u8>, number: usize) -> Result<(), AllocEr
     if number < 10 {
         return Ok(out.push(b'0' + number as u8)?);
     }
+    put_digits(out, number)
+}
+
+/// Puts a number's digits, as of one that has several.
+#[inline(never)]
+fn put_digits(out: &mut Vec<u8>, number: usize) -> Result<(), AllocError>
+    ensures ok { OnOk result (out.new.items ≡ out.old.items ++ decimal number) }
+    ensures err { OnErr result (Keeps out.old.items out.new.items) }
+{
     let mut buffer = Buffer::new();
     out.extend_from_slice(buffer.format(number).as_bytes())
+}
+
+/// Puts a letter and a number's digits, and the line's end where one byte is wanted behind them. So many bytes are copied from the letter
+/// on, whatever the number, that they are copied at once; those that are too many are then cut off.
+#[inline(always)]
+pub(crate) fn put_lettered(
+    out: &mut Vec<u8>,
+    letter: u8,
+    number: u32,
+    behind: usize,
+) -> Result<(), AllocError>
+    requires { behind ≤ 1 }
+    ensures ok { OnOk result (out.new.items ≡ out.old.items ++ (letter ∷ decimal number) ++ take behind (10 ∷ [])) }
+    ensures succeeds { vec_len out.old + 16 ≤ vec_capacity out.old → IsOk result }
+    ensures err { OnErr result (out.new.items ≡ out.old.items) }
+{
+    let mut text = *b"00000000000\n                    ";
+    let start = write_digits(number as u64, &mut text, 11);
+    let first = start - 1;
+    text[first] = letter;
+    out.extend_from_slice(&text[first..first + 16])?;
+    out.truncate(out.len() - (first + 5 - behind));
+    Ok(())
+}
+
+/// Puts a letter and a number's digits, of which there is often one.
+#[inline(always)]
+fn put_short(out: &mut Vec<u8>, letter: u8, number: u32) -> Result<(), AllocError>
+    ensures ok { OnOk result (out.new.items ≡ out.old.items ++ (letter ∷ decimal number)) }
+    ensures err { OnErr result (out.new.items ≡ out.old.items) }
+{
+    if number < 10 {
+        out.extend_from_slice(&[letter, b'0' + number as u8])
+    } else {
+        put_long(out, letter, number)
+    }
+}
+
+/// Puts a letter and a number's digits, as of one that has several. It is kept out of line, so that all nodes share it.
+#[inline(never)]
+fn put_long(out: &mut Vec<u8>, letter: u8, number: u32) -> Result<(), AllocError>
+    ensures ok { OnOk result (out.new.items ≡ out.old.items ++ (letter ∷ decimal number)) }
+    ensures err { OnErr result (out.new.items ≡ out.old.items) }
+{
+    put_lettered(out, letter, number, 0)
 }
 
 /// Puts numbers, each behind a dot.
@@ -76,35 +141,48 @@ pub(crate) fn put_owner(out: &mut Vec<u8>, owner: &Owner) -> Result<(), AllocErr
 }
 
 /// Puts a node as the viewer sees it: `nJ` of the page, `mJ` of the viewer's own, and with the word before `:mJ` of another component.
-#[tactic(auto, using(crate::proofs::KeepLaws::keeps_at))]
-pub(crate) fn put_node(out: &mut Vec<u8>, viewer: Owner, node: NodeName) -> Result<(), AllocError>
-    ensures ok { OnOk result (out.new.items ≡ out.old.items ++ node_text viewer node) }
+#[inline(always)]
+pub(crate) fn put_node(out: &mut Vec<u8>, viewer: &Owner, node: &NodeName) -> Result<(), AllocError>
+    ensures ok { OnOk result (out.new.items ≡ out.old.items ++ node_text viewer.now node.now) }
     ensures err { OnErr result (Keeps out.old.items out.new.items) }
 {
-    match node.owner {
-        Owner::Page => out.push(b'n')?,
-        Owner::Component(component) => {
-            if viewer != node.owner {
-                put_component(out, &component)?;
-                out.extend_from_slice(b":")?;
-            }
-            out.push(b'm')?;
-        }
+    match &node.owner {
+        Owner::Page => put_short(out, b'n', node.number),
+        Owner::Component(_) => put_component_node(out, viewer, node),
     }
-    put_number(out, node.number as usize)
 }
 
-/// Puts a node, or `null` where there is none.
+/// Puts a component's node as the viewer sees it.
+#[inline(never)]
+#[tactic(auto, using(crate::proofs::KeepLaws::keeps_at))]
+fn put_component_node(out: &mut Vec<u8>, viewer: &Owner, node: &NodeName) -> Result<(), AllocError>
+    ensures ok { OnOk result (out.new.items ≡ out.old.items ++ node_text viewer.now node.now) }
+    ensures err { OnErr result (Keeps out.old.items out.new.items) }
+{
+    match &node.owner {
+        Owner::Page => put_short(out, b'n', node.number),
+        Owner::Component(component) => {
+            if *viewer != node.owner {
+                put_component(out, component)?;
+                out.extend_from_slice(b":")?;
+            }
+            put_short(out, b'm', node.number)
+        }
+    }
+}
+
+/// Puts a node, or `null` where there is none. It is kept out of line, so that its parts are copied at once.
+#[inline(never)]
 pub(crate) fn put_node_or_null(
     out: &mut Vec<u8>,
-    viewer: Owner,
-    node: Option<NodeName>,
+    viewer: &Owner,
+    node: &Option<NodeName>,
 ) -> Result<(), AllocError>
-    ensures ok { OnOk result (out.new.items ≡ out.old.items ++ node_or_null viewer node) }
+    ensures ok { OnOk result (out.new.items ≡ out.old.items ++ node_or_null viewer.now node.now) }
     ensures err { OnErr result (Keeps out.old.items out.new.items) }
 {
     match node {
-        None => out.extend_from_slice(b"null"),
+        None => put_text(out, *b"null"),
         Some(node) => put_node(out, viewer, node),
     }
 }
@@ -113,8 +191,8 @@ pub(crate) fn put_node_or_null(
 /// refused, the buffer is as before.
 ///
 /// Own rule.
-pub fn put_path(out: &mut Vec<u8>, owner: Owner, path: &[NodeName]) -> Result<(), AllocError>
-    ensures ok { OnOk result (out.new.items ≡ out.old.items ++ list_text owner path.now) }
+pub fn put_path(out: &mut Vec<u8>, owner: &Owner, path: &[NodeName]) -> Result<(), AllocError>
+    ensures ok { OnOk result (out.new.items ≡ out.old.items ++ list_text owner.now path.now) }
     ensures err { OnErr result (out.new.items ≡ out.old.items) }
 {
     let length = out.len();
@@ -122,32 +200,36 @@ pub fn put_path(out: &mut Vec<u8>, owner: Owner, path: &[NodeName]) -> Result<()
     cut_if_refused(out, length, put)
 }
 
-/// Puts nodes in brackets, with commas between them, as far as there is memory.
+/// Puts nodes in brackets, with commas between them, as far as there is memory. It is kept out of line, so that its parts are copied at once.
+#[inline(never)]
 pub(crate) fn put_list(
     out: &mut Vec<u8>,
-    viewer: Owner,
+    viewer: &Owner,
     nodes: &[NodeName],
 ) -> Result<(), AllocError>
-    ensures ok { OnOk result (out.new.items ≡ out.old.items ++ list_text viewer nodes.now) }
+    ensures ok { OnOk result (out.new.items ≡ out.old.items ++ list_text viewer.now nodes.now) }
     ensures err { OnErr result (Keeps out.old.items out.new.items) }
 {
-    out.extend_from_slice(b"[")?;
-    if let [first, others @ ..] = nodes {
-        put_node(out, viewer, *first)?;
-        put_others(out, viewer, others)?;
+    match nodes {
+        [] => put_text(out, *b"[]"),
+        [first, others @ ..] => {
+            out.push(b'[')?;
+            put_node(out, viewer, first)?;
+            put_others(out, viewer, others)?;
+            Ok(out.push(b']')?)
+        }
     }
-    out.extend_from_slice(b"]")
 }
 
 /// Puts nodes, each behind a comma.
 #[tactic(auto, using(crate::proofs::KeepLaws::keeps_at))]
-fn put_others(out: &mut Vec<u8>, viewer: Owner, nodes: &[NodeName]) -> Result<(), AllocError>
-    ensures ok { OnOk result (out.new.items ≡ out.old.items ++ flat_map (next_node_text viewer) nodes.now) }
+fn put_others(out: &mut Vec<u8>, viewer: &Owner, nodes: &[NodeName]) -> Result<(), AllocError>
+    ensures ok { OnOk result (out.new.items ≡ out.old.items ++ flat_map (next_node_text viewer.now) nodes.now) }
     ensures err { OnErr result (Keeps out.old.items out.new.items) }
 {
     for node in nodes {
         out.push(b',')?;
-        put_node(out, viewer, *node)?;
+        put_node(out, viewer, node)?;
     }
     Ok(())
 }

@@ -5,8 +5,7 @@ ghost use Rattle.dom_printer.specs.Lines.{line_text};
 ghost use Rattle.dom_printer.specs.Pieces.{piece_text, pieces_text};
 
 use crate::buffers::cut_if_refused;
-use crate::names::{put_list, put_node, put_node_or_null, put_number, put_owner};
-use crate::records::{Event, put_call};
+use crate::names::{put_list, put_node, put_number, put_owner};
 use crate::strings::put_units;
 use dom_base::{NodeName, Owner};
 use std::alloc::AllocError;
@@ -17,23 +16,20 @@ pub(crate) enum Piece<'a> {
     Text(&'a [u8]),
     Bytes(&'a [u8], &'a [u8]),
     Number(&'a [u8], usize),
-    Owner(&'a [u8], Owner),
-    Node(&'a [u8], NodeName),
-    NodeOrNull(&'a [u8], Option<NodeName>),
+    Owner(&'a [u8], &'a Owner),
+    Node(&'a [u8], &'a NodeName),
     Nodes(&'a [u8], &'a [NodeName]),
     Units(&'a [u8], &'a [u16]),
-    UnitsOrNull(&'a [u8], Option<&'a [u16]>),
-    Call(&'a [u8], &'a Event<'a>),
 }
 
 /// Puts a line of the owner's: the owner's word, a space, the pieces and the line's end. Where memory is refused, the
 /// buffer is as before.
 pub(crate) fn put_line(
     out: &mut Vec<u8>,
-    owner: Owner,
+    owner: &Owner,
     pieces: &[Piece<'_>],
 ) -> Result<(), AllocError>
-    ensures ok { OnOk result (out.new.items ≡ out.old.items ++ line_text owner (pieces_text owner pieces.now)) }
+    ensures ok { OnOk result (out.new.items ≡ out.old.items ++ line_text owner.now (pieces_text owner.now pieces.now)) }
     ensures err { OnErr result (out.new.items ≡ out.old.items) }
 {
     let length = out.len();
@@ -43,11 +39,11 @@ pub(crate) fn put_line(
 
 /// Puts a line of the owner's, as far as there is memory.
 #[tactic(auto, using(crate::proofs::KeepLaws::keeps_at))]
-fn put_line_parts(out: &mut Vec<u8>, owner: Owner, pieces: &[Piece<'_>]) -> Result<(), AllocError>
-    ensures ok { OnOk result (out.new.items ≡ out.old.items ++ line_text owner (pieces_text owner pieces.now)) }
+fn put_line_parts(out: &mut Vec<u8>, owner: &Owner, pieces: &[Piece<'_>]) -> Result<(), AllocError>
+    ensures ok { OnOk result (out.new.items ≡ out.old.items ++ line_text owner.now (pieces_text owner.now pieces.now)) }
     ensures err { OnErr result (Keeps out.old.items out.new.items) }
 {
-    put_owner(out, &owner)?;
+    put_owner(out, owner)?;
     out.push(b' ')?;
     put_pieces(out, owner, pieces)?;
     Ok(out.push(b'\n')?)
@@ -55,8 +51,8 @@ fn put_line_parts(out: &mut Vec<u8>, owner: Owner, pieces: &[Piece<'_>]) -> Resu
 
 /// Puts one piece after the other, as far as there is memory.
 #[tactic(auto, using(crate::proofs::KeepLaws::keeps_at))]
-fn put_pieces(out: &mut Vec<u8>, viewer: Owner, pieces: &[Piece<'_>]) -> Result<(), AllocError>
-    ensures ok { OnOk result (out.new.items ≡ out.old.items ++ pieces_text viewer pieces.now) }
+fn put_pieces(out: &mut Vec<u8>, viewer: &Owner, pieces: &[Piece<'_>]) -> Result<(), AllocError>
+    ensures ok { OnOk result (out.new.items ≡ out.old.items ++ pieces_text viewer.now pieces.now) }
     ensures err { OnErr result (Keeps out.old.items out.new.items) }
 {
     for piece in pieces {
@@ -67,8 +63,8 @@ fn put_pieces(out: &mut Vec<u8>, viewer: Owner, pieces: &[Piece<'_>]) -> Result<
 
 /// Puts a piece as the viewer sees it.
 #[tactic(auto, using(crate::proofs::KeepLaws::keeps_at))]
-fn put_piece(out: &mut Vec<u8>, viewer: Owner, piece: &Piece<'_>) -> Result<(), AllocError>
-    ensures ok { OnOk result (out.new.items ≡ out.old.items ++ piece_text viewer piece.now) }
+fn put_piece(out: &mut Vec<u8>, viewer: &Owner, piece: &Piece<'_>) -> Result<(), AllocError>
+    ensures ok { OnOk result (out.new.items ≡ out.old.items ++ piece_text viewer.now piece.now) }
     ensures err { OnErr result (Keeps out.old.items out.new.items) }
 {
     out.extend_from_slice(piece.text())?;
@@ -77,13 +73,9 @@ fn put_piece(out: &mut Vec<u8>, viewer: Owner, piece: &Piece<'_>) -> Result<(), 
         Piece::Bytes(_, bytes) => out.extend_from_slice(bytes),
         Piece::Number(_, number) => put_number(out, *number),
         Piece::Owner(_, owner) => put_owner(out, owner),
-        Piece::Node(_, node) => put_node(out, viewer, *node),
-        Piece::NodeOrNull(_, node) => put_node_or_null(out, viewer, *node),
+        Piece::Node(_, node) => put_node(out, viewer, node),
         Piece::Nodes(_, nodes) => put_list(out, viewer, nodes),
         Piece::Units(_, units) => put_units(out, units),
-        Piece::UnitsOrNull(_, None) => out.extend_from_slice(b"null"),
-        Piece::UnitsOrNull(_, Some(units)) => put_units(out, units),
-        Piece::Call(_, call) => put_call(out, viewer, call),
     }
 }
 
@@ -100,11 +92,8 @@ impl Piece<'_> {
             | Piece::Number(text, _)
             | Piece::Owner(text, _)
             | Piece::Node(text, _)
-            | Piece::NodeOrNull(text, _)
             | Piece::Nodes(text, _)
-            | Piece::Units(text, _)
-            | Piece::UnitsOrNull(text, _)
-            | Piece::Call(text, _) => text,
+            | Piece::Units(text, _) => text,
         }
     }
 }

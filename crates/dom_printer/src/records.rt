@@ -1,13 +1,15 @@
 //! Calls of listeners, records of observers, and microtasks.
-ghost use Rattle.std.specs.Prelude.{◌≡◌, List, ◌++◌, ◌∷◌, [], OnOk, OnErr, option_copied};
-ghost use Rattle.dom_model.specs.Output.{attributes, character_data, event_seen, micro_ran, recorded, says};
-ghost use Rattle.dom_text.specs.Text.{list_text, output_text};
+ghost use Rattle.std.specs.Prelude.{◌≡◌, List, ◌++◌, ◌∷◌, [], OnOk, OnErr, codes, option_copied};
+ghost use Rattle.dom_model.specs.Output.{event_seen, micro_ran, recorded, says};
+ghost use Rattle.dom_text.specs.Text.{change_text, list_text, node_or_null, output_text, record_text, string_or_null};
 ghost use Rattle.dom_printer.specs.Lines.{line_text};
 ghost use Rattle.dom_printer.specs.Keeping.{Keeps};
-ghost use Rattle.dom_printer.specs.Records.{call_text, change_view, event_text, event_view, places_text, shown_text};
+ghost use Rattle.dom_printer.specs.Records.{change_view, event_text, event_view, places_text, shown_text};
 
-use crate::names::{put_node, put_number};
+use crate::buffers::cut_if_refused;
+use crate::names::{put_list, put_node, put_node_or_null, put_number, put_owner, put_text};
 use crate::pieces::{Piece, put_line};
+use crate::strings::put_units;
 use dom_base::{NodeName, Owner};
 use std::alloc::AllocError;
 
@@ -50,21 +52,35 @@ pub enum Change<'a> {
 /// event's with this path (`ok`), and the same text serves any number of lines. Where memory is refused, the buffer is as before.
 ///
 /// Own rule.
-pub fn put_event(out: &mut Vec<u8>, owner: Owner, event: &Event<'_>) -> Result<(), AllocError>
-    ensures line { OnOk result (out.new.items ≡ out.old.items ++ line_text owner (event_text owner event.now)) }
-    ensures ok { OnOk result ((path : List NodeName) → event.now.path.now ≡ list_text owner path → out.new.items
-        ≡ out.old.items ++ output_text (says owner (event_seen (event_view path event.now)) ∷ [])) }
+pub fn put_event(out: &mut Vec<u8>, owner: &Owner, event: &Event<'_>) -> Result<(), AllocError>
+    ensures line { OnOk result (out.new.items ≡ out.old.items ++ line_text owner.now (event_text owner.now event.now)) }
+    ensures ok { OnOk result ((path : List NodeName) → event.now.path.now ≡ list_text owner.now path → out.new.items
+        ≡ out.old.items ++ output_text (says owner.now (event_seen (event_view path event.now)) ∷ [])) }
     ensures err { OnErr result (out.new.items ≡ out.old.items) }
 {
-    put_line(out, owner, &[Piece::Call(b"event ", event)])
+    let length = out.len();
+    let put = put_event_parts(out, owner, event);
+    cut_if_refused(out, length, put)
 }
 
-/// Puts the call of a listener, as far as there is memory.
+/// Puts the line of an event, as far as there is memory.
 #[tactic(auto, using(crate::proofs::KeepLaws::keeps_at))]
-pub(crate) fn put_call(out: &mut Vec<u8>, viewer: Owner, call: &Event<'_>) -> Result<(), AllocError>
-    ensures ok { OnOk result (out.new.items ≡ out.old.items ++ call_text viewer call.now) }
+fn put_event_parts(out: &mut Vec<u8>, owner: &Owner, event: &Event<'_>) -> Result<(), AllocError>
+    ensures ok { OnOk result (out.new.items ≡ out.old.items ++ line_text owner.now (event_text owner.now event.now)) }
     ensures err { OnErr result (Keeps out.old.items out.new.items) }
 {
+    put_owner(out, owner)?;
+    put_call(out, owner, event)?;
+    Ok(out.push(b'\n')?)
+}
+
+/// Puts the call of a listener behind a space, as far as there is memory.
+#[tactic(auto, using(crate::proofs::KeepLaws::keeps_at))]
+fn put_call(out: &mut Vec<u8>, viewer: &Owner, call: &Event<'_>) -> Result<(), AllocError>
+    ensures ok { OnOk result (out.new.items ≡ out.old.items ++ codes " " ++ event_text viewer.now call.now) }
+    ensures err { OnErr result (Keeps out.old.items out.new.items) }
+{
+    put_text(out, *b" event ")?;
     out.extend_from_slice(call.label)?;
     out.push(b' ')?;
     out.extend_from_slice(call.event)?;
@@ -74,30 +90,30 @@ pub(crate) fn put_call(out: &mut Vec<u8>, viewer: Owner, call: &Event<'_>) -> Re
 
 /// Puts where a call stands, as far as there is memory.
 #[tactic(auto, using(crate::proofs::KeepLaws::keeps_at))]
-fn put_places(out: &mut Vec<u8>, viewer: Owner, call: &Event<'_>) -> Result<(), AllocError>
-    ensures ok { OnOk result (out.new.items ≡ out.old.items ++ places_text viewer call.now) }
+fn put_places(out: &mut Vec<u8>, viewer: &Owner, call: &Event<'_>) -> Result<(), AllocError>
+    ensures ok { OnOk result (out.new.items ≡ out.old.items ++ places_text viewer.now call.now) }
     ensures err { OnErr result (Keeps out.old.items out.new.items) }
 {
-    out.extend_from_slice(b" phase=")?;
+    put_text(out, *b" phase=")?;
     put_number(out, call.phase as usize)?;
-    out.extend_from_slice(b" target=")?;
-    put_node(out, viewer, call.target)?;
-    out.extend_from_slice(b" current=")?;
-    put_node(out, viewer, call.current)
+    put_text(out, *b" target=")?;
+    put_node(out, viewer, &call.target)?;
+    put_text(out, *b" current=")?;
+    put_node(out, viewer, &call.current)
 }
 
 /// Puts what an event shows to a listener, as far as there is memory.
 #[tactic(auto, using(crate::proofs::KeepLaws::keeps_at))]
-fn put_shown(out: &mut Vec<u8>, viewer: Owner, call: &Event<'_>) -> Result<(), AllocError>
-    ensures ok { OnOk result (out.new.items ≡ out.old.items ++ shown_text viewer call.now) }
+fn put_shown(out: &mut Vec<u8>, viewer: &Owner, call: &Event<'_>) -> Result<(), AllocError>
+    ensures ok { OnOk result (out.new.items ≡ out.old.items ++ shown_text viewer.now call.now) }
     ensures err { OnErr result (Keeps out.old.items out.new.items) }
 {
-    match call.related {
-        None => out.extend_from_slice(b" related=null path=")?,
+    match &call.related {
+        None => put_text(out, *b" related=null path=")?,
         Some(related) => {
-            out.extend_from_slice(b" related=")?;
+            put_text(out, *b" related=")?;
             put_node(out, viewer, related)?;
-            out.extend_from_slice(b" path=")?;
+            put_text(out, *b" path=")?;
         }
     }
     out.extend_from_slice(call.path)
@@ -109,13 +125,43 @@ fn put_shown(out: &mut Vec<u8>, viewer: Owner, call: &Event<'_>) -> Result<(), A
 /// Own rule.
 pub fn put_record(
     out: &mut Vec<u8>,
-    owner: Owner,
+    owner: &Owner,
     observer: u32,
     change: &Change<'_>,
 ) -> Result<(), AllocError>
     ensures ok { OnOk result (out.new.items
-        ≡ out.old.items ++ output_text (says owner (recorded observer (change_view change.now)) ∷ [])) }
+        ≡ out.old.items ++ output_text (says owner.now (recorded observer (change_view change.now)) ∷ [])) }
     ensures err { OnErr result (out.new.items ≡ out.old.items) }
+{
+    let length = out.len();
+    let put = put_record_parts(out, owner, observer, change);
+    cut_if_refused(out, length, put)
+}
+
+/// Puts the line of a record, as far as there is memory.
+#[tactic(auto, using(crate::proofs::KeepLaws::keeps_at))]
+fn put_record_parts(
+    out: &mut Vec<u8>,
+    owner: &Owner,
+    observer: u32,
+    change: &Change<'_>,
+) -> Result<(), AllocError>
+    ensures ok { OnOk result (out.new.items
+        ≡ out.old.items ++ line_text owner.now (record_text owner.now observer (change_view change.now))) }
+    ensures err { OnErr result (Keeps out.old.items out.new.items) }
+{
+    put_owner(out, owner)?;
+    put_text(out, *b" record o")?;
+    put_number(out, observer as usize)?;
+    put_change(out, owner, change)?;
+    Ok(out.push(b'\n')?)
+}
+
+/// Puts a change behind a space, as far as there is memory.
+#[tactic(auto, using(crate::proofs::KeepLaws::keeps_at))]
+fn put_change(out: &mut Vec<u8>, viewer: &Owner, change: &Change<'_>) -> Result<(), AllocError>
+    ensures ok { OnOk result (out.new.items ≡ out.old.items ++ codes " " ++ change_text viewer.now (change_view change.now)) }
+    ensures err { OnErr result (Keeps out.old.items out.new.items) }
 {
     match change {
         Change::ChildList {
@@ -125,74 +171,84 @@ pub fn put_record(
             previous,
             next,
         } => {
-            let pieces = [
-                Piece::Number(b"record o", observer as usize),
-                Piece::Node(b" childList ", *target),
-                Piece::Nodes(b" added=", added),
-                Piece::Nodes(b" removed=", removed),
-                Piece::NodeOrNull(b" prev=", *previous),
-                Piece::NodeOrNull(b" next=", *next),
-            ];
-            put_line(out, owner, &pieces)
+            put_text(out, *b" childList ")?;
+            put_node(out, viewer, target)?;
+            put_lists(out, viewer, added, removed)?;
+            put_siblings(out, viewer, previous, next)
         }
         Change::Attributes { target, name, old } => {
-            put_attribute_record(out, owner, observer, *target, name, *old)
+            put_text(out, *b" attributes ")?;
+            put_node(out, viewer, target)?;
+            put_text(out, *b" name=")?;
+            out.extend_from_slice(name.as_bytes())?;
+            put_old(out, *old)
         }
         Change::CharacterData { target, old } => {
-            put_data_record(out, owner, observer, *target, *old)
+            put_text(out, *b" characterData ")?;
+            put_node(out, viewer, target)?;
+            put_old(out, *old)
         }
     }
 }
 
-/// Puts a record of an attribute.
-fn put_attribute_record<'a>(
+/// Puts the nodes that were added and those that were removed, as far as there is memory.
+#[tactic(auto, using(crate::proofs::KeepLaws::keeps_at))]
+fn put_lists(
     out: &mut Vec<u8>,
-    owner: Owner,
-    observer: u32,
-    target: NodeName,
-    name: &'a str,
-    old: Option<&'a [u16]>,
+    viewer: &Owner,
+    added: &[NodeName],
+    removed: &[NodeName],
 ) -> Result<(), AllocError>
     ensures ok { OnOk result (out.new.items
-        ≡ out.old.items ++ output_text (says owner (recorded observer (attributes target name.now (option_copied old.entry))) ∷ [])) }
-    ensures err { OnErr result (out.new.items ≡ out.old.items) }
+        ≡ out.old.items ++ codes " added=" ++ list_text viewer.now added.now ++ codes " removed=" ++ list_text viewer.now removed.now) }
+    ensures err { OnErr result (Keeps out.old.items out.new.items) }
 {
-    let pieces = [
-        Piece::Number(b"record o", observer as usize),
-        Piece::Node(b" attributes ", target),
-        Piece::Bytes(b" name=", name.as_bytes()),
-        Piece::UnitsOrNull(b" old=", old),
-    ];
-    put_line(out, owner, &pieces)
+    put_text(out, *b" added=")?;
+    put_list(out, viewer, added)?;
+    put_text(out, *b" removed=")?;
+    put_list(out, viewer, removed)
 }
 
-/// Puts a record of a Text's or a Comment's data.
-fn put_data_record(
+/// Puts the siblings between which a change was, as far as there is memory.
+#[tactic(auto, using(crate::proofs::KeepLaws::keeps_at))]
+fn put_siblings(
     out: &mut Vec<u8>,
-    owner: Owner,
-    observer: u32,
-    target: NodeName,
-    old: Option<&[u16]>,
+    viewer: &Owner,
+    previous: &Option<NodeName>,
+    next: &Option<NodeName>,
 ) -> Result<(), AllocError>
     ensures ok { OnOk result (out.new.items
-        ≡ out.old.items ++ output_text (says owner (recorded observer (character_data target (option_copied old.entry))) ∷ [])) }
-    ensures err { OnErr result (out.new.items ≡ out.old.items) }
+        ≡ out.old.items ++ codes " prev=" ++ node_or_null viewer.now previous.now ++ codes " next=" ++ node_or_null viewer.now next.now) }
+    ensures err { OnErr result (Keeps out.old.items out.new.items) }
 {
-    let pieces = [
-        Piece::Number(b"record o", observer as usize),
-        Piece::Node(b" characterData ", target),
-        Piece::UnitsOrNull(b" old=", old),
-    ];
-    put_line(out, owner, &pieces)
+    put_text(out, *b" prev=")?;
+    put_node_or_null(out, viewer, previous)?;
+    put_text(out, *b" next=")?;
+    put_node_or_null(out, viewer, next)
+}
+
+/// Puts an old value, or `null` where none is given, as far as there is memory.
+#[tactic(auto, using(crate::proofs::KeepLaws::keeps_at))]
+fn put_old(out: &mut Vec<u8>, old: Option<&[u16]>) -> Result<(), AllocError>
+    ensures ok { OnOk result (out.new.items ≡ out.old.items ++ codes " old=" ++ string_or_null (option_copied old.entry)) }
+    ensures err { OnErr result (Keeps out.old.items out.new.items) }
+{
+    match old {
+        None => put_text(out, *b" old=null"),
+        Some(units) => {
+            put_text(out, *b" old=")?;
+            put_units(out, units)
+        }
+    }
 }
 
 /// Puts the run of a microtask of this owner as a line with its end: `micro` and its label. Where memory is refused, the
 /// buffer is as before.
 ///
 /// Own rule.
-pub fn put_micro(out: &mut Vec<u8>, owner: Owner, label: &[u8]) -> Result<(), AllocError>
+pub fn put_micro(out: &mut Vec<u8>, owner: &Owner, label: &[u8]) -> Result<(), AllocError>
     ensures ok { OnOk result (out.new.items
-        ≡ out.old.items ++ output_text (says owner (micro_ran label.now) ∷ [])) }
+        ≡ out.old.items ++ output_text (says owner.now (micro_ran label.now) ∷ [])) }
     ensures err { OnErr result (out.new.items ≡ out.old.items) }
 {
     put_line(out, owner, &[Piece::Bytes(b"micro ", label)])

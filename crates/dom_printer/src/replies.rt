@@ -10,10 +10,9 @@ ghost use Rattle.dom_printer.specs.Lines.{line_text};
 ghost use Rattle.dom_printer.specs.Replies.{boundary_view, value_view, refusal_output};
 
 use crate::buffers::cut_if_refused;
-use crate::names::{put_node, put_owner};
+use crate::names::{put_lettered, put_node, put_owner};
 use crate::pieces::{Piece, put_line};
 use dom_base::{NodeName, Owner, Refusal};
-use itoa::write_digits;
 use std::alloc::AllocError;
 
 /// A boundary point: a node and an offset, in children or in code units (DOM Standard, 5.2 Boundary points).
@@ -113,19 +112,14 @@ fn put_page_done(out: &mut Vec<u8>) -> Result<(), AllocError>
     out.extend_from_slice(b"p ok\n")
 }
 
-/// Puts the page's reply that has a node of its own, and asks once for the room of all of it. So many bytes are copied from the first digit
-/// on, whatever the number, that they are copied at once; those behind the line's end are then cut off.
+/// Puts the page's reply that has a node of its own, and asks once for the room of all of it.
 fn put_page_node(out: &mut Vec<u8>, number: u32) -> Result<(), AllocError>
     ensures ok { OnOk result (out.new.items ≡ out.old.items ++ line_text Page (codes "ok n" ++ decimal number)) }
     ensures err { OnErr result (out.new.items ≡ out.old.items) }
 {
-    let mut digits = *b"0000000000\n          ";
-    let start = write_digits(number as u64, &mut digits, 10);
-    out.reserve(b"p ok n".len() + 11)?;
-    out.extend_from_slice(b"p ok n")?;
-    out.extend_from_slice(&digits[start..start + 11])?;
-    out.truncate(out.len() - start);
-    Ok(())
+    out.reserve(b"p ok ".len() + 16)?;
+    out.extend_from_slice(b"p ok ")?;
+    put_lettered(out, b'n', number, 1)
 }
 
 /// The digit of a component's word that is `c` and this digit.
@@ -171,19 +165,19 @@ fn put_found(out: &mut Vec<u8>, owner: &Owner, node: &NodeName) -> Result<(), Al
     ensures err { OnErr result (out.new.items ≡ out.old.items) }
 {
     let length = out.len();
-    let put = put_found_parts(out, owner, *node);
+    let put = put_found_parts(out, owner, node);
     cut_if_refused(out, length, put)
 }
 
 /// Puts that reply, as far as there is memory.
 #[tactic(auto, using(crate::proofs::KeepLaws::keeps_at))]
-fn put_found_parts(out: &mut Vec<u8>, owner: &Owner, node: NodeName) -> Result<(), AllocError>
-    ensures ok { OnOk result (out.new.items ≡ out.old.items ++ line_text owner.now (codes "ok " ++ node_text owner.now node)) }
+fn put_found_parts(out: &mut Vec<u8>, owner: &Owner, node: &NodeName) -> Result<(), AllocError>
+    ensures ok { OnOk result (out.new.items ≡ out.old.items ++ line_text owner.now (codes "ok " ++ node_text owner.now node.now)) }
     ensures err { OnErr result (Keeps out.old.items out.new.items) }
 {
     put_owner(out, owner)?;
     out.extend_from_slice(b" ok ")?;
-    put_node(out, *owner, node)?;
+    put_node(out, owner, node)?;
     Ok(out.push(b'\n')?)
 }
 
@@ -198,7 +192,7 @@ fn put_value(out: &mut Vec<u8>, owner: &Owner, value: &Value<'_>) -> Result<(), 
         Value::Node(node) => return put_found(out, owner, node),
         Value::Null => Piece::Text(b"ok null"),
         Value::List(nodes) => Piece::Nodes(b"ok ", nodes),
-        Value::Component(component) => Piece::Owner(b"ok ", *component),
+        Value::Component(component) => Piece::Owner(b"ok ", component),
         Value::Range(number) => Piece::Number(b"ok r", *number as usize),
         Value::Iterator(number) => Piece::Number(b"ok i", *number as usize),
         Value::Walker(number) => Piece::Number(b"ok w", *number as usize),
@@ -207,21 +201,21 @@ fn put_value(out: &mut Vec<u8>, owner: &Owner, value: &Value<'_>) -> Result<(), 
         Value::Truth(true) => Piece::Text(b"ok true"),
         Value::Truth(false) => Piece::Text(b"ok false"),
         Value::Count(count) => Piece::Number(b"ok ", *count),
-        Value::Boundaries { start, end } => return put_boundaries(out, *owner, *start, *end),
-        Value::Reference { node, before } => return put_reference(out, *owner, *node, *before),
+        Value::Boundaries { start, end } => return put_boundaries(out, owner, start, end),
+        Value::Reference { node, before } => return put_reference(out, owner, node, *before),
     };
-    put_line(out, *owner, &[piece])
+    put_line(out, owner, &[piece])
 }
 
 /// Puts the reply that has an iterator's reference, and whether its pointer is before that.
 fn put_reference(
     out: &mut Vec<u8>,
-    owner: Owner,
-    node: NodeName,
+    owner: &Owner,
+    node: &NodeName,
     before: bool,
 ) -> Result<(), AllocError>
     ensures ok { OnOk result (out.new.items
-        ≡ out.old.items ++ output_text (says owner (replied (reference node before)) ∷ [])) }
+        ≡ out.old.items ++ output_text (says owner.now (replied (reference node.now before)) ∷ [])) }
     ensures err { OnErr result (out.new.items ≡ out.old.items) }
 {
     let side = if before {
@@ -233,20 +227,20 @@ fn put_reference(
 }
 
 /// Puts the reply that has a range's start and end.
-fn put_boundaries(
+fn put_boundaries<'a>(
     out: &mut Vec<u8>,
-    owner: Owner,
-    start: Boundary,
-    end: Boundary,
+    owner: &Owner,
+    start: &'a Boundary,
+    end: &'a Boundary,
 ) -> Result<(), AllocError>
     ensures ok { OnOk result (out.new.items
-        ≡ out.old.items ++ output_text (says owner (replied (boundaries (boundary_view start) (boundary_view end))) ∷ [])) }
+        ≡ out.old.items ++ output_text (says owner.now (replied (boundaries (boundary_view start.now) (boundary_view end.now))) ∷ [])) }
     ensures err { OnErr result (out.new.items ≡ out.old.items) }
 {
     let pieces = [
-        Piece::Node(b"ok ", start.node),
+        Piece::Node(b"ok ", &start.node),
         Piece::Number(b" ", start.offset),
-        Piece::Node(b" ", end.node),
+        Piece::Node(b" ", &end.node),
         Piece::Number(b" ", end.offset),
     ];
     put_line(out, owner, &pieces)
@@ -269,7 +263,7 @@ pub fn put_refusal(
         None => out.extend_from_slice(b"! owner\n"),
         Some(owner) => put_line(
             out,
-            owner,
+            &owner,
             &[Piece::Bytes(b"! ", refusal.word().as_bytes())],
         ),
     }

@@ -65,18 +65,22 @@ pub fn put_tree(out: &mut Vec<u8>, owner: Owner, steps: &[TreeStep<'_>]) -> Resu
     ensures err { OnErr result (out.new.items ≡ out.old.items) }
 {
     let length = out.len();
-    let put = put_tree_parts(out, owner, steps);
+    let put = put_tree_parts(out, &owner, steps);
     cut_if_refused(out, length, put)
 }
 
 /// Puts the reply that has a tree, as far as there is memory.
 #[tactic(auto, using(crate::proofs::KeepLaws::keeps_at))]
-fn put_tree_parts(out: &mut Vec<u8>, owner: Owner, steps: &[TreeStep<'_>]) -> Result<(), AllocError>
+fn put_tree_parts(
+    out: &mut Vec<u8>,
+    owner: &Owner,
+    steps: &[TreeStep<'_>],
+) -> Result<(), AllocError>
     ensures ok { OnOk result (out.new.items
-        ≡ out.old.items ++ line_text owner (codes "ok" ++ steps_text owner (steps_view steps.now))) }
+        ≡ out.old.items ++ line_text owner.now (codes "ok" ++ steps_text owner.now (steps_view steps.now))) }
     ensures err { OnErr result (Keeps out.old.items out.new.items) }
 {
-    put_owner(out, &owner)?;
+    put_owner(out, owner)?;
     out.extend_from_slice(b" ok")?;
     put_steps(out, owner, steps)?;
     out.extend_from_slice(b"\n")
@@ -84,8 +88,8 @@ fn put_tree_parts(out: &mut Vec<u8>, owner: Owner, steps: &[TreeStep<'_>]) -> Re
 
 /// Puts openings, each behind a space, and closings.
 #[tactic(auto, using(crate::proofs::KeepLaws::keeps_at))]
-fn put_steps(out: &mut Vec<u8>, viewer: Owner, steps: &[TreeStep<'_>]) -> Result<(), AllocError>
-    ensures ok { OnOk result (out.new.items ≡ out.old.items ++ steps_text viewer (steps_view steps.now)) }
+fn put_steps(out: &mut Vec<u8>, viewer: &Owner, steps: &[TreeStep<'_>]) -> Result<(), AllocError>
+    ensures ok { OnOk result (out.new.items ≡ out.old.items ++ steps_text viewer.now (steps_view steps.now)) }
     ensures err { OnErr result (Keeps out.old.items out.new.items) }
 {
     for step in steps {
@@ -96,15 +100,15 @@ fn put_steps(out: &mut Vec<u8>, viewer: Owner, steps: &[TreeStep<'_>]) -> Result
 
 /// Puts an opening behind a space, or a closing.
 #[tactic(auto, using(crate::proofs::KeepLaws::keeps_at))]
-fn put_step(out: &mut Vec<u8>, viewer: Owner, step: &TreeStep<'_>) -> Result<(), AllocError>
-    ensures ok { OnOk result (out.new.items ≡ out.old.items ++ step_text viewer (step_view step.now)) }
+fn put_step(out: &mut Vec<u8>, viewer: &Owner, step: &TreeStep<'_>) -> Result<(), AllocError>
+    ensures ok { OnOk result (out.new.items ≡ out.old.items ++ step_text viewer.now (step_view step.now)) }
     ensures err { OnErr result (Keeps out.old.items out.new.items) }
 {
     match step {
         TreeStep::Closes => out.extend_from_slice(b")"),
         TreeStep::Opens(opening) => {
             out.extend_from_slice(b" (")?;
-            put_node(out, viewer, opening.name)?;
+            put_node(out, viewer, &opening.name)?;
             out.extend_from_slice(b" ")?;
             out.extend_from_slice(kind_name(opening.kind).as_bytes())?;
             put_own_parts(out, opening)

@@ -1,9 +1,9 @@
 //! Records of observers as lines.
-ghost use Rattle.std.specs.Prelude.{◌≡◌, ◌++◌, ◌∷◌, [], OnOk};
+ghost use Rattle.std.specs.Prelude.{◌≡◌, ◌++◌, ◌∷◌, [], All, IfOk, OnOk, map};
 ghost use Rattle.std.specs.List.{AllByRecursion};
 ghost use Rattle.std.specs.Option.{option_map, ForSome};
 ghost use Rattle.dom_text.specs.Text.{output_text};
-ghost use Rattle.dom_tree.specs.Forest.{IsNode, name_at};
+ghost use Rattle.dom_tree.specs.Forest.{IsNode, name_at, name_of};
 ghost use Rattle.dom_query_commands.specs.Recorded.{record_line, record_lines, notice_lines, IsRecord, IsNotice};
 
 use dom_admission::names_of;
@@ -13,6 +13,41 @@ use dom_printer::{Change, put_record};
 use dom_tree::Forest;
 use node_arena::Key;
 use std::alloc::{AllocError, Global};
+
+/// The names of nodes, in their order. One or two take no memory.
+#[derive(Drop)]
+enum Names {
+    One([NodeName; 1]),
+    Two([NodeName; 2]),
+    Many(Vec<NodeName>),
+}
+
+impl Names {
+    ghost use Rattle.dom_query_commands.specs.RecordNames.{names_in};
+
+    /// The names of these nodes.
+    fn of(alloc: Global, forest: &Forest, keys: &[Key]) -> Result<Names, AllocError>
+        requires { All (IsNode forest.now) keys.now }
+        ensures { IfOk result (λ names. names_in names ≡ map (name_of forest.now) keys.now) }
+    {
+        match keys {
+            [node] => Ok(Names::One([forest.name(*node)])),
+            [first, second] => Ok(Names::Two([forest.name(*first), forest.name(*second)])),
+            _ => Ok(Names::Many(names_of(alloc, forest, keys)?)),
+        }
+    }
+
+    /// The names.
+    fn as_slice(&self) -> &[NodeName]
+        ensures { result.now ≡ names_in self.now }
+    {
+        match self {
+            Names::One(names) => names,
+            Names::Two(names) => names,
+            Names::Many(names) => names.as_slice(),
+        }
+    }
+}
 
 /// Puts the records of a notification, each observer's in order.
 pub(crate) fn put_notices(
@@ -45,7 +80,7 @@ pub(crate) fn put_records(
     ensures { OnOk result (out.new.items ≡ out.old.items ++ output_text (record_lines forest.now.names owner observer records.now)) }
 {
     for told in records {
-        put_change(alloc, forest, owner, observer, told, out)?;
+        put_change(alloc, forest, &owner, observer, told, out)?;
     }
     Ok(())
 }
@@ -54,13 +89,13 @@ pub(crate) fn put_records(
 fn put_change(
     alloc: Global,
     forest: &Forest,
-    owner: Owner,
+    owner: &Owner,
     observer: u32,
     told: &Record,
     out: &mut Vec<u8>,
 ) -> Result<(), AllocError>
     requires { IsRecord forest.now.names told.now }
-    ensures { OnOk result (out.new.items ≡ out.old.items ++ output_text (record_line forest.now.names owner observer told.now ∷ [])) }
+    ensures { OnOk result (out.new.items ≡ out.old.items ++ output_text (record_line forest.now.names owner.now observer told.now ∷ [])) }
 {
     match told {
         Changed::ChildList {
@@ -70,8 +105,8 @@ fn put_change(
             previous,
             next,
         } => {
-            let plus = names_of(alloc, forest, added.as_slice())?;
-            let minus = names_of(alloc, forest, removed.as_slice())?;
+            let plus = Names::of(alloc, forest, added.as_slice())?;
+            let minus = Names::of(alloc, forest, removed.as_slice())?;
             let change = Change::ChildList {
                 target: forest.name(*target),
                 added: plus.as_slice(),

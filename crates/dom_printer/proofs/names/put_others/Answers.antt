@@ -16,5 +16,5 @@ returns-in_err-put_node c =
     let r = c.from_residual-in_err-put_node in
     let before = c.loop-node.out.items in
     let comma : c.push.new.self.items ≡ before ++ codes "," = c.in_ok-push.ensures.items in
-    let nodes = flat_map (next_node_text c.args.viewer) (take c.loop-node.node-index c.args.nodes.now) in
+    let nodes = flat_map (next_node_text c.args.viewer.now) (take c.loop-node.node-index c.args.nodes.now) in
     failed_put _ (nodes ++ codes ",") (both _ nodes c.loop-node.invariant (codes ",") comma) r.result _ _ r.ensures.0 c.in_err-put_node.ensures.err

@@ -10,7 +10,7 @@ returns-in_err-put_piece c =
 
 pub loop-piece-preserved : goal.loop-piece-preserved
 loop-piece-preserved c =
-    one_more (piece_text c.args.viewer) c.args.pieces.now c.loop-piece.piece-index _ c.args.out.now.items (record {
+    one_more (piece_text c.args.viewer.now) c.args.pieces.now c.loop-piece.piece-index _ c.args.out.now.items (record {
       inside = c.loop-piece-test.true;
       so_far = c.loop-piece.invariant;
       put = c.in_ok-put_piece.ensures.ok;
