@@ -1,9 +1,8 @@
 //! What many nodes have in common.
 ghost use Rattle.std.specs.Prelude.{◌≡◌, true, IfOk};
 ghost use Rattle.std.specs.Rc.{rc_str_bytes};
-ghost use Rattle.std.specs.String.{string_bytes};
 
-use dom_attributes::SharedNames;
+use dom_attributes::{SharedNames, is_same_text};
 use dom_base::Owner;
 use std::alloc::{AllocError, Global};
 use std::collections::HashSet;
@@ -21,10 +20,11 @@ const FEW: usize = 8;
 
 impl Shared {
     /// Whether it is this owner with this local name.
+    #[inline(always)]
     fn is(&self, owner: Owner, element: &str) -> bool
         ensures { result ≡ true → (self.now.owner ≡ owner) × (rc_str_bytes self.now.element ≡ element.now) }
     {
-        self.owner == owner && self.element.as_str() == element
+        self.owner == owner && is_same_text(self.element.as_str(), element)
     }
 }
 
@@ -33,6 +33,8 @@ impl Shared {
 #[derive(Drop)]
 pub(crate) struct SharedTable {
     few: Vec<Rc<Shared>>,
+    /// The place among the few that was found last.
+    last: usize,
     others: HashSet<Rc<Shared>>,
     names: SharedNames,
     alloc: Global,
@@ -43,23 +45,38 @@ impl SharedTable {
     pub(crate) fn new(alloc: Global) -> Self {
         SharedTable {
             few: Vec::new(alloc),
+            last: 0,
             others: HashSet::new(alloc),
             names: SharedNames::new(alloc),
             alloc,
         }
     }
 
-    /// An owner with a local name, as it is kept, or from now on.
-    pub(crate) fn shared(&mut self, owner: Owner, element: String) -> Result<Rc<Shared>, AllocError>
+    /// An owner with a local name, as it is kept, or from now on. What was found last among the few is tried first.
+    #[inline(always)]
+    pub(crate) fn shared(&mut self, owner: Owner, element: &str) -> Result<Rc<Shared>, AllocError>
         ensures owner { IfOk result (λ shared. shared.value.owner ≡ owner) }
-        ensures element { IfOk result (λ shared. rc_str_bytes shared.value.element ≡ string_bytes element) }
+        ensures element { IfOk result (λ shared. rc_str_bytes shared.value.element ≡ element.now) }
     {
-        for kept in &self.few {
-            if kept.is(owner, element.as_str()) {
+        match self.few.get(self.last) {
+            Some(kept) if kept.is(owner, element) => kept.clone(),
+            _ => self.sought(owner, element),
+        }
+    }
+
+    /// An owner with a local name, sought among all that are kept, and kept from now on.
+    #[inline(never)]
+    fn sought(&mut self, owner: Owner, element: &str) -> Result<Rc<Shared>, AllocError>
+        ensures owner { IfOk result (λ shared. shared.value.owner ≡ owner) }
+        ensures element { IfOk result (λ shared. rc_str_bytes shared.value.element ≡ element.now) }
+    {
+        for (place, kept) in self.few.iter().enumerate() {
+            if kept.is(owner, element) {
+                self.last = place;
                 return kept.clone();
             }
         }
-        let element = self.names.name(element.as_str())?;
+        let element = self.names.name(element)?;
         self.kept(Rc::new(self.alloc, Shared { owner, element })?)
     }
 

@@ -50,6 +50,21 @@ impl Own {
         if attributes.is_empty() {
             return Ok(Own::Bare { kind, number });
         }
+        Own::attributed(alloc, kind, number, attributes)
+    }
+
+    /// Of a node of this kind and number, with the attributes of a map. It is out of line, since most nodes are made without.
+    #[inline(never)]
+    fn attributed(
+        alloc: Global,
+        kind: Kind,
+        number: u32,
+        attributes: IndexMap<String, DomStr>,
+    ) -> Result<Self, AllocError>
+        ensures kind { IfOk result (λ own. kind_in own ≡ kind) }
+        ensures number { IfOk result (λ own. number_in own ≡ number) }
+        ensures attributes { IfOk result (λ own. attributes_in own ≡ attributes_from attributes.entries) }
+    {
         let attributes = Box::new(alloc, AttributeList::of(alloc, attributes)?)?;
         Ok(Own::Attributed {
             kind,
@@ -138,7 +153,7 @@ impl StoredNode {
             document,
         } = node;
         Ok(StoredNode {
-            shared: table.shared(name.owner, element)?,
+            shared: table.shared(name.owner, element.as_str())?,
             own: Own::of(alloc, kind, name.number, attributes)?,
             text,
             document,

@@ -41,6 +41,15 @@ contains-at [] i k within here = absurd (omega arith)
 contains-at (x ∷ xs) zero k within here = or_left (eqb x k) _ (eq-eqb x k here)
 contains-at (x ∷ xs) (suc i) k within here = or_right (eqb x k) _ (contains-at xs i k (omega arith) here)
 
+-- the only place at which a key stands
+pub place_in-once : (xs : List ℕ) (i k : ℕ) → IsOnce xs → i < length xs → get_or xs i 0 ≡ k → place_in xs k ≡ i
+place_in-once [] i k once within here = absurd (omega arith)
+place_in-once (x ∷ xs) zero k once within here = rw (eq-eqb x k here) refl
+place_in-once (x ∷ xs) (suc i) k once within here =
+    let other : eqb x k ≡ true → ⊥ = λ same. true≢false
+    (sym (contains-at xs i k (omega arith) here) ∙ (ap (contains xs) (sym (eqb-true x k same)) ∙ once.0)) in
+    rw (false_from_ne_true _ other) (ap suc (place_in-once xs i k once.1 (omega arith) here))
+
 -- ---- the blocks and the whole list
 
 pub contains-concat : (blocks : List (List ℕ)) (b k : ℕ) → contains (block_of blocks b) k ≡ true → contains (concat blocks) k ≡ true

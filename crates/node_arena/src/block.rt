@@ -2,16 +2,19 @@
 ghost use Rattle.std.specs.Prelude.{◌≡◌, ◌<◌, ◌≤◌, ◌++◌, ◌∷◌, [], length, take, drop, true, false, is_ok, if◌then◌else◌, IfOk, OnErr, OnOk, None};
 ghost use Rattle.std.specs.List.{insert, remove};
 ghost use Rattle.std.specs.Option.{ForSome};
-ghost use Rattle.node_arena.specs.Nodes.{contains, last_of, place_in};
+ghost use Rattle.node_arena.specs.Nodes.{contains, last_of, place_in, IsOnce};
 
 use crate::Key;
 use std::alloc::{AllocError, Global};
+use std::cell::Cell;
 use std::marker::Model;
 
 /// Keys of one block of a longer list.
 #[derive(Drop)]
 pub(crate) struct Block {
     keys: Vec<Key>,
+    /// The place that was found last.
+    found: Cell<usize>,
 }
 
 impl Model for Block {
@@ -29,7 +32,17 @@ impl Block {
     {
         let mut keys = Vec::with_capacity(alloc, room)?;
         keys.push(key)?;
-        Ok(Block { keys })
+        Ok(Block::with(keys))
+    }
+
+    /// A block of these keys.
+    fn with(keys: Vec<Key>) -> Self
+        ensures { result ≡ keys.items }
+    {
+        Block {
+            keys,
+            found: Cell::new(0),
+        }
     }
 
     pub(crate) fn len(&self) -> usize
@@ -51,14 +64,30 @@ impl Block {
         self.keys.last().copied()
     }
 
-    /// The place of a key, where the block has it.
+    /// The place of a key, where the block has it. The place that was found last is tried first, since a key that is asked for is often
+    /// the one that is put before or taken out next.
     pub(crate) fn find(&self, key: Key) -> Option<usize>
+        requires once { IsOnce self.now }
+        ensures found { ForSome result (λ i. (contains self.now key ≡ true) × (i ≡ place_in self.now key)) }
+        ensures within { ForSome result (λ i. i < length self.now) }
+        ensures absent { result ≡ None → contains self.now key ≡ false }
+    {
+        let found = self.found.get();
+        match self.keys.get(found) {
+            Some(kept) if *kept == key => Some(found),
+            _ => self.seek(key),
+        }
+    }
+
+    /// The place of a key, where the block has it, sought from the front.
+    fn seek(&self, key: Key) -> Option<usize>
         ensures found { ForSome result (λ i. (contains self.now key ≡ true) × (i ≡ place_in self.now key)) }
         ensures within { ForSome result (λ i. i < length self.now) }
         ensures absent { result ≡ None → contains self.now key ≡ false }
     {
         for place in 0..self.keys.len() {
             if self.keys[place] == key {
+                self.found.set(place);
                 return Some(place);
             }
         }
@@ -98,6 +127,6 @@ impl Block {
         ensures err { OnErr result (self.new ≡ self.old) }
     {
         let keys = self.keys.split_off(place)?;
-        Ok(Block { keys })
+        Ok(Block::with(keys))
     }
 }

@@ -1,12 +1,21 @@
-use Rattle.std.proofs.Common.{◌≡◌, [], List, ℕ, true, get_or, ap, ◌∙◌, arith}
+use Rattle.std.proofs.Common.{◌≡◌, [], List, ℕ, true, length, get_or, sym, ap, ◌∙◌, arith}
 use Rattle.std.specs.Prelude.{slice_get}
-use Rattle.std.proofs.lemmas.Bool.{both_ways}
+use Rattle.std.proofs.lemmas.Bool.{both_ways, ltb-true}
 use Rattle.std.proofs.lemmas.List.{get_or_default}
 use Rattle.std.proofs.lemmas.Option.{get_or_from_slice_get, slice_get_within}
 use Rattle.node_arena.specs.Nodes.{contains}
 use Rattle.node_arena.specs.Blocks.{block_of, IsNumbered}
 use Rattle.node_arena.proofs.BlockLists.{absent_from, block_within}
 use Rattle.node_arena.proofs.ordered_keys.locate.Goals as goal
+
+pub find-requires : goal.find-requires
+find-requires c =
+    let blocks = c.args.blocks.now in
+    let number = c.in_ok-number.field-0.now in
+    let within = ltb-true number (length blocks) (sym c.in_ok-get.ensures.lookup.0) in
+    let block : c.in_ok-get.field-0.now ≡ block_of blocks number =
+    c.in_ok-get.ensures.lookup.1 ∙ get_or_default blocks number c.in_ok-get.field-0.now [] within in
+    rw block record { once = c.requires.once number }
 
 pub returns-in_err-number-clause-absent : goal.returns-in_err-number-clause-absent
 returns-in_err-number-clause-absent c none = absent_from c.args.blocks.now c.args.key (λ b found.
