@@ -1,4 +1,5 @@
 -- What proofs cite of this crate's definitions.
+pub use Rattle.dom_observers.specs.ByOwner.{table_at, tables_in, Writes}
 pub use Rattle.dom_observers.specs.InterestedObservers.{found_of, HasFound, record_of}
 pub use Rattle.dom_observers.specs.Marks.{is_marked, IsNearest, looked_at, marked_in}
 pub use Rattle.dom_observers.specs.Naming.{AreAll, AreRegistered, DisconnectedLaw, EmptiedLaw, IsChangeAt, IsKey, IsSourceOf, LeftLaw, MakingLaw, named_change}

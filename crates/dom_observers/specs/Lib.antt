@@ -10,6 +10,7 @@ pub mod Paths
 pub mod Taking
 pub mod InterestedObservers
 pub mod TablesByOwner
+pub mod ByOwner
 pub mod Owners
 pub mod Naming
 pub mod Staying

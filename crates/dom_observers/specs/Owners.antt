@@ -1,7 +1,8 @@
 -- Each owner's tables.
-use Rattle.std.specs.Prelude.{◌≡◌, ℕ, map, unwrap_or, if◌then◌else◌}
+use Rattle.std.specs.Prelude.{◌≡◌, ℕ, ◌∷◌, map, unwrap_or, if◌then◌else◌}
 use Rattle.std.specs.Map.{lookup}
 use Rattle.dom_base.specs.declared.Owner.{Owner}
+use Rattle.dom_base.specs.declared.Owner.TheVariants.{Page}
 use Rattle.dom_model.specs.Names.{owner_eq}
 use Rattle.dom_observers.specs.declared.observers.Observers.TheInside.{Inside}
 use Rattle.dom_observers.specs.Tables.{TablesOf, no_tables}
@@ -12,9 +13,9 @@ use Rattle.dom_observers.specs.TablesByOwner.{TablesByOwner}
 abbrev pub tables_of : TablesByOwner → Owner → TablesOf ℕ
 tables_of all o = unwrap_or (lookup (owner_eq o) all) no_tables
 
--- what the code holds of them
+-- what the code holds of them: the page's, and those of the components that have had an observer
 abbrev pub all_tables : Inside → TablesByOwner
-all_tables o = map (λ e. (e.0, table_of e.1)) o.tables.entries
+all_tables o = (Page, table_of o.tables.page) ∷ map (λ e. (e.0, table_of e.1)) o.tables.components.entries
 
 -- one owner's tables are new, and each other owner's as they were
 abbrev pub ChangesTables : Owner → TablesOf ℕ → TablesByOwner → TablesByOwner → Type 0

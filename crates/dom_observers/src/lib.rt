@@ -3,6 +3,7 @@
 //! owner has its own observers, registrations and pending observers (own rule).
 #![tactic(auto)]
 
+mod by_owner;
 mod change;
 mod interested;
 mod laws;

@@ -1,9 +1,8 @@
 //! The mutation observers of all owners.
 ghost use Rattle.std.specs.Prelude.{◌≡◌, ◌↔◌, ◌⊎◌, nat_eq, nat_lt, true, false, not, map, length, option_map, slice_get, is_some, IfOk, IfErr};
 ghost use Rattle.std.specs.Prelude.{OnOk, OnErr, if◌then◌else◌};
-ghost use Rattle.std.specs.Map.{lookup};
 ghost use Rattle.dom_base.specs.declared.Owner.{Owner as Owners};
-ghost use Rattle.dom_model.specs.Names.{owner_eq, is_empty};
+ghost use Rattle.dom_model.specs.Names.{is_empty};
 ghost use Rattle.dom_model.specs.CommandRefusals.{past_limit};
 ghost use Rattle.dom_model.specs.Observers.{options_of, asks_for_nothing, target_of};
 ghost use Rattle.dom_tree.specs.Forest.{IsNode, name_of};
@@ -12,20 +11,19 @@ ghost use Rattle.dom_observers.specs.Views.{words_of, change_of, notice_of};
 ghost use Rattle.dom_observers.specs.Paths.{path_keys};
 ghost use Rattle.dom_observers.specs.Owners.{tables_of, ChangesTables, KeepsTables};
 
+use crate::by_owner::ByOwner;
 use crate::change::{Change, Record};
 use crate::options::Options;
-use crate::table::Table;
 use dom_base::{Fault, Owner, Refusal};
 use dom_tree::Forest;
 use node_arena::Key;
 use std::alloc::{AllocError, Global};
-use std::collections::HashMap;
 use std::marker::Model;
 
 /// The mutation observers of all owners (DOM Standard, 4.3 Mutation observers): each owner's registrations, record queues
 /// and pending observers. An owner's observers have the numbers 0, 1, .. in the order of their making.
 pub struct Observers {
-    tables: HashMap<Owner, Table>,
+    tables: ByOwner,
     alloc: Global,
 }
 
@@ -52,7 +50,7 @@ impl Observers {
         ensures { (o : Owners) → tables_of result o ≡ no_tables }
     {
         Observers {
-            tables: HashMap::new(alloc),
+            tables: ByOwner::new(alloc),
             alloc,
         }
     }
@@ -66,24 +64,11 @@ impl Observers {
         ensures other { IfErr result (λ fault. (fault ≡ Fault.Refused Refusal.Limit) ⊎ (fault ≡ Fault.Memory)) }
         ensures err { OnErr result (KeepsTables self.old self.new) }
     {
-        self.prepare(owner)?;
-        let Some(table) = self.tables.get_mut(&owner) else {
+        self.tables.prepare(owner)?;
+        let Some(table) = self.tables.get_mut(owner) else {
             unreachable!()
         };
         table.make()
-    }
-
-    /// Makes an owner's table where there is none.
-    fn prepare(&mut self, owner: Owner) -> Result<(), AllocError>
-        ensures keeps { KeepsTables self.old self.new }
-        ensures there { OnOk result (is_some (lookup (owner_eq owner) self.new) ≡ true) }
-        ensures none { OnErr result (tables_of self.old owner ≡ no_tables) }
-    {
-        if self.tables.contains_key(&owner) {
-            return Ok(());
-        }
-        drop(self.tables.insert(owner, Table::new(self.alloc))?);
-        Ok(())
     }
 
     /// Registers an owner's observer on a node of this owner, or gives its registration there other options (DOM Standard,
@@ -108,7 +93,7 @@ impl Observers {
         ensures err { OnErr result (KeepsTables self.old self.new) }
     {
         prove!(forest.name(node).owner == owner);
-        let Some(table) = self.tables.get_mut(&owner) else {
+        let Some(table) = self.tables.get_mut(owner) else {
             return Err(Fault::Refused(Refusal::Unknown));
         };
         table.observe(observer, node, options)
@@ -118,13 +103,13 @@ impl Observers {
     pub fn has(&self, owner: Owner, observer: u32) -> bool
         ensures { result ≡ is_some (slice_get (tables_of self.now owner).record_queues observer) }
     {
-        match self.tables.get(&owner) {
+        match self.tables.get(owner) {
             Some(table) => table.has(observer),
             None => false,
         }
     }
 
-    /// Whether an owner has registrations, so that a change of a node of it may be recorded (own rule). Where no owner has had an
+    /// Whether an owner has registrations, so that a change of a node of it may be recorded (own rule). Where no component has had an
     /// observer there is no look-up.
     pub fn is_watched(&self, owner: Owner) -> bool
         ensures { result ≡ not (is_empty (tables_of self.now owner).registrations) }
@@ -138,10 +123,7 @@ impl Observers {
     pub fn watch(&self, owner: Owner) -> (bool, Option<Key>)
         ensures { result.0 ≡ not (is_empty (tables_of self.now owner).registrations) }
     {
-        if self.tables.is_empty() {
-            return (false, None);
-        }
-        match self.tables.get(&owner) {
+        match self.tables.get(owner) {
             Some(table) => (!table.has_no_registration(), table.only_above()),
             None => (false, None),
         }
@@ -153,7 +135,7 @@ impl Observers {
         ensures value { result ≡ nat_lt observer (length (tables_of self.old owner).record_queues) }
         ensures tables { ChangesTables owner (if result then disconnected observer (tables_of self.old owner) else tables_of self.old owner) self.old self.new }
     {
-        let Some(table) = self.tables.get_mut(&owner) else {
+        let Some(table) = self.tables.get_mut(owner) else {
             return false;
         };
         table.disconnect(observer)
@@ -165,7 +147,7 @@ impl Observers {
         ensures records { option_map (λ records. map change_of records.items) result ≡ slice_get (tables_of self.old owner).record_queues observer }
         ensures tables { ChangesTables owner (emptied observer (tables_of self.old owner)) self.old self.new }
     {
-        let Some(table) = self.tables.get_mut(&owner) else {
+        let Some(table) = self.tables.get_mut(owner) else {
             return None;
         };
         table.take(observer)
@@ -187,7 +169,7 @@ impl Observers {
     {
         let target = change.target();
         let owner = forest.name(target).owner;
-        let Some(table) = self.tables.get_mut(&owner) else {
+        let Some(table) = self.tables.get_mut(owner) else {
             return Ok(false);
         };
         table.queue_record(forest, change)
@@ -202,11 +184,8 @@ impl Observers {
         ensures { OnOk result (ChangesTables (name_of forest.now node).owner
             (left nat_eq node (path_keys forest.now parent) (tables_of self.old (name_of forest.now node).owner)) self.old self.new) }
     {
-        if self.tables.is_empty() {
-            return Ok(());
-        }
         let owner = forest.name(node).owner;
-        let Some(table) = self.tables.get_mut(&owner) else {
+        let Some(table) = self.tables.get_mut(owner) else {
             return Ok(());
         };
         table.add_transients(forest, parent, node)
@@ -220,7 +199,7 @@ impl Observers {
         ensures tables { OnOk result (ChangesTables owner (notified (tables_of self.old owner)) self.old self.new) }
     {
         let alloc = self.alloc;
-        let Some(table) = self.tables.get_mut(&owner) else {
+        let Some(table) = self.tables.get_mut(owner) else {
             return Ok(Vec::new(alloc));
         };
         table.notify()

@@ -208,7 +208,7 @@ impl Table {
     }
 
     /// Adds the transient registrations of a node that leaves a parent (DOM Standard, remove). Where it gets none, it costs
-    /// a look for each inclusive ancestor of the parent.
+    /// a look for each inclusive ancestor of the parent, and where nobody is registered, nothing.
     pub(crate) fn add_transients(
         &mut self,
         forest: &Forest,
@@ -218,6 +218,9 @@ impl Table {
         requires { IsNode forest.now parent }
         ensures { OnOk result (table_of self.new ≡ left nat_eq node (path_keys forest.now parent) (table_of self.old)) }
     {
+        if self.registrations.is_empty() {
+            return Ok(());
+        }
         self.registrations.add_transients(forest, parent, node)
     }
 

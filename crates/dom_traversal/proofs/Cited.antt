@@ -26,12 +26,15 @@ pub use Rattle.dom_laws.proofs.Laws.{Single-apart, Single-append, Single-right, 
 pub use Rattle.dom_laws.proofs.Laws.{was_some, within-itself, within-member, within-parent, within-root, within-top}
 pub use Rattle.dom_laws.specs.Within.{ahead_of, behind, beyond, from_node, up_to_node, up_to_tree}
 pub use Rattle.dom_traversal.specs.Definitions.{AllCursors, AreLeft, AreListed, AreOutside, AreSorted, AreTested, Begins, BeginsBackward, BeginsForward}
-pub use Rattle.dom_traversal.specs.Definitions.{child_move, ComesBack, cursors_of, Direction, EachItem, entered_by, filter_of, Inside, is_accepted_but}
+pub use Rattle.dom_traversal.specs.Definitions.{ByOwner}
+pub use Rattle.dom_traversal.specs.Definitions.{child_move, ComesBack, cursors_in, cursors_of, Direction, EachItem, entered_by, entries_of, filter_of}
+pub use Rattle.dom_traversal.specs.Definitions.{is_accepted_but}
 pub use Rattle.dom_traversal.specs.Definitions.{is_candidate, is_entered, is_inside, is_opened, is_passable, is_reached, is_stop, IsBefore, IsIteratorOf}
 pub use Rattle.dom_traversal.specs.Definitions.{IsLeft, IsLeftIf, IsUpTo, IsWalkerOf, iterator_at, iterator_found, iterator_left, iterator_rest, iterator_view}
 pub use Rattle.dom_traversal.specs.Definitions.{KeyedIterator, KeyedTables, KeyedWalker, MayHaveLeft, name_filter_of, Next, no_keyed_tables, outer_child}
 pub use Rattle.dom_traversal.specs.Definitions.{Previous, reached_from, Reference, reference_at, show_of, sibling_in, sibling_move, stands_before, StepsBehind}
-pub use Rattle.dom_traversal.specs.Definitions.{StepsBeside, stop_above, stop_of, walker_at, walker_left, walker_rest, walker_view, with_cursors}
+pub use Rattle.dom_traversal.specs.Definitions.{StepsBeside, stop_above, stop_of, table_at, walker_at, walker_left, walker_rest, walker_view, with_cursors}
+pub use Rattle.dom_traversal.specs.Definitions.{Writes}
 pub use Rattle.dom_tree.proofs.OwnerLists.{of_ok}
 pub use Rattle.dom_tree.proofs.Searching.{following_step, IsWithin-itself, IsWithin-key, left-ahead, left-behind, length-ahead, length-behind, preceding_step}
 pub use Rattle.dom_tree.proofs.Searching.{StandsIn-found}

@@ -1,5 +1,6 @@
 -- Iterators that leave the tree of a node, in any order and as often as they are asked.
-use Rattle.dom_traversal.proofs.Cited.{◌≡◌, ℕ, ◌+◌, ◌<◌, ◌≤◌, Bool, true, false, not, cond, inl, inr, List, length, Option, Some, None, refl, sym, subst, ◌∙◌}
+use Rattle.dom_traversal.proofs.Cited.{◌≡◌, ℕ, ◌+◌, ◌<◌, ◌≤◌, Bool, true, false, not, cond, inl, inr, List, [], ◌∷◌, length, Option, Some, None, refl, sym}
+use Rattle.dom_traversal.proofs.Cited.{subst, ◌∙◌}
 use Rattle.dom_traversal.proofs.Cited.{arith, slice_get, slice_set, ◌||◌, cases_eq, cases_lt, none-some, adjusted_iterator, is_inclusive_ancestor, name_at}
 use Rattle.dom_traversal.proofs.Cited.{NamedTrees, AreLeft, EachItem, IsIteratorOf, IsLeft, IsLeftIf, iterator_view, KeyedIterator, MayHaveLeft}
 use Rattle.dom_traversal.proofs.Items.{get_set, get_set_other}
@@ -105,6 +106,11 @@ module _ (f : NamedTrees) (node : ℕ) where
   -- nobody has left yet
   pub may-none : (was : List KeyedIterator) → MayHaveLeft f node was was
   may-none was k = inr refl
+
+  -- all have left where there are none
+  pub none-there : (was : List KeyedIterator) → length was ≡ 0 → AreLeft f node was was
+  none-there [] e k = tt
+  none-there (i ∷ is) e k = absurd (omega (arith, e))
 
   -- all are iterators of the forest still
   pub may-items : (was now : List KeyedIterator) → MayHaveLeft f node was now → EachItem (IsIteratorOf f) was → EachItem (IsIteratorOf f) now

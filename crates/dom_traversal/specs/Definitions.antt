@@ -1,4 +1,5 @@
 -- What proofs cite of this crate's definitions.
+pub use Rattle.dom_traversal.specs.ByOwner.{cursors_in, entries_of, table_at, Writes}
 pub use Rattle.dom_traversal.specs.Cursors.{AllCursors, cursors_of, with_cursors}
 pub use Rattle.dom_traversal.specs.Directions.{child_move, outer_child, sibling_in, sibling_move}
 pub use Rattle.dom_traversal.specs.Filters.{filter_of, name_filter_of, show_of}
@@ -9,7 +10,7 @@ pub use Rattle.dom_traversal.specs.References.{AreListed, AreNodes, AreOutside, 
 pub use Rattle.dom_traversal.specs.Walkers.{Begins, BeginsBackward, BeginsForward, ComesBack, entered_by, is_accepted_but, is_candidate, is_entered, is_opened}
 pub use Rattle.dom_traversal.specs.Walkers.{is_passable, is_reached, is_stop, IsWalkerOf, KeyedWalker, reached_from, StepsBehind, StepsBeside, stop_above}
 pub use Rattle.dom_traversal.specs.Walkers.{stop_of, walker_at, walker_left, walker_rest, walker_view}
-pub use Rattle.dom_traversal.specs.declared.cursors.Cursors.TheInside.{Inside}
+pub use Rattle.dom_traversal.specs.declared.by_owner.ByOwner.{ByOwner}
 pub use Rattle.dom_traversal.specs.declared.iter.Direction.{Direction}
 pub use Rattle.dom_traversal.specs.declared.iter.Direction.TheVariants.{Next, Previous}
 pub use Rattle.dom_traversal.specs.declared.references.Reference.{Reference}

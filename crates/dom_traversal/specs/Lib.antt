@@ -5,5 +5,6 @@ pub mod Directions
 pub mod Walkers
 pub mod OwnTables
 pub mod Cursors
+pub mod ByOwner
 pub mod References
 pub mod Definitions

@@ -1,10 +1,8 @@
 //! The node iterators and tree walkers of all owners.
 ghost use Rattle.std.specs.Prelude.{◌≡◌, ◌≤◌, ◌↔◌, ◌⊎◌, ◌++◌, ◌∷◌, [], length, true, false, is_some, slice_get, slice_set, IfOk, IfErr, OnOk, OnErr};
-ghost use Rattle.std.specs.Map.{lookup};
 ghost use Rattle.std.specs.Option.{option_map, ForSome};
 ghost use Rattle.dom_base.specs.declared.Owner.{Owner as Owners};
 ghost use Rattle.dom_base.specs.declared.Refusal.TheVariants.{Limit};
-ghost use Rattle.dom_model.specs.Names.{owner_eq};
 ghost use Rattle.dom_model.specs.Traversal.{iterator_next_node, iterator_previous_node, walker_move};
 ghost use Rattle.dom_tree.specs.Forest.{IsNode, name_of};
 ghost use Rattle.dom_traversal.specs.Filters.{filter_of};
@@ -14,25 +12,23 @@ ghost use Rattle.dom_traversal.specs.OwnTables.{EachItem, AreLeft, no_keyed_tabl
 ghost use Rattle.dom_traversal.specs.Cursors.{cursors_of, with_cursors};
 
 use crate::Filter;
+use crate::by_owner::ByOwner;
 use crate::iter::Direction;
-use crate::tables::OwnTables;
 use dom_base::{Fault, Move, Owner};
 use dom_tree::Forest;
 use node_arena::Key;
-use std::alloc::{AllocError, Global};
-use std::collections::HashMap;
+use std::alloc::Global;
 use std::marker::Model;
 
 /// The iterators and walkers of all owners. An owner's have the numbers 0, 1, .. in the order of their making.
 pub struct Cursors {
-    tables: HashMap<Owner, OwnTables>,
-    alloc: Global,
+    tables: ByOwner,
 }
 
 impl Drop for Cursors {
     // Written out, so that the crates above cite it, and do not prove again how each field is let go.
     fn drop(self) {
-        let Self { tables, alloc } = self;
+        let Self { tables } = self;
     }
 }
 
@@ -41,7 +37,9 @@ impl Model for Cursors {
 
     ghost Value = { AllCursors };
 
-    ghost view = { λ c. c.tables.entries };
+    ghost use Rattle.dom_traversal.specs.ByOwner.{entries_of};
+
+    ghost view = { λ c. entries_of c.tables };
 }
 
 impl Cursors {
@@ -50,29 +48,15 @@ impl Cursors {
         ensures { (o : Owners) → cursors_of result o ≡ no_keyed_tables }
     {
         Cursors {
-            tables: HashMap::new(alloc),
-            alloc,
+            tables: ByOwner::new(alloc),
         }
-    }
-
-    /// Makes an owner's tables where there are none.
-    fn prepare(&mut self, owner: Owner) -> Result<(), AllocError>
-        ensures keeps { cursors_of self.new ≡ cursors_of self.old }
-        ensures there { OnOk result (is_some (lookup (owner_eq owner) self.new) ≡ true) }
-        ensures none { OnErr result (cursors_of self.old owner ≡ no_keyed_tables) }
-    {
-        if self.tables.contains_key(&owner) {
-            return Ok(());
-        }
-        let _ = self.tables.insert(owner, OwnTables::new(self.alloc))?;
-        Ok(())
     }
 
     /// Whether an owner has an iterator of a number.
     pub fn has_iter(&self, owner: Owner, number: u32) -> bool
         ensures { result ≡ is_some (slice_get (cursors_of self.now owner).iterators number) }
     {
-        match self.tables.get(&owner) {
+        match self.tables.get(owner) {
             Some(tables) => tables.has_iter(number),
             None => false,
         }
@@ -82,7 +66,7 @@ impl Cursors {
     pub fn has_walker(&self, owner: Owner, number: u32) -> bool
         ensures { result ≡ is_some (slice_get (cursors_of self.now owner).walkers number) }
     {
-        match self.tables.get(&owner) {
+        match self.tables.get(owner) {
             Some(tables) => tables.has_walker(number),
             None => false,
         }
@@ -99,8 +83,8 @@ impl Cursors {
         ensures other { IfErr result (λ fault. (fault ≡ Fault.Refused Limit) ⊎ (fault ≡ Fault.Memory)) }
         ensures err { OnErr result (cursors_of self.new ≡ cursors_of self.old) }
     {
-        self.prepare(owner)?;
-        let Some(tables) = self.tables.get_mut(&owner) else {
+        self.tables.prepare(owner)?;
+        let Some(tables) = self.tables.get_mut(owner) else {
             unreachable!()
         };
         tables.add_iter(root, filter)
@@ -117,15 +101,15 @@ impl Cursors {
         ensures other { IfErr result (λ fault. (fault ≡ Fault.Refused Limit) ⊎ (fault ≡ Fault.Memory)) }
         ensures err { OnErr result (cursors_of self.new ≡ cursors_of self.old) }
     {
-        self.prepare(owner)?;
-        let Some(tables) = self.tables.get_mut(&owner) else {
+        self.tables.prepare(owner)?;
+        let Some(tables) = self.tables.get_mut(owner) else {
             unreachable!()
         };
         tables.add_walker(root, filter)
     }
 
     /// Lets each iterator of an owner leave the tree of a node that is about to be removed (DOM Standard, NodeIterator
-    /// pre-remove steps). Where no owner has had a cursor there is no look-up.
+    /// pre-remove steps). Where no component has had a cursor there is no look-up.
     pub fn leave(&mut self, owner: Owner, forest: &Forest, node: Key)
         requires node_is_node { IsNode forest.now node }
         requires iterators { EachItem (IsIteratorOf forest.now) (cursors_of self.old owner).iterators }
@@ -133,10 +117,7 @@ impl Cursors {
         ensures others { cursors_of self.new ≡ with_cursors (cursors_of self.old) owner (record (cursors_of self.old owner)
             { iterators = (cursors_of self.new owner).iterators }) }
     {
-        if self.tables.is_empty() {
-            return;
-        }
-        let Some(tables) = self.tables.get_mut(&owner) else {
+        let Some(tables) = self.tables.get_mut(owner) else {
             return;
         };
         tables.leave(forest, node);
@@ -188,7 +169,7 @@ impl Cursors {
         ensures kept { ForSome (slice_get (cursors_of self.old owner).iterators number)
             (λ i. IsIteratorOf forest.now (iterator_at i (stands_before direction) result)) }
     {
-        let Some(tables) = self.tables.get_mut(&owner) else {
+        let Some(tables) = self.tables.get_mut(owner) else {
             unreachable!()
         };
         tables.traverse(forest, number, direction)
@@ -200,7 +181,7 @@ impl Cursors {
         requires { is_some (slice_get (cursors_of self.now owner).iterators number) ≡ true }
         ensures { ForSome (slice_get (cursors_of self.now owner).iterators number) (λ i. result ≡ (i.reference, i.before)) }
     {
-        let Some(tables) = self.tables.get(&owner) else {
+        let Some(tables) = self.tables.get(owner) else {
             unreachable!()
         };
         tables.iter_at(number)
@@ -218,7 +199,7 @@ impl Cursors {
             { walkers = slice_set (cursors_of self.old owner).walkers number (walker_at w result) })) }
         ensures kept { ForSome (slice_get (cursors_of self.old owner).walkers number) (λ w. IsWalkerOf forest.now (walker_at w result)) }
     {
-        let Some(tables) = self.tables.get_mut(&owner) else {
+        let Some(tables) = self.tables.get_mut(owner) else {
             unreachable!()
         };
         tables.walk(forest, number, step)
@@ -229,7 +210,7 @@ impl Cursors {
         requires { is_some (slice_get (cursors_of self.now owner).walkers number) ≡ true }
         ensures { ForSome (slice_get (cursors_of self.now owner).walkers number) (λ w. result ≡ w.current) }
     {
-        let Some(tables) = self.tables.get(&owner) else {
+        let Some(tables) = self.tables.get(owner) else {
             unreachable!()
         };
         tables.walker_at(number)
@@ -240,7 +221,7 @@ impl Cursors {
         requires { is_some (slice_get (cursors_of self.now owner).walkers number) ≡ true }
         ensures { ForSome (slice_get (cursors_of self.now owner).walkers number) (λ w. result ≡ (w.root, w.current)) }
     {
-        let Some(tables) = self.tables.get(&owner) else {
+        let Some(tables) = self.tables.get(owner) else {
             unreachable!()
         };
         tables.walker_ends(number)
@@ -253,7 +234,7 @@ impl Cursors {
             (λ w. cursors_of self.new ≡ with_cursors (cursors_of self.old) owner (record (cursors_of self.old owner)
             { walkers = slice_set (cursors_of self.old owner).walkers number (record w { current = current }) })) }
     {
-        let Some(tables) = self.tables.get_mut(&owner) else {
+        let Some(tables) = self.tables.get_mut(owner) else {
             unreachable!()
         };
         tables.set_walker(number, current);

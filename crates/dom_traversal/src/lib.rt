@@ -2,6 +2,7 @@
 //! Traversal).
 #![tactic(auto)]
 
+mod by_owner;
 mod cursors;
 mod filter;
 mod iter;

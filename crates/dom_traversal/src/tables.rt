@@ -114,6 +114,9 @@ impl OwnTables {
         ensures iterators { AreLeft forest.now node self.old.iterators self.new.iterators }
         ensures walkers { self.new.walkers ≡ self.old.walkers }
     {
+        if self.iterators.is_empty() {
+            return;
+        }
         if forest.first(node).is_some() && is_apart(self.references.as_slice(), forest, node) {
             return;
         }

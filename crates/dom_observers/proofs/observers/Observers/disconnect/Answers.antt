@@ -23,5 +23,5 @@ returns c =
       tables =
           rewritten c.self.inside c.self.view_is c.args.owner r c.disconnect.new.self
           (λ t. cond c.disconnect.result (disconnected c.args.observer t) t) c.in-Some.ensures.value
-          (λ some. ((c.get_mut.follows.holds c.disconnect.new.self).3 some).0) c.disconnect.ensures.tables;
+          (c.get_mut.follows.holds c.disconnect.new.self) c.disconnect.ensures.tables;
     }

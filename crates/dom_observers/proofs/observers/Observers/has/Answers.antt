@@ -7,9 +7,9 @@ pub returns-in-Some : goal.returns-in-Some
 returns-in-Some c =
     c.has.ensures
     ∙ ap (λ (t : TablesOf ℕ). is_some (slice_get t.record_queues c.args.observer))
-    (sym (had c.self.inside c.self.view_is c.args.owner c.in-Some.table.now c.in-Some.ensures.value))
+    (sym (had c.self.inside c.self.view_is c.args.owner c.in-Some.table.now c.in-Some.ensures))
 
 pub returns-in-None : goal.returns-in-None
 returns-in-None c =
     ap (λ (t : TablesOf ℕ). is_some (slice_get t.record_queues c.args.observer))
-    (sym (had-none c.self.inside c.self.view_is c.args.owner c.in-None.ensures.value))
+    (sym (had-none c.self.inside c.self.view_is c.args.owner c.in-None.ensures))

@@ -21,7 +21,7 @@ returns c =
     let step : table_of c.notify.new.self ≡ notified (table_of c.in-Some.table.now) →
     ChangesTables c.args.owner (notified (tables_of c.args.self.now c.args.owner)) c.args.self.now (all_tables r) =
     λ e. rewritten c.self.inside c.self.view_is c.args.owner r c.notify.new.self notified c.in-Some.ensures.value
-    (λ some. ((c.get_mut.follows.holds c.notify.new.self).3 some).0) e in
+    (c.get_mut.follows.holds c.notify.new.self) e in
     record {
       notices = subst (λ (t : TablesOf ℕ). IfOk c.notify.result (λ v. map notice_of v.items ≡ notices t)) (sym there) c.notify.ensures.notices;
       tables = on_ok_weaker c.notify.result step c.notify.ensures.tables;

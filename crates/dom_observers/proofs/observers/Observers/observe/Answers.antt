@@ -29,7 +29,7 @@ returns-clause-tables c =
     let step : table_of c.observe.new.self ≡ f (table_of c.in-Some.table.now) →
     ChangesTables c.args.owner (f (tables_of c.args.self.now c.args.owner)) c.args.self.now (all_tables r) =
     λ e. rewritten c.self.inside c.self.view_is c.args.owner r c.observe.new.self f c.in-Some.ensures.value
-    (λ some. ((c.get_mut.follows.holds c.observe.new.self).3 some).0) e in
+    (c.get_mut.follows.holds c.observe.new.self) e in
     on_ok_weaker c.observe.result step c.observe.ensures.tables
 
 pub returns-clause-unknown : goal.returns-clause-unknown
@@ -52,5 +52,5 @@ returns-clause-err c =
     let step : table_of c.observe.new.self ≡ table_of c.in-Some.table.now → KeepsTables c.args.self.now (all_tables r) =
     λ e. changes-kept c.args.owner c.args.self.now (all_tables r)
     (rewritten c.self.inside c.self.view_is c.args.owner r c.observe.new.self f c.in-Some.ensures.value
-    (λ some. ((c.get_mut.follows.holds c.observe.new.self).3 some).0) e) in
+    (c.get_mut.follows.holds c.observe.new.self) e) in
     on_err_weaker c.observe.result step c.observe.ensures.err

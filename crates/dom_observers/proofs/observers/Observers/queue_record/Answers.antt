@@ -52,5 +52,5 @@ returns-clause-tables c =
     λ e. moved (λ p. ChangesTables p (rule (tables_of c.args.self.now p)) c.args.self.now (all_tables r)) c.args.forest.now.names
     c.name-owner.ensures.at c.target-target.ensures
     (rewritten c.self.inside c.self.view_is c.name-owner.result.owner r c.queue_record.new.self rule c.in-Some.ensures.value
-    (λ some. ((c.get_mut.follows.holds c.queue_record.new.self).3 some).0) e) in
+    (c.get_mut.follows.holds c.queue_record.new.self) e) in
     on_ok_weaker c.queue_record.result step c.queue_record.ensures.tables

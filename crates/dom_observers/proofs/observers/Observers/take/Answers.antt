@@ -22,5 +22,5 @@ returns c =
       records = c.take.ensures.records ∙ ap (λ (t : TablesOf ℕ). slice_get t.record_queues c.args.observer) (sym there);
       tables =
           rewritten c.self.inside c.self.view_is c.args.owner r c.take.new.self (emptied c.args.observer) c.in-Some.ensures.value
-          (λ some. ((c.get_mut.follows.holds c.take.new.self).3 some).0) c.take.ensures.tables;
+          (c.get_mut.follows.holds c.take.new.self) c.take.ensures.tables;
     }

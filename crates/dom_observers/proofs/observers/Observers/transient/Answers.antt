@@ -3,21 +3,10 @@ use Rattle.dom_model.proofs.Model.{NodeName}
 use Rattle.dom_tree.specs.Definitions.{name_at}
 use Rattle.dom_observers.specs.declared.observers.Observers.TheInside.{Inside}
 use Rattle.dom_observers.specs.Definitions.{no_tables, left, tables_of, all_tables, ChangesTables, path_keys, table_of}
-use Rattle.dom_base.specs.contracts.OwnerPartialEq.TheImpl as OwnerImpl
-use Rattle.dom_observers.proofs.Lookups.{none-empty, rewritten, untouched-changes}
+use Rattle.dom_observers.proofs.Lookups.{rewritten, untouched-changes}
 use Rattle.dom_observers.proofs.Tables.{none_left}
 use Rattle.dom_observers.proofs.Gathering.{copies-none}
 use Rattle.dom_observers.proofs.observers.Observers.transient.Goals as goal
-
-pub returns-then-is_empty : goal.returns-then-is_empty
-returns-then-is_empty c =
-    let path = path_keys c.args.forest.now c.args.parent in
-    let o = (name_at c.args.forest.now.names c.args.node).owner in
-    let rule = left nat_eq c.args.node path in
-    let none = none-empty (OwnerImpl.ghosts.eq o) c.self.inside.tables.entries (c.is_empty.ensures.0 c.if-is_empty.true) in
-    let stays = none_left c.args.node path no_tables (copies-none c.args.node path [] refl) in
-    subst (λ all. ChangesTables o (rule (tables_of c.args.self.now o)) c.args.self.now all) c.self.view_is
-    (untouched-changes c.self.inside c.self.view_is o c.self.inside rule none refl stays)
 
 pub returns-in_default : goal.returns-in_default
 returns-in_default c =
@@ -45,5 +34,5 @@ returns c =
     ChangesTables (name_at names node).owner (rule (tables_of all (name_at names node).owner)) all (all_tables r) =
     λ e. subst (λ (x : NodeName). ChangesTables x.owner (rule (tables_of all x.owner)) all (all_tables r)) (sym c.name-owner.ensures.at)
     (rewritten c.self.inside c.self.view_is o r c.add_transients.new.self rule c.in-Some.ensures.value
-    (λ some. ((c.get_mut.follows.holds c.add_transients.new.self).3 some).0) e) in
+    (c.get_mut.follows.holds c.add_transients.new.self) e) in
     on_ok_weaker c.add_transients.result step c.add_transients.ensures

@@ -1,9 +1,15 @@
-use Rattle.dom_traversal.proofs.Cited.{◌≡◌, ℕ, ◌<◌, false, inl, inr, List, Some, length, get_or, ap, refl, sym, subst, ◌∙◌, slice_get, cases_Bool}
+use Rattle.dom_traversal.proofs.Cited.{◌≡◌, ℕ, ◌<◌, false, inl, inr, List, Some, length, get_or, ap, refl, sym, subst, ◌∙◌, slice_get, eqb-true, cases_Bool}
 use Rattle.dom_traversal.proofs.Cited.{get_or_default, following_step, In-from, In-not, inclusive_descendants, is_in, name_at, name_eq, Once-forest}
 use Rattle.dom_traversal.proofs.Cited.{outside-test, AreOutside, is_inside, IsLeftIf, KeyedTables, Reference, reference_at}
-use Rattle.dom_traversal.proofs.Leaving.{may-none, may-may, may-items, may-left, left-may, all-left, left-outside}
+use Rattle.dom_traversal.proofs.Leaving.{none-there, may-none, may-may, may-items, may-left, left-may, all-left, left-outside}
 use Rattle.dom_tree.proofs.Inside.{from_key, all-from_top, top-stands, next-from}
 use Rattle.dom_traversal.proofs.tables.OwnTables.leave.Goals as goal
+
+pub returns-then-is_empty-clause-iterators : goal.returns-then-is_empty-clause-iterators
+returns-then-is_empty-clause-iterators c =
+    let none = eqb-true (c.self.inside.iterators.len) 0 (sym c.is_empty.ensures ∙ c.if-is_empty.true) in
+    none-there c.args.forest.now c.args.node c.args.self.now.iterators
+    (ap (λ (t : KeyedTables). length t.iterators) (sym c.self.view_is) ∙ (sym c.self.inside.iterators.ok.0 ∙ none))
 
 pub is_apart-requires-clause-nodes : goal.is_apart-requires-clause-nodes
 is_apart-requires-clause-nodes c k d l =
