@@ -114,6 +114,34 @@ fn turn(ends: &mut [RangeEnd], first: usize, middle: usize, behind: usize)
     if first == middle || middle == behind {
         return;
     }
+    rotate(ends, first, middle, behind);
+}
+
+/// Brings them, where there are some of both. Where there is one of each, the two are swapped.
+fn rotate(ends: &mut [RangeEnd], first: usize, middle: usize, behind: usize)
+    requires order { (first < middle) × (middle < behind) }
+    requires within { behind ≤ length ends.old }
+    ensures permutation { IsPermutation ends.old ends.new }
+    ensures len { length ends.new ≡ length ends.old }
+    ensures turned { IsTurned ends.old ends.new first middle behind }
+{
+    let is_pair = behind - first == 2;
+    if is_pair {
+        ends.swap(first, middle);
+    } else {
+        rotate_all(ends, first, middle, behind);
+    }
+}
+
+/// Brings them, however many there are.
+#[inline(never)]
+fn rotate_all(ends: &mut [RangeEnd], first: usize, middle: usize, behind: usize)
+    requires order { (first ≤ middle) × (middle ≤ behind) }
+    requires within { behind ≤ length ends.old }
+    ensures permutation { IsPermutation ends.old ends.new }
+    ensures len { length ends.new ≡ length ends.old }
+    ensures turned { IsTurned ends.old ends.new first middle behind }
+{
     ends[first..behind].rotate_left(middle - first);
 }
 

@@ -38,17 +38,13 @@ fn move_part<C: Change>(
     };
     for i in part.first..part.behind {
         if !skipped.has(i) {
-            let end = ends[i];
-            let (node, offset) = change.moved(end.node, end.offset);
+            let end = &mut ends[i];
+            let from = end.node;
+            let (node, offset) = change.moved(from, end.offset);
             put_point(live, end.slot, end.is_end, (node, offset));
-            let moved = RangeEnd {
-                node,
-                offset,
-                slot: end.slot,
-                is_end: end.is_end,
-            };
-            ends[i] = moved;
-            if node != end.node {
+            end.node = node;
+            end.offset = offset;
+            if node != from {
                 changed.first = changed.first.min(i);
                 changed.behind = i + 1;
             }
@@ -128,7 +124,7 @@ fn put_point(live: &mut Slab<Points>, slot: usize, is_end: bool, point: (Key, us
     }
 }
 
-/// Gives an end of a range another boundary point.
+/// Gives an end of a range a boundary point. Where it stands there already, nothing is moved.
 pub(crate) fn put_end(
     live: &mut Slab<Points>,
     ends: &mut [RangeEnd],
@@ -147,6 +143,9 @@ pub(crate) fn put_end(
     if let Some(points) = live.get(slot).copied() {
         let (from, at) = if is_end { points.end } else { points.start };
         let (node, offset) = point;
+        if from == node && at == offset {
+            return;
+        }
         put_point(live, slot, is_end, (node, offset));
         let end = RangeEnd {
             node: from,

@@ -6,14 +6,30 @@ ghost use Rattle.dom_ranges.specs.Listed.{IsSortedByNode, IsSortedByPoint, AtMos
 use crate::ends::{RangeEnd, Span};
 use node_arena::Key;
 
-/// Where the ends are at their end that are at a node, or at greater ones, which come first.
+/// Where the ends are at their end that are at a node, or at greater ones, which come first. Where the last end is among them, nothing
+/// is searched for.
 pub(crate) fn behind_node(ends: &[RangeEnd], node: Key) -> usize
     requires { IsSortedByNode ends.now }
     ensures within { result ≤ length ends.now }
     ensures less { (k : ℕ) (d : RangeEnd) → k < result → node ≤ (slice_index_or ends.now k d).node }
     ensures more { (k : ℕ) (d : RangeEnd) → result ≤ k → k < length ends.now → (slice_index_or ends.now k d).node < node }
 {
+    if are_from(ends, ends.len(), node) {
+        return ends.len();
+    }
     ends.partition_point(|end| node <= end.node)
+}
+
+/// Whether all ends before a place are at a node, or at greater ones.
+fn are_from(ends: &[RangeEnd], place: usize, node: Key) -> bool
+    requires sorted { IsSortedByNode ends.now }
+    requires within { place ≤ length ends.now }
+    ensures { result ≡ true → (k : ℕ) (d : RangeEnd) → k < place → node ≤ (slice_index_or ends.now k d).node }
+{
+    if place == 0 {
+        return true;
+    }
+    node <= ends[place - 1].node
 }
 
 /// Where the ends are at their end that are at a boundary point or before it.

@@ -17,18 +17,18 @@ loop-i-preserved g c =
     let inside : i < length now = omega (arith, within, so_far.same_length) in
     elim c.if-not-has.branch [
       | then-not-has+then-ne w ↦
-          let one = w.index-ends-i.result in
-          let b = at w.moved-offset.result.0 w.moved-offset.result.1 in
+          let one = get_or now i w.index-ends-i.result in
+          let b = at w.moved-node.result.0 w.moved-node.result.1 in
           let next = set now i (end_in one.slot one.is_end b) in
           let put : IsPut c.loop-i.live w.put_point.new.live one.slot one.is_end b =
           record { put = w.put_point.ensures.put; others = w.put_point.ensures.others } in
-          let is_now : (d : RangeEnd) → get_or now i d ≡ one = λ d. sym (w.index-ends-i.is ∙ get_or_default now i one d inside) in
+          let is_now : (d : RangeEnd) → get_or now i d ≡ one = λ d. sym (get_or_default now i w.index-ends-i.result d inside) in
           let is_one : (d : RangeEnd) → get_or es i d ≡ one =
           λ d. sym (here-still rule target es now c.args.part.first i c.args.skipped within c.loop-i.auto.i so_far d) ∙ is_now d in
           record {
             moved = subst (λ (t : List RangeEnd). IsMovedPart rule target es t (is_chosen (up_to c.args.part.first (i + 1)) c.args.skipped)) (sym w.ends-is)
                 (IsMovedPart-more rule target es now c.args.part.first i c.args.skipped within c.loop-i.auto.i so_far one b
-                (sym c.has.ensures ∙ w.if-not-has.true) is_one w.moved-offset.ensures.moved w.moved-offset.ensures.goes);
+                (sym c.has.ensures ∙ w.if-not-has.true) is_one w.moved-node.ensures.moved w.moved-node.ensures.goes);
             listed = subst (λ (t : Slab Points). IsListed t c.if-not-has.ends) (sym w.live-is)
                 (subst (IsListed w.put_point.new.live) (sym w.ends-is)
                 (IsListed-set i c.loop-i.invariant.listed inside is_now put));
@@ -44,19 +44,19 @@ loop-i-preserved g c =
                 w.min.result w.min.ensures c.loop-i.invariant.up));
           }
       | then-not-has+else-ne w ↦
-          let one = w.index-ends-i.result in
-          let b = at w.moved-offset.result.0 w.moved-offset.result.1 in
+          let one = get_or now i w.index-ends-i.result in
+          let b = at w.moved-node.result.0 w.moved-node.result.1 in
           let next = set now i (end_in one.slot one.is_end b) in
           let put : IsPut c.loop-i.live w.put_point.new.live one.slot one.is_end b =
           record { put = w.put_point.ensures.put; others = w.put_point.ensures.others } in
-          let is_now : (d : RangeEnd) → get_or now i d ≡ one = λ d. sym (w.index-ends-i.is ∙ get_or_default now i one d inside) in
+          let is_now : (d : RangeEnd) → get_or now i d ≡ one = λ d. sym (get_or_default now i w.index-ends-i.result d inside) in
           let is_one : (d : RangeEnd) → get_or es i d ≡ one =
           λ d. sym (here-still rule target es now c.args.part.first i c.args.skipped within c.loop-i.auto.i so_far d) ∙ is_now d in
           let stays : b.node ≡ one.node = search rules in
           record {
             moved = subst (λ (t : List RangeEnd). IsMovedPart rule target es t (is_chosen (up_to c.args.part.first (i + 1)) c.args.skipped)) (sym w.ends-is)
                 (IsMovedPart-more rule target es now c.args.part.first i c.args.skipped within c.loop-i.auto.i so_far one b
-                (sym c.has.ensures ∙ w.if-not-has.true) is_one w.moved-offset.ensures.moved w.moved-offset.ensures.goes);
+                (sym c.has.ensures ∙ w.if-not-has.true) is_one w.moved-node.ensures.moved w.moved-node.ensures.goes);
             listed = subst (λ (t : Slab Points). IsListed t c.if-not-has.ends) (sym w.live-is)
                 (subst (IsListed w.put_point.new.live) (sym w.ends-is)
                 (IsListed-set i c.loop-i.invariant.listed inside is_now put));

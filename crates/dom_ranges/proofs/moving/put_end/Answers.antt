@@ -13,8 +13,8 @@ bring-requires-clause-there c =
     subst (λ (b : Boundary _). IsListedOnce c.args.ends.now (end_in c.args.slot c.args.is_end b)) (sym point_is)
     (listed-once c.requires.listed c.args.slot c.args.is_end there)
 
-pub returns-after-is_end-clause-listed : goal.returns-after-is_end-clause-listed
-returns-after-is_end-clause-listed c =
+pub returns-else-eq-clause-listed : goal.returns-else-eq-clause-listed
+returns-else-eq-clause-listed c =
     let there : get c.args.live.now c.args.slot ≡ Some c.in-Some.points = search rules in
     let point_is : at c.if-is_end.from.0 c.if-is_end.from.1 ≡ end_of c.args.is_end c.in-Some.points = elim c.if-is_end.branch [
       | then-is_end w ↦ ap (λ t. at t.0 t.1) w.from-is ∙ sym (ap (λ b. end_of b c.in-Some.points) w.if-is_end.true)

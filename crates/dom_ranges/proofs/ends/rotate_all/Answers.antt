@@ -1,6 +1,6 @@
 use Rattle.dom_ranges.proofs.Cited.{IsPermutation-put_mid}
 use Rattle.dom_ranges.proofs.Gathering.{IsTurned-rotated}
-use Rattle.dom_ranges.proofs.ends.turn.Goals as goal
+use Rattle.dom_ranges.proofs.ends.rotate_all.Goals as goal
 
 pub returns-clause-turned : goal.returns-clause-turned
 returns-clause-turned c = IsTurned-rotated c.rotate_left.new.self c.requires.order.0
