@@ -3,6 +3,7 @@ ghost use Rattle.std.specs.Prelude.{◌≡◌, ◌≤◌, ◌+◌, ◌++◌, ◌
 ghost use Rattle.std.specs.Vec.{vec_len, vec_capacity};
 ghost use Rattle.std.specs.Fmt.{decimal};
 ghost use Rattle.std.specs.List.{flat_map};
+ghost use Rattle.dom_base.specs.declared.Owner.TheVariants.{Component};
 ghost use Rattle.dom_text.specs.Text.{node_text, node_or_null, next_node_text, list_text};
 ghost use Rattle.dom_text.specs.Words.{next_number_text, component_word, owner_word};
 ghost use Rattle.dom_printer.specs.Keeping.{Keeps};
@@ -148,27 +149,28 @@ pub(crate) fn put_node(out: &mut Vec<u8>, viewer: &Owner, node: &NodeName) -> Re
 {
     match &node.owner {
         Owner::Page => put_short(out, b'n', node.number),
-        Owner::Component(_) => put_component_node(out, viewer, node),
+        Owner::Component(component) => put_component_node(out, viewer, node, component),
     }
 }
 
-/// Puts a component's node as the viewer sees it.
+/// Puts the node of this component as the viewer sees it.
 #[inline(never)]
 #[tactic(auto, using(crate::proofs::KeepLaws::keeps_at))]
-fn put_component_node(out: &mut Vec<u8>, viewer: &Owner, node: &NodeName) -> Result<(), AllocError>
+fn put_component_node(
+    out: &mut Vec<u8>,
+    viewer: &Owner,
+    node: &NodeName,
+    component: &OwnerPath,
+) -> Result<(), AllocError>
+    requires { node.now.owner ≡ Component component.now }
     ensures ok { OnOk result (out.new.items ≡ out.old.items ++ node_text viewer.now node.now) }
     ensures err { OnErr result (Keeps out.old.items out.new.items) }
 {
-    match &node.owner {
-        Owner::Page => put_short(out, b'n', node.number),
-        Owner::Component(component) => {
-            if *viewer != node.owner {
-                put_component(out, component)?;
-                out.extend_from_slice(b":")?;
-            }
-            put_short(out, b'm', node.number)
-        }
+    if *viewer != node.owner {
+        put_component(out, component)?;
+        out.extend_from_slice(b":")?;
     }
+    put_short(out, b'm', node.number)
 }
 
 /// Puts a node, or `null` where there is none. It is kept out of line, so that its parts are copied at once.

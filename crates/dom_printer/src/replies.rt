@@ -1,5 +1,6 @@
 //! Replies and refusals.
-ghost use Rattle.std.specs.Prelude.{◌≡◌, ◌++◌, ◌∷◌, [], IfSome, OnOk, OnErr, codes};
+ghost use Rattle.std.specs.Prelude.{◌≡◌, ◌≤◌, ◌+◌, ◌++◌, ◌∷◌, [], IfSome, OnOk, OnErr, codes};
+ghost use Rattle.std.specs.Vec.{vec_len, vec_capacity};
 ghost use Rattle.std.specs.Fmt.{decimal};
 ghost use Rattle.dom_base.specs.declared.Owner.TheVariants.{Page};
 ghost use Rattle.dom_model.specs.Output.{a_node, boundaries, nothing, reference, replied, says};
@@ -103,21 +104,58 @@ fn put_page_value(out: &mut Vec<u8>, value: &Value<'_>) -> Result<(), AllocError
     }
 }
 
-/// Puts the page's reply that has no value. It is kept out of line, so that its few bytes are copied at once.
-#[inline(never)]
+/// Puts the page's reply that has no value. Where there is room for its few bytes they are copied in line.
+#[inline(always)]
 fn put_page_done(out: &mut Vec<u8>) -> Result<(), AllocError>
+    ensures ok { OnOk result (out.new.items ≡ out.old.items ++ output_text (says Page (replied nothing) ∷ [])) }
+    ensures err { OnErr result (out.new.items ≡ out.old.items) }
+{
+    if out.capacity() - out.len() < b"p ok\n".len() {
+        return put_page_done_growing(out);
+    }
+    out.extend_from_slice(b"p ok\n")
+}
+
+/// Puts the page's reply that has no value, and makes the room for it.
+#[inline(never)]
+fn put_page_done_growing(out: &mut Vec<u8>) -> Result<(), AllocError>
     ensures ok { OnOk result (out.new.items ≡ out.old.items ++ output_text (says Page (replied nothing) ∷ [])) }
     ensures err { OnErr result (out.new.items ≡ out.old.items) }
 {
     out.extend_from_slice(b"p ok\n")
 }
 
+/// How many bytes the page's reply that has a node of its own takes at most while it is put.
+const NODE_ROOM: usize = 21;
+
 /// Puts the page's reply that has a node of its own, and asks once for the room of all of it.
 fn put_page_node(out: &mut Vec<u8>, number: u32) -> Result<(), AllocError>
     ensures ok { OnOk result (out.new.items ≡ out.old.items ++ line_text Page (codes "ok n" ++ decimal number)) }
     ensures err { OnErr result (out.new.items ≡ out.old.items) }
 {
-    out.reserve(b"p ok ".len() + 16)?;
+    if out.capacity() - out.len() < NODE_ROOM {
+        return put_page_node_growing(out, number);
+    }
+    put_page_node_within(out, number)
+}
+
+/// Puts the page's reply that has a node of its own, and makes the room for it.
+#[inline(never)]
+fn put_page_node_growing(out: &mut Vec<u8>, number: u32) -> Result<(), AllocError>
+    ensures ok { OnOk result (out.new.items ≡ out.old.items ++ line_text Page (codes "ok n" ++ decimal number)) }
+    ensures err { OnErr result (out.new.items ≡ out.old.items) }
+{
+    out.reserve(NODE_ROOM)?;
+    put_page_node_within(out, number)
+}
+
+/// Puts the page's reply that has a node of its own, where there is room for all of it.
+#[inline(always)]
+fn put_page_node_within(out: &mut Vec<u8>, number: u32) -> Result<(), AllocError>
+    requires { vec_len out.old + 21 ≤ vec_capacity out.old }
+    ensures ok { OnOk result (out.new.items ≡ out.old.items ++ line_text Page (codes "ok n" ++ decimal number)) }
+    ensures err { OnErr result (out.new.items ≡ out.old.items) }
+{
     out.extend_from_slice(b"p ok ")?;
     put_lettered(out, b'n', number, 1)
 }

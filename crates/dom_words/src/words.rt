@@ -1,8 +1,9 @@
 //! A line's words, taken one after the other from the front of its bytes.
 
-ghost use Rattle.std.specs.Prelude.{◌≡◌, ℕ, List, option_map, IfOk, IfErr, IfSome, IsTrue, Some, true, false, length, slice_get, string_bytes, None, ◌<◌, ◌≤◌};
+ghost use Rattle.std.specs.Prelude.{◌≡◌, ◌++◌, ℕ, List, option_map, IfOk, IfErr, IfNone, IfSome, IsTrue, Some, true, false, length, slice_get, string_bytes};
+ghost use Rattle.std.specs.Prelude.{None, ◌<◌, ◌≤◌, nat_eq};
 ghost use Rattle.std.specs.Bool.{MatchBool};
-ghost use Rattle.std.specs.List.{prefix_len, list_all};
+ghost use Rattle.std.specs.List.{prefix_len, list_all, starts_with};
 ghost use Rattle.std.specs.Char.{is_ascii_graphic};
 ghost use Rattle.dom_model.specs.Names.{is_empty};
 ghost use Rattle.dom_text.specs.Readers.{at_end, behind_space as spec_behind_space, begins_word as spec_begins_word, word_at as spec_word_at};
@@ -75,6 +76,25 @@ fn next_word(bytes: &[u8]) -> Option<(&[u8], &[u8])>
     word_at(behind_space(bytes)?)
 }
 
+/// The bytes behind these, where they stand in front. A word of the source is compared byte by byte, without a call.
+#[inline(always)]
+fn behind_front<'a>(front: &[u8], bytes: &'a [u8]) -> Option<&'a [u8]>
+    ensures some { IfSome result (λ rest. bytes.now ≡ front.now ++ rest.now) }
+    ensures none { IfNone result (starts_with nat_eq bytes.now front.now ≡ false) }
+{
+    if bytes.len() < front.len() {
+        return None;
+    }
+    let mut rest = bytes;
+    for byte in front {
+        match rest {
+            [first, others @ ..] if *first == *byte => rest = others,
+            _ => return None,
+        }
+    }
+    Some(rest)
+}
+
 /// The bytes behind a space and this word, where a word ends so.
 #[inline(always)]
 fn behind_word<'a>(word: &[u8], bytes: &'a [u8]) -> Option<&'a [u8]>
@@ -85,7 +105,7 @@ fn behind_word<'a>(word: &[u8], bytes: &'a [u8]) -> Option<&'a [u8]>
     ensures none { result ≡ None → comes_next word.now bytes.now ≡ false }
 {
     let text = behind_space(bytes)?;
-    let rest = text.strip_prefix(word)?;
+    let rest = behind_front(word, text)?;
     if begins_graphic(rest) {
         return None;
     }
