@@ -1,9 +1,10 @@
 //! What a line does, and the lines that answer it.
-ghost use Rattle.std.specs.Prelude.{◌≡◌, ◌++◌, true, false, OnOk};
+ghost use Rattle.std.specs.Prelude.{◌≡◌, ◌++◌, ◌∷◌, [], true, false, Some, OnOk};
 ghost use Rattle.std.specs.Option.{option_map};
 ghost use Rattle.dom_model.specs.Command.{command as model_command};
 ghost use Rattle.dom_model.specs.DocumentMachine.{step, run_command};
 ghost use Rattle.dom_text.specs.Text.{output_text};
+ghost use Rattle.dom_printer.specs.Replies.{refusal_output};
 ghost use Rattle.dom_reader.specs.Views.{command_view, refused_view};
 ghost use Rattle.dom_admission.specs.Handled.{IsHandled};
 ghost use Rattle.dom_commands.specs.Machine.{AreAtNodes, IsAtRest, KeepsListeners};
@@ -95,7 +96,7 @@ impl Machine {
     {
         match self.perform(owner, command, out) {
             Ok(()) => Ok(()),
-            Err(Fault::Refused(refusal)) => put_refusal(out, Some(*owner), refusal),
+            Err(Fault::Refused(refusal)) => refuse(out, owner, refusal),
             Err(Fault::Memory) => Err(AllocError),
         }
     }
@@ -162,4 +163,13 @@ impl Machine {
         self.state.law_names_tell_nodes();
         commands::perform(&mut self.state, owner, command, out)
     }
+}
+
+/// Puts the refusal of an owner's line. It is kept out of line, so that a command that is done makes no room for it.
+#[cold]
+#[inline(never)]
+fn refuse(out: &mut Vec<u8>, owner: &Owner, refusal: Refusal) -> Result<(), AllocError>
+    ensures { OnOk result (out.new.items ≡ out.old.items ++ output_text (refusal_output (Some owner.now) refusal ∷ [])) }
+{
+    put_refusal(out, Some(*owner), refusal)
 }

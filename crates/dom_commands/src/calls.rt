@@ -10,7 +10,7 @@ ghost use Rattle.dom_commands.specs.Machine.{AreAtNodes, IsAtRest, NamesNodes, l
 
 use crate::machine::Machine;
 use crate::path_text::PathText;
-use dom_dispatch::{EventInit, LogLine};
+use dom_dispatch::{EventInit, LogLine, Outcome};
 use dom_printer::{Event, put_event};
 use dom_tree::Forest;
 use node_arena::Key;
@@ -46,7 +46,9 @@ impl Machine {
             .listeners
             .dispatch_in_world(forest, slots, target, event)?;
         put_lines(&mut self.path, forest, outcome.lines.as_slice(), out)?;
-        Ok(outcome.answer)
+        let Outcome { lines, answer } = outcome;
+        self.listeners.reuse(lines);
+        Ok(answer)
     }
 }
 

@@ -12,7 +12,7 @@ pub use Rattle.dom_model.proofs.Model.{hears, is_at_target, is_listener, kept_af
 pub use Rattle.dom_model.proofs.Model.{ne-owner_eq, NodeName, Owner, owner-part_of, owner_eq, owner_eq-same, owner_eq-true, Part, part_of}
 pub use Rattle.dom_model.proofs.Model.{part_of-with_part, part_of-with_part-other, text_eq, View, views, Visit, visit_of, visits_of}
 pub use Rattle.dom_model.proofs.Model.{with_listener_added, with_listener_removed, with_part, Word, World, world_visit}
-pub use Rattle.dom_attributes.proofs.Attributes.{text_test}
+pub use Rattle.dom_attributes.proofs.Attributes.{differ, text_test}
 pub use Rattle.dom_dispatch.specs.Definitions.{AreAtNodes, dispatch_along, dispatch_among, DispatchedAlong, DispatchedAmong, DispatchedStay, dispatching_in}
 pub use Rattle.dom_dispatch.specs.Definitions.{dispatching_named, entry_at, event_words, HasPathOf, HasTypes, hears_at, holds_at, is_noted, is_of_node}
 pub use Rattle.dom_dispatch.specs.Definitions.{is_of_owner, IsDispatched, IsDispatchedIn, IsIndexed, IsLineAlong, IsListenerAt, IsOwnLine, IsShownOf, IsViewOf}

@@ -17,6 +17,7 @@ use crate::event::{EventInit, Outcome};
 use crate::handed::Handed;
 use crate::listeners::{Entry, Listeners};
 use crate::progress::Progress;
+use crate::room::Room;
 use crate::visit::Visit;
 use dom_path::Path;
 use dom_slots::Slots;
@@ -44,17 +45,7 @@ impl Listeners {
         ensures owners { IfOk result (λ outcome. AllByRecursion (IsOwnLine forest.now.names) outcome.lines.items) }
         ensures numbered { IfOk result (λ outcome. AreNumbered outcome.lines.items) }
     {
-        forest.law_nodes_stand_once();
-        let alloc = self.alloc;
-        let path = Path::build(alloc, forest, slots, target, event.related, event.composed)?;
-        let mut handed = Handed::new(alloc);
-        let mut so_far = Progress::new(alloc);
-        self.capture(forest, &event, &path, &mut handed, &mut so_far)?;
-        self.bubble(forest, &event, &path, &mut handed, &mut so_far)?;
-        Ok(Outcome {
-            answer: !so_far.cancelled,
-            lines: so_far.lines,
-        })
+        self.dispatch_along(forest, slots, target, event, false)
     }
 
     /// Dispatches an event as `dispatch` does, for callers that keep a world: of the path it says what the world's is. Where there was no
@@ -75,14 +66,54 @@ impl Listeners {
         ensures owners { IfOk result (λ outcome. AllByRecursion (IsOwnLine forest.now.names) outcome.lines.items) }
         ensures numbered { IfOk result (λ outcome. AreNumbered outcome.lines.items) }
     {
-        if self.is_unheard(event.name.as_str()) {
+        let name = event.name.as_str();
+        let bubbling = self.may_hear(name, false);
+        if self.is_unheard(name, bubbling) {
             let lines = Vec::new(self.alloc);
             return Ok(Outcome {
                 lines,
                 answer: true,
             });
         }
-        self.dispatch(forest, slots, target, event)
+        self.dispatch_along(forest, slots, target, event, bubbling)
+    }
+
+    /// Dispatches an event as `dispatch` does. `bubbling` says that some listener may hear it while it bubbles; where it is not said, its type
+    /// is looked for among those of the listeners.
+    fn dispatch_along(
+        &mut self,
+        forest: &Forest,
+        slots: &Slots,
+        target: Key,
+        event: EventInit,
+        bubbling: bool,
+    ) -> Result<Outcome, AllocError>
+        requires target_is_node { IsNode forest.now target }
+        requires related_is_node { ForSome event.related (IsNode forest.now) }
+        requires slots { AreSlotsOf forest.now slots.now }
+        ensures keys { IfOk result (λ outcome. IsDispatched forest.now slots.now.hosts self.old self.new target event.related (event_words event) outcome) }
+        ensures names { IfOk result (λ outcome. AllByRecursion (IsListenerAt forest.now.names) self.old →
+            IsDispatchedIn forest.now slots.now.hosts self.old self.new target event.related (event_words event) outcome) }
+        ensures owners { IfOk result (λ outcome. AllByRecursion (IsOwnLine forest.now.names) outcome.lines.items) }
+        ensures numbered { IfOk result (λ outcome. AreNumbered outcome.lines.items) }
+    {
+        forest.law_nodes_stand_once();
+        let Room {
+            items,
+            nodes,
+            heard,
+            lines,
+        } = self.take_room();
+        let path = Path::build_in(items, forest, slots, target, event.related, event.composed)?;
+        let mut handed = Handed::new(nodes, heard);
+        let mut so_far = Progress::new(lines);
+        self.capture(forest, &event, &path, &mut handed, &mut so_far)?;
+        self.bubble(forest, &event, &path, bubbling, &mut handed, &mut so_far)?;
+        self.keep_room(path.into_items(), handed);
+        Ok(Outcome {
+            answer: !so_far.cancelled,
+            lines: so_far.lines,
+        })
     }
 
     /// The visits of a path from its last item to its first (DOM Standard, concept: dispatch). Where no listener hears any, none is made.
@@ -114,12 +145,14 @@ impl Listeners {
     }
 
     /// The visits of a path from its first item to its last: where the event doesn't bubble, only of those that are the event's
-    /// target as seen from themselves (DOM Standard, concept: dispatch). Where no listener hears any, none is made.
+    /// target as seen from themselves (DOM Standard, concept: dispatch). Where no listener hears any, none is made; that is looked up unless
+    /// `bubbling` says that one may.
     fn bubble(
         &mut self,
         forest: &Forest,
         event: &EventInit,
         path: &Path,
+        bubbling: bool,
         handed: &mut Handed,
         so_far: &mut Progress,
     ) -> Result<(), AllocError>
@@ -132,7 +165,7 @@ impl Listeners {
         ensures shown { OnOk result (IsShownOf path.now handed.new.shown) }
         ensures lines { OnOk result (AllByRecursion (IsLineAlong forest.now.names (paths_of path.now)) so_far.new.lines.items) }
     {
-        if !self.may_hear(event.name.as_str(), false) {
+        if !self.may_bubble(event.name.as_str(), bubbling) {
             return Ok(());
         }
         for at in 0..path.items().len() {
@@ -145,7 +178,8 @@ impl Listeners {
     }
 
     /// The visit at an item of a path, unless the event is stopped: the listeners that hear it are those that are there as it
-    /// begins (DOM Standard, concept: invoke).
+    /// begins (DOM Standard, concept: invoke). It is in line, since most nodes have no listeners.
+    #[inline(always)]
     fn visit(
         &mut self,
         forest: &Forest,
@@ -174,6 +208,32 @@ impl Listeners {
         if handed.heard.is_empty() {
             return Ok(());
         }
+        self.hear(forest, event, path, at, capturing, handed, so_far)
+    }
+
+    /// The calls of the listeners that hear the visit at an item of a path. It is kept out of line, so that visits that none hears make no room
+    /// for it.
+    #[inline(never)]
+    fn hear(
+        &mut self,
+        forest: &Forest,
+        event: &EventInit,
+        path: &Path,
+        at: usize,
+        capturing: bool,
+        handed: &mut Handed,
+        so_far: &mut Progress,
+    ) -> Result<(), AllocError>
+        requires within { at < length path.now.items }
+        requires nodes { AllByRecursion (HasNodes forest.now.names) path.now.items }
+        requires shown { IsShownOf path.now handed.old.shown }
+        requires lines { AllByRecursion (IsLineAlong forest.now.names (paths_of path.now)) so_far.old.lines.items }
+        ensures calls { OnOk result ((view : View ℕ) → slice_get path.now.views at ≡ Some view →
+            dispatching_in self.new so_far.new ≡ fold (after_inner_invoke nat_eq (event_words event.now) (visit_of nat_eq capturing view))
+            (dispatching_in self.old so_far.old) (listeners_in handed.old.heard.items)) }
+        ensures shown { OnOk result (IsShownOf path.now handed.new.shown) }
+        ensures lines { OnOk result (AllByRecursion (IsLineAlong forest.now.names (paths_of path.now)) so_far.new.lines.items) }
+    {
         let shown = handed.shown.at(self.alloc, path, at)?;
         let visit = Visit::of(forest, path, at, capturing, shown);
         self.call_all(event, &visit, &mut handed.heard, so_far)
@@ -181,6 +241,7 @@ impl Listeners {
 
     /// Puts copies of the listeners of a node that hear events of this type, while they are capturing or while they are not, in place of
     /// what is there.
+    #[inline(always)]
     fn heard(
         &self,
         node: Key,

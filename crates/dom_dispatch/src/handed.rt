@@ -4,8 +4,10 @@ ghost use Rattle.dom_dispatch.specs.Dispatches.{IsShownOf};
 
 use crate::listeners::Entry;
 use crate::shown::Shown;
-use std::alloc::Global;
+use node_arena::Key;
+use smallvec::SmallVec;
 use std::collections::VecDeque;
+use std::rc::Rc;
 
 /// What a visit hands on to the next one: the nodes of its path that the event showed, and the room for copies of the listeners that hear
 /// it, so that each visit takes no memory of its own for them.
@@ -16,13 +18,13 @@ pub(crate) struct Handed {
 }
 
 impl Handed {
-    /// Nothing was handed on. The listeners will take their memory from `alloc`.
-    pub(crate) fn new(alloc: Global) -> Self
+    /// Nothing was handed on. The nodes and the listeners will stand in this room.
+    pub(crate) fn new(nodes: Option<Rc<SmallVec<Key, 16>>>, heard: VecDeque<Entry>) -> Self
         ensures { (path : PathNow) → IsShownOf path result.shown }
     {
         Handed {
-            shown: Shown::new(),
-            heard: VecDeque::new(alloc),
+            shown: Shown::new(nodes),
+            heard,
         }
     }
 }

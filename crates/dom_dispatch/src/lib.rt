@@ -11,6 +11,7 @@ mod listeners;
 mod place_list;
 mod places;
 mod progress;
+mod room;
 mod shown;
 mod table;
 mod types;

@@ -6,6 +6,7 @@ ghost use Rattle.std.specs.List.{list_any};
 ghost use Rattle.dom_dispatch.specs.Entries.{words_of, listener_of, hears_at, NoneHears};
 
 use crate::kinds::{HeldWords, Kinds};
+use crate::room::Room;
 use crate::table::Table;
 use crate::types::Types;
 use dom_attributes::is_same_text;
@@ -51,7 +52,7 @@ impl Entry {
         ensures { result ≡ hears_at node event.now capturing (listener_of self.now) }
     {
         let kind = &self.words.kind;
-        self.node == node && is_same_text(kind.event.as_str(), event) && kind.capture == capturing
+        self.node == node && is_same_type(kind.event.as_str(), event) && kind.capture == capturing
     }
 
     /// The same listener again.
@@ -67,11 +68,12 @@ impl Entry {
 
 /// The listeners of all nodes, in the order of adding (DOM Standard, concept: event listener list). A node's own are found by one
 /// look. The types for which there was a listener are kept, so that an event of another type visits no node, and one that no capturing
-/// listener was for visits none while it is capturing.
+/// listener was for visits none while it is capturing. The memory of a dispatch is kept for the next one.
 pub struct Listeners {
     pub(crate) table: Table,
     types: Types,
     kinds: Kinds,
+    pub(crate) room: Room,
     pub(crate) alloc: Global,
 }
 
@@ -82,6 +84,7 @@ impl Drop for Listeners {
             table,
             types,
             kinds,
+            room,
             alloc,
         } = self;
     }
@@ -110,6 +113,7 @@ impl Listeners {
             table: Table::new(alloc),
             types: Types::new(alloc),
             kinds: Kinds::new(alloc),
+            room: Room::new(alloc),
             alloc,
         }
     }
@@ -136,11 +140,19 @@ impl Listeners {
         self.types.contains(event, capturing)
     }
 
-    /// Whether no listener hears events of this type, since there never was one.
-    pub(crate) fn is_unheard(&self, event: &str) -> bool
+    /// Whether there may be a listener that hears events of this type while they bubble. Where that is known, it is not looked up.
+    pub(crate) fn may_bubble(&self, event: &str, is_known: bool) -> bool
+        ensures { result ≡ false → NoneHears event.now false self.now }
+    {
+        is_known || self.may_hear(event, false)
+    }
+
+    /// Whether no listener hears events of this type, since there never was one; `bubbling` says whether one may hear them while they bubble.
+    pub(crate) fn is_unheard(&self, event: &str, bubbling: bool) -> bool
+        requires { bubbling ≡ false → NoneHears event.now false self.now }
         ensures { result ≡ true → (capturing : Bool) → NoneHears event.now capturing self.now }
     {
-        !self.may_hear(event, false) && !self.may_hear(event, true)
+        !bubbling && !self.may_hear(event, true)
     }
 
     /// Whether a node has a listener with the type, the label and the capture of these words.
@@ -172,6 +184,23 @@ impl Listeners {
             self.table.take(node, at);
         }
     }
+}
+
+/// Whether two types of events are the same. The last bytes are compared first, since types of one length often begin alike.
+#[inline(always)]
+fn is_same_type(event: &str, other: &str) -> bool
+    ensures { result ≡ text_eq event.now other.now }
+{
+    let bytes = event.as_bytes();
+    let others = other.as_bytes();
+    if bytes.len() != others.len() {
+        return false;
+    }
+    let end = bytes.len();
+    if end > 0 && bytes[end - 1] != others[end - 1] {
+        return false;
+    }
+    is_same_text(event, other)
 }
 
 /// Whether two labels are the same.

@@ -5,7 +5,6 @@ ghost use Rattle.dom_dispatch.specs.Dispatches.{dispatching_in};
 
 use crate::event::LogLine;
 use dom_base::Action;
-use std::alloc::Global;
 
 /// The flags of an event that is dispatched, and the lines of the calls so far (DOM Standard, event flags: stop propagation, stop
 /// immediate propagation, canceled).
@@ -18,16 +17,19 @@ pub(crate) struct Progress {
 }
 
 impl Progress {
-    /// No flag is set, and there is no line. The lines will take their memory from `alloc`.
-    pub(crate) fn new(alloc: Global) -> Self
+    /// No flag is set, and there is no line. The lines will stand in this room.
+    pub(crate) fn new(mut lines: Vec<LogLine>) -> Self
         ensures begins { (ls : List (Listener ℕ)) → dispatching_in ls result ≡ begun ls }
         ensures lines { result.lines.items ≡ [] }
     {
+        if !lines.is_empty() {
+            lines.clear();
+        }
         Progress {
             stopped: false,
             stopped_now: false,
             cancelled: false,
-            lines: Vec::new(alloc),
+            lines,
         }
     }
 

@@ -82,6 +82,24 @@ module _ (f : NamedTrees) (hosts : List ShadowHost) where
     pub within : outer ≤ length trees
     pub there : ForSome to (λ y. (outer < length trees) × IsTreeOf f trees outer y)
 
+  -- a node's own is still to come behind those around its host
+  pub outside-own : {x : NodeName} {old trees : List Tree} (t : Tree) {outer : ℕ} → IsAround f hosts x t → Grows old trees → AreTrees f hosts trees
+      → outer ≤ length trees → ForSome t.host (λ h. (outer < length trees) × IsTreeOf f trees outer (name_at f.names h)) →
+      IsOutside x old (t ∷ []) trees outer
+  outside-own {x} {old} {trees} t {outer} around grown are within seen = record {
+    to = option_map (name_at f.names) t.host;
+    way = (x, refl, around, refl);
+    grown = grown;
+    are = are;
+    within = within;
+    there = by t.host seen;
+  }
+    where
+      by : (o : Option ℕ) → ForSome o (λ h. (outer < length trees) × IsTreeOf f trees outer (name_at f.names h)) →
+          ForSome (option_map (name_at f.names) o) (λ y. (outer < length trees) × IsTreeOf f trees outer y)
+      by None h = λ y e. cc
+      by (Some k) h = λ y e. ((h k refl).0, subst (IsTreeOf f trees outer) (let s : name_at f.names k ≡ y = cc in s) (h k refl).1)
+
   -- a tree less to come may be added
   pub outside-nested : {x : NodeName} {old around : List Tree} (left : List Tree) {trees : List Tree} (t : Tree) {outer : ℕ} →
       IsOutside x old around trees outer → around ≡ left ++ t ∷ []

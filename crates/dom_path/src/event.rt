@@ -1,5 +1,5 @@
 //! The rules by which a path is built.
-ghost use Rattle.std.specs.Prelude.{◌≡◌, ℕ, ◌<◌, length, map, Some, option_map, IfOk, OnOk};
+ghost use Rattle.std.specs.Prelude.{◌≡◌, ℕ, ◌<◌, [], length, map, Some, option_map, IfOk, OnOk};
 ghost use Rattle.std.specs.Option.{ForSome};
 ghost use Rattle.std.specs.List.{AllByRecursion};
 ghost use Rattle.dom_model.specs.Tree.{root_of};
@@ -21,7 +21,7 @@ use crate::trees::Trees;
 use dom_slots::Slots;
 use dom_tree::Forest;
 use node_arena::Key;
-use std::alloc::{AllocError, Global};
+use std::alloc::AllocError;
 
 /// For how many items a path has room as it begins.
 const SHORT: usize = 16;
@@ -34,9 +34,9 @@ struct Event {
     composed: bool,
 }
 
-/// The items of the path of an event at a target (DOM Standard, concept: dispatch). This adds the trees on its way.
+/// The items of the path of an event at a target (DOM Standard, concept: dispatch), in the room of others. This adds the trees on its way.
 pub(crate) fn items_of(
-    alloc: Global,
+    mut room: Vec<Item>,
     trees: &mut Trees,
     forest: &Forest,
     slots: &Slots,
@@ -66,18 +66,20 @@ pub(crate) fn items_of(
         related,
         composed,
     };
+    room.clear();
     if event.is_silent(trees) {
-        return Ok(Vec::new(alloc));
+        return Ok(room);
     }
-    event.items(alloc, trees, forest, slots)
+    event.items(room, trees, forest, slots)
 }
 
 impl Event {
     /// The items of the path: of the target, and then each event parent's, up to where the path ends (DOM Standard, concept:
-    /// dispatch). One look for a slot a node, and no walk up to a root. Up to 16 items take memory once.
+    /// dispatch). One look for a slot a node, and no walk up to a root. They stand in the room, which is empty; up to 16 of them take memory
+    /// once.
     fn items(
         &self,
-        alloc: Global,
+        mut items: Vec<Item>,
         trees: &mut Trees,
         forest: &Forest,
         slots: &Slots,
@@ -85,6 +87,7 @@ impl Event {
         requires trees { AreTrees forest.now slots.now.hosts trees.old }
         requires event { IsEvent forest.now slots.now.hosts trees.old self.now.target self.now.related }
         requires slots { AreSlotsOf forest.now slots.now }
+        requires room { items.items ≡ [] }
         ensures trees { OnOk result (AreTrees forest.now slots.now.hosts trees.new) }
         ensures way { IfOk result (λ items. (depth : ℕ) → IsHosted forest.now slots.now.hosts depth →
             IsWay forest.now slots.now.hosts (name_of forest.now self.now.target.node) (related_name forest.now.names self.now.related)
@@ -96,7 +99,7 @@ impl Event {
             self.now.composed (map (item_named forest.now.names) items.items)) }
     {
         forest.law_nodes_stand_once();
-        let mut items = Vec::with_capacity(alloc, SHORT)?;
+        items.reserve(SHORT)?;
         let mut next = Some(self.target);
         while let Some(at) = next {
             // The loop ends since the number of items is a `usize`.

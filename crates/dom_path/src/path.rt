@@ -1,5 +1,5 @@
 //! Event paths.
-ghost use Rattle.std.specs.Prelude.{◌≡◌, ℕ, ◌<◌, ◌↔◌, true, IsTrue, Some, length, map, option_map, slice_get, IfOk};
+ghost use Rattle.std.specs.Prelude.{◌≡◌, ℕ, ◌<◌, ◌↔◌, true, IsTrue, Some, length, map, option_map, slice_get, IfOk, OnOk};
 ghost use Rattle.std.specs.List.{AllByRecursion};
 ghost use Rattle.std.specs.Option.{ForSome};
 ghost use Rattle.dom_model.specs.Paths.{View, views};
@@ -78,9 +78,41 @@ impl Path {
         ensures nodes { IfOk result (λ p. AllByRecursion (HasNodes forest.now.names) p.items) }
         ensures shown_nodes { IfOk result (λ p. AllByRecursion (ShowsNodes forest.now.names) p.views) }
     {
+        Path::build_in(Vec::new(alloc), forest, slots, target, related, composed)
+    }
+
+    /// The path of an event as `build` gives it, with its items in the memory of those of another path, as `into_items` gives them. What
+    /// stands there goes.
+    pub fn build_in(
+        room: Vec<Item>,
+        forest: &Forest,
+        slots: &Slots,
+        target: Key,
+        related: Option<Key>,
+        composed: bool,
+    ) -> Result<Path, AllocError>
+        requires target_is_node { IsNode forest.now target }
+        requires related_is_node { ForSome related (IsNode forest.now) }
+        requires slots { AreSlotsOf forest.now slots.now }
+        ensures items { IfOk result (λ p. (w : World) → IsWorldOf forest.now slots.now.hosts w →
+            map (item_named forest.now.names) p.items ≡ path_items w (name_of forest.now target)
+            (option_map (name_of forest.now) related) composed) }
+        ensures views { IfOk result (λ p. (w : World) → IsWorldOf forest.now slots.now.hosts w →
+            map (view_named forest.now.names) p.views ≡ views w (name_of forest.now target) (option_map (name_of forest.now) related)
+            composed) }
+        ensures hosted { IfOk result (λ p. (depth : ℕ) → IsHosted forest.now slots.now.hosts depth →
+            IsPathShown (shadows forest.now slots.now.hosts) depth (name_of forest.now target)
+            (option_map (name_of forest.now) related) composed (map (item_named forest.now.names) p.items)
+            (map (view_named forest.now.names) p.views)) }
+        ensures trail { IfOk result (λ p. IsTrail (shadows forest.now slots.now.hosts) (name_of forest.now target) composed
+            (map (item_named forest.now.names) p.items)) }
+        ensures nodes { IfOk result (λ p. AllByRecursion (HasNodes forest.now.names) p.items) }
+        ensures shown_nodes { IfOk result (λ p. AllByRecursion (ShowsNodes forest.now.names) p.views) }
+    {
         forest.law_nodes_stand_once();
+        let alloc = *room.allocator();
         let mut trees = Trees::new(alloc);
-        let items = items_of(alloc, &mut trees, forest, slots, target, related, composed)?;
+        let items = items_of(room, &mut trees, forest, slots, target, related, composed)?;
         Ok(Path {
             items,
             trees,
@@ -96,21 +128,43 @@ impl Path {
         self.items.as_slice()
     }
 
+    /// The items of the path, without the rest of it.
+    pub fn into_items(self) -> Vec<Item>
+        ensures { result.items ≡ self.items }
+    {
+        self.items
+    }
+
     /// The nodes of the path that are not hidden from the item at this place (DOM Standard, composedPath()). Up to 16 of them take no
     /// memory; there is no answer where memory for more is refused.
     pub fn composed_path(&self, at: usize) -> Result<SmallVec<Key, 16>, AllocError>
         requires { at < length self.now.items }
         ensures { IfOk result (λ nodes. option_map (λ (v : View ℕ). v.path) (slice_get self.now.views at) ≡ Some nodes.items) }
     {
+        let mut nodes = SmallVec::new(self.alloc);
+        self.put_composed_path(at, &mut nodes)?;
+        Ok(nodes)
+    }
+
+    /// Puts the nodes that `composed_path` answers in place of others. Where memory is refused there may be fewer of them.
+    pub fn put_composed_path(
+        &self,
+        at: usize,
+        nodes: &mut SmallVec<Key, 16>,
+    ) -> Result<(), AllocError>
+        requires { at < length self.now.items }
+        ensures { OnOk result (option_map (λ (v : View ℕ). v.path) (slice_get self.now.views at) ≡ Some nodes.new.items) }
+    {
         let items = self.items.as_slice();
         let viewer = items[at].tree;
-        let mut nodes = SmallVec::with_capacity(self.alloc, items.len())?;
+        nodes.clear();
+        nodes.reserve(items.len())?;
         for item in items {
             if self.trees.hiding_host(item.tree, viewer).is_none() {
                 nodes.push(item.node)?;
             }
         }
-        Ok(nodes)
+        Ok(())
     }
 
     /// Whether two items of the path stand in one tree. The event then shows the same nodes of its path at both (own rule).

@@ -1,5 +1,5 @@
 //! The trees on an event's way.
-ghost use Rattle.std.specs.Prelude.{◌≡◌, ◌<◌, ◌++◌, ◌∷◌, [], List, length, nat_eq, option_map, slice_get, None, Some, IfOk, OnOk};
+ghost use Rattle.std.specs.Prelude.{◌≡◌, ◌<◌, ◌≤◌, ◌++◌, ◌∷◌, [], List, length, nat_eq, option_map, slice_get, None, Some, IfOk, OnOk};
 ghost use Rattle.std.specs.Option.{ForSome};
 ghost use Rattle.dom_model.specs.Names.{is_in};
 ghost use Rattle.dom_tree.specs.Forest.{IsNode, name_of};
@@ -88,6 +88,49 @@ impl Trees {
         slots: &Slots,
         node: Key,
     ) -> Result<usize, AllocError>
+        requires node_is_node { IsNode forest.now node }
+        requires hosts { HostsAreNodes forest.now.names slots.now.hosts }
+        requires trees { AreTrees forest.now slots.now.hosts self.old }
+        ensures grown { OnOk result (Grows self.old self.new) }
+        ensures trees { OnOk result (AreTrees forest.now slots.now.hosts self.new) }
+        ensures within { IfOk result (λ place. place < length self.new) }
+        ensures place { IfOk result (λ place. IsTreeOf forest.now self.new place (name_of forest.now node)) }
+    {
+        forest.law_nodes_stand_once();
+        let root = forest.root(node);
+        let host = slots.host_of(root);
+        // The borrow checker does not let `host` be passed twice.
+        let outermost = host;
+        let outer = self.add_outer(forest, slots, outermost)?;
+        let place = self.push(root, host, outer)?;
+        Ok(place)
+    }
+
+    /// Adds the trees around a host, if there is one, and last the host's own, whose place is the answer then.
+    fn add_outer(
+        &mut self,
+        forest: &Forest,
+        slots: &Slots,
+        host: Option<Key>,
+    ) -> Result<usize, AllocError>
+        requires host_is_node { ForSome host (IsNode forest.now) }
+        requires hosts { HostsAreNodes forest.now.names slots.now.hosts }
+        requires trees { AreTrees forest.now slots.now.hosts self.old }
+        ensures grown { OnOk result (Grows self.old self.new) }
+        ensures trees { OnOk result (AreTrees forest.now slots.now.hosts self.new) }
+        ensures within { IfOk result (λ place. place ≤ length self.new) }
+        ensures there { IfOk result (λ place. ForSome host
+            (λ h. (place < length self.new) × IsTreeOf forest.now self.new place (name_of forest.now h))) }
+    {
+        match host {
+            Some(host) => self.add_around(forest, slots, host),
+            None => Ok(0),
+        }
+    }
+
+    /// Adds the trees around a node as `add` does. It is kept out of line, since most trees have no host.
+    #[inline(never)]
+    fn add_around(&mut self, forest: &Forest, slots: &Slots, node: Key) -> Result<usize, AllocError>
         requires node_is_node { IsNode forest.now node }
         requires hosts { HostsAreNodes forest.now.names slots.now.hosts }
         requires trees { AreTrees forest.now slots.now.hosts self.old }

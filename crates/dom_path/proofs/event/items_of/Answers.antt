@@ -19,7 +19,7 @@ pub returns-then-is_silent-clause-path : goal.returns-then-is_silent-clause-path
 returns-then-is_silent-clause-path c = λ depth hosted.
     let f = c.args.forest.now in
     let hosts = c.args.slots.now.hosts in
-    subst (IsBuilt f hosts (name_at f.names c.args.target) (option_map (name_at f.names) c.args.related) depth c.args.composed) (sym c.new.ensures.items)
+    subst (IsBuilt f hosts (name_at f.names c.args.target) (option_map (name_at f.names) c.args.related) depth c.args.composed) (sym c.clear.ensures.items)
     (silent-keys f hosts c.law_nodes_stand_once.ensures.distinct c.of_any.new.trees c.in_ok-related.ensures.trees depth hosted
     (stand-kept f hosts c.of.new.trees c.of_any.new.trees c.in_ok-target.target c.in_ok-related.ensures.grown c.in_ok-target.ensures.stands)
     c.in_ok-related.ensures.stands c.in_ok-target.ensures.node c.in_ok-related.ensures.node c.if-is_silent.ensures)
@@ -50,7 +50,7 @@ returns-then-is_silent-clause-trail c =
     let f = c.args.forest.now in
     let hosts = c.args.slots.now.hosts in
     subst (λ (items : List Item). IsTrail (shadows f hosts) (name_at f.names c.args.target) c.args.composed (map (item_named f.names) items))
-    (sym c.new.ensures.items) tt
+    (sym c.clear.ensures.items) tt
 
 pub returns-clause-trail : goal.returns-clause-trail
 returns-clause-trail c =

@@ -1,5 +1,6 @@
 use Rattle.dom_commands.proofs.Cited.{List, ◌++◌, All, map, rules, sym, ap, subst, ◌∙◌, AllByRecursion, output_text, LogLine, event_words, line_in, AreNumbered}
-use Rattle.dom_commands.proofs.Cited.{NamesNodes, line_shown}
+use Rattle.dom_commands.proofs.Cited.{ℕ, NamesNodes, line_shown, IsListenerAt, machine_now}
+use Rattle.dom_model.proofs.Model.{Listener}
 use Rattle.dom_commands.proofs.EventLines.{dispatch-lines, line_nodes, every}
 use Rattle.dom_commands.proofs.Firing.{fired}
 use Rattle.dom_commands.proofs.machine.Machine.fire.Goals as goal
@@ -31,11 +32,11 @@ returns c =
     }) in
     let names = c.forest_and_slots.result.0.now.names in
     record {
-      world = all.1;
+      world = ap (λ (ls : List (Listener ℕ)). (machine_now c.self.inside.state ls).world) c.reuse.ensures ∙ all.1;
       text = c.in_ok-put_lines.ensures
           ∙ ap (λ (ls : List LogLine). c.args.out.now.items ++ output_text (map (line_shown names) ls)) c.as_slice.ensures.value
           ∙ ap (λ os. c.args.out.now.items ++ output_text os) all.2;
       answer = all.3;
       names = search rules;
-      listeners = all.0;
+      listeners = subst (AllByRecursion (IsListenerAt c.self.inside.state.names)) (sym c.reuse.ensures) all.0;
     }

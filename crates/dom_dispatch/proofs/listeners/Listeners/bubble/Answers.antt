@@ -6,10 +6,10 @@ use Rattle.dom_dispatch.proofs.listeners.Listeners.bubble.Goals.{then-event+in_o
 use Rattle.dom_dispatch.proofs.listeners.Listeners.bubble.Goals.{else-event+else-eq}
 use Rattle.dom_dispatch.proofs.listeners.Listeners.bubble.Goals as goal
 
-pub returns-then-not-may_hear-clause-visits : goal.returns-then-not-may_hear-clause-visits
-returns-then-not-may_hear-clause-visits c =
+pub returns-then-not-may_bubble-clause-visits : goal.returns-then-not-may_bubble-clause-visits
+returns-then-not-may_bubble-clause-visits c =
     sym (silent (event_words c.args.event.now) false nat_eq (dispatching_in c.args.self.now c.args.so_far.now)
-    (subst (λ text. NoneHears text false c.args.self.now) c.as_str.ensures.value (c.may_hear.ensures c.if-not-may_hear.true))
+    (subst (λ text. NoneHears text false c.args.self.now) c.as_str.ensures.value (c.may_bubble.ensures c.if-not-may_bubble.true))
     (filter (λ v. c.args.event.now.bubbles || is_at_target nat_eq v) c.args.path.now.views))
 
 pub loop-at-preserved : goal.loop-at-preserved

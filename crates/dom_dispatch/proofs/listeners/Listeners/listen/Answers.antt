@@ -2,6 +2,20 @@ use Rattle.dom_dispatch.proofs.Cited.{ap, sym, ◌∙◌, ListenerWords, listene
 use Rattle.dom_dispatch.proofs.Typed.{more-typed, pushed-typed}
 use Rattle.dom_dispatch.proofs.listeners.Listeners.listen.Goals as goal
 
+pub invariant_of-self : goal.invariant_of-self
+invariant_of-self c = record {
+  indexed = c.self.invariant.indexed;
+  typed = more-typed c.self.inside.types c.note.new.self c.note.ensures.kept (listeners_in (present c.self.inside.table.entries.items))
+      c.self.invariant.typed;
+}
+
+pub invariant_of-self-in_err-words : goal.invariant_of-self-in_err-words
+invariant_of-self-in_err-words c = record {
+  indexed = c.self.invariant.indexed;
+  typed = more-typed c.self.inside.types c.note.new.self c.note.ensures.kept (listeners_in (present c.self.inside.table.entries.items))
+      c.self.invariant.typed;
+}
+
 pub invariant_of-self-2 : goal.invariant_of-self-2
 invariant_of-self-2 c = record {
   indexed = c.push.ensures.indexed;

@@ -1,36 +1,42 @@
-use Rattle.dom_path.proofs.Cited.{◌++◌, None, sym, ap, ◌∙◌, arith, true≢false, is_some, option_to_list}
-use Rattle.dom_path.proofs.Goings.{outside-nested, outside-more, outside-last}
-use Rattle.dom_path.proofs.Nesting.{grows-none}
+-- The node's own tree is put behind those around its host.
+use Rattle.dom_path.proofs.Cited.{[], ◌∙◌, arith, refl, sym, ap, option_map, name_at, host-named, host-node, Tree, IsAround}
+use Rattle.dom_path.proofs.Goings.{outside-own, outside-nested, outside-more, outside-last}
 use Rattle.dom_path.proofs.trees.Trees.add.Goals as goal
 
-pub loop-tree-init : goal.loop-tree-init
-loop-tree-init c = record {
-  to = None;
-  way = c.in_ok-around.ensures;
-  grown = grows-none c.args.self.now;
-  are = c.requires.trees;
-  within = omega arith;
-  there = λ y e. cc;
-}
+pub add_outer-requires-clause-host_is_node : goal.add_outer-requires-clause-host_is_node
+add_outer-requires-clause-host_is_node c =
+    λ k e. host-node c.args.forest.now.names c.args.slots.now.hosts c.requires.hosts c.root-root.result k (sym c.host_of-host.ensures ∙ e)
 
 pub push-requires : goal.push-requires
 push-requires c =
-    let split = c.pop.ensures.items ∙ ap (λ o. c.pop.new.self.items ++ option_to_list o) c.in-Some.is in
+    let f = c.args.forest.now in
+    let hosts = c.args.slots.now.hosts in
+    let root = c.root-root.result in
+    let own : Tree = record { root = root; host = c.host_of-host.result; outer = 0 } in
+    let around : IsAround f hosts (name_at f.names c.args.node) own = record {
+      nodes = record { root = c.root-root.ensures.node; host = λ k e. host-node f.names hosts c.requires.hosts root k (sym c.host_of-host.ensures ∙ e) };
+      root = c.root-root.ensures.value;
+      host = ap (option_map (name_at f.names)) c.host_of-host.ensures ∙ host-named f.names c.law_nodes_stand_once.ensures.distinct hosts
+          c.requires.hosts root c.root-root.ensures.node;
+    } in
     record {
-      nested = outside-nested c.args.forest.now c.args.slots.now.hosts c.pop.new.self.items
-          c.in-Some.tree c.loop-tree.invariant split;
+      nested = outside-nested f hosts [] own (outside-own f hosts {old = c.args.self.now} {trees = c.add_outer.new.self} own around c.in_ok-outer.ensures.grown
+          c.in_ok-outer.ensures.trees c.in_ok-outer.ensures.within c.in_ok-outer.ensures.there) refl;
     }
 
-pub loop-tree-preserved : goal.loop-tree-preserved
-loop-tree-preserved c =
-    let split = c.pop.ensures.items ∙ ap (λ o. c.pop.new.self.items ++ option_to_list o) c.in-Some.is in
-    outside-more c.args.forest.now c.args.slots.now.hosts
-    c.pop.new.self.items
-    c.in-Some.tree c.loop-tree.invariant split c.in_ok-outer.ensures.trees
-    c.in_ok-outer.ensures.place
-
-pub returns-clause-within : goal.returns-clause-within
-returns-clause-within c =
-    (outside-last c.args.forest.now c.args.slots.now.hosts c.loop-tree.around.items
-    c.loop-tree.invariant
-    (λ h. true≢false (sym (c.pop.ensures.variant.1 h) ∙ ap is_some c.in_default.is))).0
+pub returns : goal.returns
+returns c =
+    let f = c.args.forest.now in
+    let hosts = c.args.slots.now.hosts in
+    let root = c.root-root.result in
+    let own : Tree = record { root = root; host = c.host_of-host.result; outer = 0 } in
+    let around : IsAround f hosts (name_at f.names c.args.node) own = record {
+      nodes = record { root = c.root-root.ensures.node; host = λ k e. host-node f.names hosts c.requires.hosts root k (sym c.host_of-host.ensures ∙ e) };
+      root = c.root-root.ensures.value;
+      host = ap (option_map (name_at f.names)) c.host_of-host.ensures ∙ host-named f.names c.law_nodes_stand_once.ensures.distinct hosts
+          c.requires.hosts root c.root-root.ensures.node;
+    } in
+    let end = outside-more f hosts [] own (outside-own f hosts {old = c.args.self.now} {trees = c.add_outer.new.self} own around c.in_ok-outer.ensures.grown
+    c.in_ok-outer.ensures.trees c.in_ok-outer.ensures.within c.in_ok-outer.ensures.there) refl c.in_ok-place.ensures.trees c.in_ok-place.ensures.place in
+    let last = outside-last f hosts [] end (λ h. omega (arith, h)) in
+    record { grown = end.grown; trees = end.are; within = last.0; place = last.1 }

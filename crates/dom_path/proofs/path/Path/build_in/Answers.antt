@@ -2,7 +2,7 @@ use Rattle.dom_path.proofs.Cited.{option_map, max_depth, name_at}
 use Rattle.dom_path.proofs.InWorlds.{in-world}
 use Rattle.dom_path.proofs.Shows.{path-shown, nodes-within, shown-within}
 use Rattle.dom_path.proofs.Sightings.{world-hosted}
-use Rattle.dom_path.proofs.path.Path.build.Goals as goal
+use Rattle.dom_path.proofs.path.Path.build_in.Goals as goal
 
 pub returns-clause-hosted : goal.returns-clause-hosted
 returns-clause-hosted c = λ depth hosted.

@@ -2,7 +2,7 @@ use Rattle.dom_dispatch.proofs.Cited.{◌≡◌, ℕ, ◌||◌, true, false, not
 use Rattle.dom_dispatch.proofs.Cited.{visit_of, is_at_target, Dispatching, after_invoke, begun, event_words, dispatching_in, HasPathOf, IsLineAlong, IsOwnLine}
 use Rattle.dom_dispatch.proofs.Cited.{paths_of, dispatch_along, all-then}
 use Rattle.dom_dispatch.proofs.Visiting.{dispatched-in}
-use Rattle.dom_dispatch.proofs.listeners.Listeners.dispatch.Goals as goal
+use Rattle.dom_dispatch.proofs.listeners.Listeners.dispatch_along.Goals as goal
 
 pub capture-requires-clause-lines : goal.capture-requires-clause-lines
 capture-requires-clause-lines c =
@@ -21,14 +21,15 @@ returns-clause-keys c =
     let up = map (visit_of nat_eq false) (filter (λ v. e.bubbles || is_at_target nat_eq v) views) in
     let whole : dispatching_in c.bubble.new.self c.bubble.new.so_far ≡ dispatch_along before e views =
     c.in_ok-bubble.ensures.visits
-    ∙ ap (λ d. fold step d up) (c.in_ok-capture.ensures.visits ∙ ap (λ d. fold step d down) (c.new-so_far.ensures.begins before))
+    ∙ ap (λ d. fold step d up) (c.in_ok-capture.ensures.visits
+    ∙ ap (λ d. fold step d down) ((λ j. dispatching_in (c.take_room-items.ensures j) c.new-so_far.result) ∙ c.new-so_far.ensures.begins before))
     ∙ sym (fold-append step (begun before) down up) in
     record {
       shown = views;
       nodes = c.in_ok-path.ensures.shown_nodes;
       path = c.in_ok-path.ensures.views;
       hosted = λ depth hosted. (c.in_ok-path.ensures.hosted depth hosted).shown;
-      listeners = ap (λ (d : Dispatching ℕ). d.listeners) whole;
+      listeners = c.keep_room.ensures ∙ ap (λ (d : Dispatching ℕ). d.listeners) whole;
       lines = ap (λ (d : Dispatching ℕ). d.lines) whole;
       answer = ap (λ (d : Dispatching ℕ). not d.cancelled) whole;
     }
