@@ -67,6 +67,7 @@ impl Runner {
     }
 
     /// Runs one line, and writes its output.
+    #[inline(always)]
     fn run_line<W: Sink>(&mut self, sink: &mut W, line: &[u8]) -> Result<(), RunFault>
         ensures written { EndsLines result (W.failures sink.old) (W.failures sink.new)
             (W.contents sink.old, W.taken sink.old) (W.contents sink.new, W.taken sink.new)

@@ -69,6 +69,7 @@ impl Session {
     }
 
     /// Takes a line as `line` does, and puts the lines that answer it behind what a buffer holds.
+    #[inline(always)]
     pub(crate) fn put_line(&mut self, line: &[u8], out: &mut Vec<u8>) -> Result<(), AllocError>
         ensures was { OnOk result (self.old.has_failed ≡ false) }
         ensures text { OnOk result (out.new.items ≡ out.old.items ++ output_text (step self.old.world (decode line.now)).1) }
@@ -155,7 +156,7 @@ fn answer_spelled(
 }
 
 /// What an owner's line does, with these bytes behind the owner's word.
-#[inline(never)]
+#[inline(always)]
 fn answer_owner(
     machine: &mut Machine,
     alloc: Global,
