@@ -1,4 +1,6 @@
 pub mod Attributes
+pub mod AttributeValues
+pub mod SignLaws
 mod FewAttributes
 mod Boxed
 mod OwnNames

@@ -6,8 +6,10 @@ mod attribute_list;
 mod hashed_attributes;
 mod several_attributes;
 mod shared_names;
+mod signs;
 mod texts;
 
 pub use attribute_list::AttributeList;
 pub use shared_names::SharedNames;
+pub use signs::{Signs, is_space, mix};
 pub use texts::{is_same_string, is_same_text};

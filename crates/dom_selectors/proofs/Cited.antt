@@ -36,7 +36,7 @@ pub use Rattle.dom_selectors.specs.declared.above.Above.{Above}
 pub use Rattle.dom_selectors.specs.declared.selector.Combinator.TheVariants.{Descendant, Later}
 pub use Rattle.dom_selectors.specs.declared.selector.Link.{Link}
 pub use Rattle.dom_selectors.specs.declared.siblings.Side.{Side}
-pub use Rattle.dom_tree.proofs.AttributeValues.{text_same}
+pub use Rattle.dom_attributes.proofs.AttributeValues.{text_same}
 pub use Rattle.dom_tree.proofs.Searching.{following_step, IsWithin-itself, IsWithin-key, length-behind}
 pub use Rattle.dom_tree.proofs.Standing.{Has-forest, name_found, Once-forest, other_name, StandAlone, StandOnce}
 pub use Rattle.dom_tree.specs.Definitions.{AreOwned, name_at, NamedTrees, StandsIn}

@@ -5,8 +5,8 @@ use Rattle.std.specs.Map.{lookup}
 use Rattle.dom_model.specs.Names.{DomString}
 use Rattle.dom_model.specs.Slots.{is_slot_element, slot_name}
 use Rattle.dom_model.specs.Tree.{node_in, root_of}
+use Rattle.dom_attributes.specs.Signs.{mix}
 use Rattle.dom_tree.specs.Forest.{NamedTrees, name_at}
-use Rattle.dom_tree.specs.Ids.{mix}
 use Rattle.dom_slots.specs.Hosts.{ShadowHost, host_of_root}
 use Rattle.dom_slots.specs.declared.index.Bearer.{Bearer}
 use Rattle.dom_slots.specs.declared.index.Bearer.TheVariants.{Only, Several}

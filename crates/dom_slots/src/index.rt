@@ -1,8 +1,8 @@
 //! Which slots may have a name in the tree of a shadow root, as far as a table of numbers says it.
 ghost use Rattle.std.specs.Prelude.{◌≡◌, ◌≢◌, ◌⊎◌, ℕ, [], true, Some, OnOk};
-ghost use Rattle.dom_tree.specs.Ids.{mix};
 ghost use Rattle.dom_slots.specs.Index.{bearer_at, name_code, MayHave};
 
+use dom_attributes::mix;
 use node_arena::Key;
 use std::alloc::{AllocError, Global};
 use std::collections::HashMap;
@@ -28,17 +28,6 @@ impl Bearer {
             _ => Bearer::Several,
         }
     }
-}
-
-/// The multiplier of the numbers.
-const MULTIPLIER: u64 = 0x9e37_79b9_7f4a_7c15;
-
-/// A number for a list, from that of what stands before its last item.
-#[tactic(auto, unfolding(dom_tree::specs::Ids::mix))]
-fn mix(number: u64, item: u64) -> u64
-    ensures { result ≡ mix number item }
-{
-    number.wrapping_mul(MULTIPLIER).wrapping_add(item)
 }
 
 /// A number for a name in the tree of a root. Others may have the same number.

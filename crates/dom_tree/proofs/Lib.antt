@@ -12,7 +12,6 @@ mod Setting
 mod Walks
 mod Children
 mod Placing
-pub mod AttributeValues
 mod Noted
 pub mod Once
 mod Within

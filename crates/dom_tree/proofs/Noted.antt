@@ -10,7 +10,7 @@ use Rattle.dom_tree.specs.declared.ids.Bearer.{Bearer}
 use Rattle.dom_tree.specs.declared.ids.Bearer.TheVariants.{Only, Several}
 use Rattle.dom_tree.proofs.Kept.{seen, within, shows_node}
 use Rattle.dom_tree.proofs.Adding.{push_cases}
-use Rattle.dom_tree.proofs.AttributeValues.{text_same, other_name, value-set, value-set_other, value-removed, value-removed_other}
+use Rattle.dom_attributes.proofs.AttributeValues.{text_same, other_name, value-set, value-set_other, value-removed, value-removed_other}
 use Rattle.dom_tree.proofs.Setting.{slice_get-set_same, slice_get-set_other, IsKept-set_same}
 
 -- the same bearers

@@ -1,12 +1,12 @@
 -- A node of a forest, where it lies, and the steps from there.
 use Rattle.dom_base.proofs.Std.{◌≡◌, ℕ, ◌<◌, true, length, Option, Some, sym, subst, slice_get, option_map, ForSome}
-use Rattle.dom_model.proofs.Model.{first_of, items_after, name_eq, node_in, inclusive_descendants, is_inclusive_ancestor}
-use Rattle.node_arena.specs.Nodes.{Nodes, children_of}
+use Rattle.dom_model.proofs.Model.{first_of, items_after, name_eq, node_in, parent_of as parent_in, inclusive_descendants, is_inclusive_ancestor}
+use Rattle.node_arena.specs.Nodes.{Nodes, children_of, parent_of}
 use Rattle.node_arena.specs.Spots.{Spot}
 use Rattle.node_arena.proofs.Lists.{head_or}
 use Rattle.dom_tree.specs.Definitions.{Stored, NamedTrees, name_at, node_with, nodes_of}
 use Rattle.dom_tree.specs.Spots.{IsOfForest}
-use Rattle.dom_tree.proofs.Kept.{within_names, shows_node}
+use Rattle.dom_tree.proofs.Kept.{within_names, shows_node, shows_parent}
 use Rattle.dom_tree.proofs.Walks.{InTree, in_tree}
 use Rattle.dom_tree.proofs.Within.{following_within}
 use Rattle.dom_tree.proofs.OrderWithin.{behind_in, shows_following}
@@ -19,6 +19,13 @@ module _ {f : NamedTrees} {s : Spot (Nodes Stored)} (here : IsOfForest f s) wher
   -- what is stored of it is its node in the trees
   pub node_here : {d : Stored} → slice_get s.whole.payloads s.key ≡ Some d → node_in f.trees (name_at f.names s.key) ≡ node_with f.names d.name d.node
   node_here {d} at = shows_node here.seen here.kept s.key d key_here at
+
+  -- the node in whose list it stands is its parent in the trees
+  pub parent_here : {v : Spot NamedTrees} → record { whole = f; key = s.key } ≡ v → {r : Option ℕ} → r ≡ parent_of s.whole.children s.key →
+      option_map (name_at v.whole.names) r ≡ parent_in v.whole.trees (name_at v.whole.names v.key)
+  parent_here is {r} found =
+      subst (λ (x : Spot NamedTrees). option_map (name_at x.whole.names) r ≡ parent_in x.whole.trees (name_at x.whole.names x.key)) is
+      (shows_parent here.seen here.kept s.key key_here found)
 
   -- It is seen as v, and stands in the tree of another node.
   module _ {v : Spot NamedTrees} (is : record { whole = f; key = s.key } ≡ v) {top : ℕ} (at_top : top < length v.whole.names)

@@ -1,5 +1,5 @@
 -- Which nodes may have an ID, as a table says it by numbers of IDs: it may name too many, and never too few.
-use Rattle.std.specs.Prelude.{◌≡◌, ◌≢◌, ◌⊎◌, ◌+◌, ◌*◌, ◌%◌, ◌^◌, ◌<◌, ℕ, List, codes, fold, length, nat_eq, slice_get, Option, Some, None}
+use Rattle.std.specs.Prelude.{◌≡◌, ◌≢◌, ◌⊎◌, ◌<◌, ℕ, List, codes, fold, length, nat_eq, slice_get, Option, Some, None}
 use Rattle.std.specs.Option.{option_map}
 use Rattle.std.specs.HashMap.{get, spare}
 use Rattle.dom_base.specs.declared.Owner.{Owner}
@@ -8,15 +8,12 @@ use Rattle.dom_base.specs.declared.NodeName.{NodeName}
 use Rattle.dom_model.specs.Names.{DomString}
 use Rattle.dom_model.specs.Tree.{Trees, node_in, attribute_value}
 use Rattle.dom_attributes.specs.Attributes.{value_among}
+use Rattle.dom_attributes.specs.Signs.{mix}
 use Rattle.dom_tree.specs.Contents.{Stored}
 use Rattle.dom_tree.specs.Forest.{IsKept}
 use Rattle.dom_tree.specs.declared.ids.Bearer.{Bearer}
 use Rattle.dom_tree.specs.declared.ids.Bearer.TheVariants.{Only, Several}
 use Rattle.dom_tree.specs.declared.ids.IdTable.{IdTable}
-
--- a number for a list, from that of what stands before its last item
-unfoldable pub mix : ℕ → ℕ → ℕ
-mix number item = (number * 11400714819323198485 % 2 ^ 64 + item) % 2 ^ 64
 
 -- a number for an owner
 abbrev pub owner_code : Owner → ℕ

@@ -4,9 +4,10 @@ ghost use Rattle.std.specs.HashMap.{spare};
 ghost use Rattle.dom_model.specs.Names.{text_eq};
 ghost use Rattle.dom_model.specs.TreeChanges.{attributes_with, attributes_without};
 ghost use Rattle.dom_tree.specs.Contents.{stored_from};
-ghost use Rattle.dom_tree.specs.Ids.{bearers_of, only_bearer, id_code, owner_code, mix, MayHave, Widens, Narrows, IsNoteOf, HasRoomFor};
+ghost use Rattle.dom_tree.specs.Ids.{bearers_of, only_bearer, id_code, owner_code, MayHave, Widens, Narrows, IsNoteOf, HasRoomFor};
 
 use crate::stored::StoredNode;
+use dom_attributes::mix;
 use dom_base::{DomStr, Owner};
 use node_arena::Key;
 use std::alloc::{AllocError, Global};
@@ -33,17 +34,6 @@ impl Bearer {
             _ => Bearer::Several,
         }
     }
-}
-
-/// The multiplier of the numbers.
-const MULTIPLIER: u64 = 0x9e37_79b9_7f4a_7c15;
-
-/// A number for a list, from that of what stands before its last item.
-#[tactic(auto, unfolding(crate::specs::Ids::mix))]
-fn mix(number: u64, item: u64) -> u64
-    ensures { result ≡ mix number item }
-{
-    number.wrapping_mul(MULTIPLIER).wrapping_add(item)
 }
 
 /// A number for an owner.

@@ -9,6 +9,7 @@
 mod data;
 mod forest;
 mod ids;
+mod own;
 mod owners;
 mod shared;
 mod stored;

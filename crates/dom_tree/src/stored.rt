@@ -1,108 +1,24 @@
 //! A node as the arena keeps it.
-ghost use Rattle.std.specs.Prelude.{◌≡◌, ◌≤◌, [], length, slice_get, IfOk, IsOk, OnOk, OnErr};
-ghost use Rattle.std.specs.Option.{option_map, option_map_or};
+ghost use Rattle.std.specs.Prelude.{◌≡◌, ◌≤◌, false, length, slice_get, IfOk, IsOk, OnOk, OnErr};
+ghost use Rattle.std.specs.Option.{option_map};
 ghost use Rattle.std.specs.Rc.{rc_str_bytes};
 ghost use Rattle.dom_model.specs.TreeChanges.{attributes_with, attributes_without, replaced};
-ghost use Rattle.dom_attributes.specs.Attributes.{HaveOwnNames, attribute_from, attributes_from, value_among};
+ghost use Rattle.dom_attributes.specs.Signs.{MustHave};
+ghost use Rattle.dom_attributes.specs.Attributes.{HaveOwnNames, attribute_from, value_among};
 ghost use Rattle.dom_tree.specs.Contents.{stored_from};
 ghost use Rattle.dom_tree.specs.Forest.{contents_of};
 ghost use Rattle.dom_tree.specs.Ids.{code_in};
-ghost use Rattle.dom_tree.specs.Own.{kind_in, number_in, attributes_in};
 
 use crate::data::NodeData;
 use crate::ids::id_code;
+use crate::own::Own;
 use crate::shared::{Shared, SharedTable};
-use dom_attributes::{AttributeList, SharedNames};
+use dom_attributes::{SharedNames, Signs};
 use dom_base::{DomStr, Kind, NodeName};
-use indexmap::IndexMap;
 use node_arena::Key;
 use std::alloc::{AllocError, Global};
 use std::marker::Model;
 use std::rc::Rc;
-
-/// What an owner's node has of its own beside its data, and its attributes, in a box, if it ever had some. An enum has its tag beside
-/// the fields of its variants, so what is small stands in both variants, where it takes no room.
-#[derive(Drop)]
-enum Own {
-    Bare {
-        kind: Kind,
-        number: u32,
-    },
-    Attributed {
-        kind: Kind,
-        number: u32,
-        attributes: Box<AttributeList>,
-    },
-}
-
-impl Own {
-    /// Of a node of this kind and number, with the attributes of a map.
-    fn of(
-        alloc: Global,
-        kind: Kind,
-        number: u32,
-        attributes: IndexMap<String, DomStr>,
-    ) -> Result<Self, AllocError>
-        ensures kind { IfOk result (λ own. kind_in own ≡ kind) }
-        ensures number { IfOk result (λ own. number_in own ≡ number) }
-        ensures attributes { IfOk result (λ own. attributes_in own ≡ attributes_from attributes.entries) }
-    {
-        if attributes.is_empty() {
-            return Ok(Own::Bare { kind, number });
-        }
-        Own::attributed(alloc, kind, number, attributes)
-    }
-
-    /// Of a node of this kind and number, with the attributes of a map. It is out of line, since most nodes are made without.
-    #[inline(never)]
-    fn attributed(
-        alloc: Global,
-        kind: Kind,
-        number: u32,
-        attributes: IndexMap<String, DomStr>,
-    ) -> Result<Self, AllocError>
-        ensures kind { IfOk result (λ own. kind_in own ≡ kind) }
-        ensures number { IfOk result (λ own. number_in own ≡ number) }
-        ensures attributes { IfOk result (λ own. attributes_in own ≡ attributes_from attributes.entries) }
-    {
-        let attributes = Box::new(alloc, AttributeList::of(alloc, attributes)?)?;
-        Ok(Own::Attributed {
-            kind,
-            number,
-            attributes,
-        })
-    }
-
-    /// The kind.
-    #[inline(always)]
-    fn kind(&self) -> Kind
-        ensures { result ≡ kind_in self.now }
-    {
-        match self {
-            Own::Bare { kind, .. } | Own::Attributed { kind, .. } => *kind,
-        }
-    }
-
-    /// The number among the owner's nodes.
-    fn number(&self) -> u32
-        ensures { result ≡ number_in self.now }
-    {
-        match self {
-            Own::Bare { number, .. } | Own::Attributed { number, .. } => *number,
-        }
-    }
-
-    /// The attributes, if there ever were some.
-    #[inline(always)]
-    fn attributes(&self) -> Option<&AttributeList>
-        ensures { option_map_or (λ list. list.now) result [] ≡ attributes_in self.now }
-    {
-        match self {
-            Own::Bare { .. } => None,
-            Own::Attributed { attributes, .. } => Some(attributes),
-        }
-    }
-}
 
 /// A node under its name. What it shares with others and its attributes stand elsewhere, since elements are many and
 /// attributes few. Its data stands here: `Forest::set_data` asks for no memory, so it can make no box.
@@ -111,13 +27,16 @@ pub(crate) struct StoredNode {
     shared: Rc<Shared>,
     own: Own,
     text: DomStr,
-    document: Option<Key>,
+    /// The node document, if the node has one.
+    document: Key,
+    signs: Signs,
 }
 
 impl Model for StoredNode {
     ghost use Rattle.std.specs.Rc.{rc_str_bytes};
     ghost use Rattle.dom_tree.specs.Contents.{Stored, stored_code};
-    ghost use Rattle.dom_tree.specs.Own.{kind_in, number_in, attributes_in};
+    ghost use Rattle.dom_attributes.specs.Signs.{Cover};
+    ghost use Rattle.dom_tree.specs.Own.{kind_in, number_in, attributes_in, document_in};
 
     ghost Value = { Stored };
 
@@ -130,9 +49,11 @@ impl Model for StoredNode {
         element = rc_str_bytes s.shared.value.element;
         attributes = attributes_in s.own;
         text = s.text.items;
-        document = s.document;
+        document = document_in s.own s.document;
       };
     } };
+
+    ghost invariant = { λ s. Cover s.signs (rc_str_bytes s.shared.value.element) (attributes_in s.own) };
 }
 
 impl StoredNode {
@@ -152,11 +73,14 @@ impl StoredNode {
             text,
             document,
         } = node;
+        let signs = Signs::of_node(element.as_str(), &attributes);
+        let has_document = document.is_some();
         Ok(StoredNode {
             shared: table.shared(name.owner, element.as_str())?,
-            own: Own::of(alloc, kind, name.number, attributes)?,
+            own: Own::of(alloc, kind, has_document, name.number, attributes)?,
             text,
-            document,
+            document: document.unwrap_or_default(),
+            signs,
         })
     }
 
@@ -197,7 +121,19 @@ impl StoredNode {
     pub(crate) fn document(&self) -> Option<Key>
         ensures { result ≡ self.now.node.document }
     {
-        self.document
+        if self.own.has_document() {
+            Some(self.document)
+        } else {
+            None
+        }
+    }
+
+    /// Whether it may have what these are signs of.
+    #[inline(always)]
+    pub(crate) fn may_have(&self, signs: Signs) -> bool
+        ensures { result ≡ false → MustHave self.now.node.element self.now.node.attributes signs.bits → ⊥ }
+    {
+        self.signs.have(signs)
     }
 
     /// The value of its attribute of this name, if there is one.
@@ -239,7 +175,8 @@ impl StoredNode {
     pub(crate) fn set_document(&mut self, document: Option<Key>)
         ensures { self.new ≡ stored_from self.old.name (record self.old.node { document = document }) }
     {
-        self.document = document;
+        self.own.set_has_document(document.is_some());
+        self.document = document.unwrap_or_default();
     }
 
     /// Gives it other data.
@@ -281,19 +218,11 @@ impl StoredNode {
             (record self.old.node { attributes = attributes_with name.now value.items self.old.node.attributes })) }
         ensures err { OnErr result (self.new ≡ self.old) }
     {
-        match &mut self.own {
-            Own::Attributed { attributes, .. } => attributes.set(alloc, names, name, value),
-            Own::Bare { kind, number } => {
-                let (kind, number) = (*kind, *number);
-                let attributes = Box::new(alloc, AttributeList::one(names, name, value)?)?;
-                self.own = Own::Attributed {
-                    kind,
-                    number,
-                    attributes,
-                };
-                Ok(())
-            }
-        }
+        let mut signs = self.signs;
+        signs.add(name, value.as_slice());
+        self.own.set_attribute(alloc, names, name, value)?;
+        self.signs = signs;
+        Ok(())
     }
 
     /// Takes an attribute away, and gives its value, if there is one of this name.
@@ -302,10 +231,7 @@ impl StoredNode {
         ensures without { self.new ≡ stored_from self.old.name
             (record self.old.node { attributes = attributes_without name.now self.old.node.attributes }) }
     {
-        match &mut self.own {
-            Own::Attributed { attributes, .. } => attributes.remove(name),
-            Own::Bare { .. } => None,
-        }
+        self.own.remove_attribute(name)
     }
 }
 

@@ -1,14 +1,16 @@
 //! A node of a forest, where it lies in memory.
-ghost use Rattle.std.specs.Prelude.{◌≡◌, true};
+ghost use Rattle.std.specs.Prelude.{◌≡◌, true, false};
 ghost use Rattle.std.specs.Option.{option_map, ForSome};
 ghost use Rattle.dom_model.specs.Names.{first_of, items_after, name_eq};
-ghost use Rattle.dom_model.specs.Tree.{attribute_value, inclusive_descendants, is_inclusive_ancestor, kind_of, node_in};
+ghost use Rattle.dom_model.specs.Tree.{attribute_value, inclusive_descendants, is_inclusive_ancestor, kind_of, node_in, parent_of};
 ghost use Rattle.node_arena.specs.Spots.{key_in};
+ghost use Rattle.dom_attributes.specs.Signs.{MustHave};
 ghost use Rattle.dom_tree.specs.Forest.{IsNode, name_of};
 ghost use Rattle.dom_tree.specs.Spots.{name_here};
 
 use crate::Forest;
 use crate::stored::StoredNode;
+use dom_attributes::Signs;
 use dom_base::Kind;
 use node_arena::{Key, Walk};
 use std::marker::Model;
@@ -79,6 +81,30 @@ impl<'a> NodeAt<'a> {
         ensures { result.now ≡ (node_in self.now.whole.trees (name_here self.now)).element }
     {
         self.walk.payload().element()
+    }
+
+    /// Whether it may have the local name, the attributes, the classes and the ID that these are signs of (own rule). It takes no look at
+    /// what the node holds.
+    #[inline(always)]
+    pub fn may_have(&self, signs: Signs) -> bool
+        ensures { result ≡ false → MustHave (node_in self.now.whole.trees (name_here self.now)).element
+            (node_in self.now.whole.trees (name_here self.now)).attributes signs.bits → ⊥ }
+    {
+        self.walk.payload().may_have(signs)
+    }
+
+    /// Its parent, which a root has not (DOM Standard, concept: parent).
+    #[inline(always)]
+    pub fn parent(&self) -> Option<NodeAt<'a>>
+        ensures value { option_map (name_of self.now.whole) (key_in result) ≡ parent_of self.now.whole.trees (name_here self.now) }
+        ensures same { ForSome result (λ n. n.whole ≡ self.now.whole) }
+        ensures node { ForSome (key_in result) (IsNode self.now.whole) }
+    {
+        let forest = self.forest;
+        match self.walk.parent() {
+            Some(walk) => Some(NodeAt { forest, walk }),
+            None => None,
+        }
     }
 
     /// The value of its attribute of this name in code units, if there is one (DOM Standard, concept: get an attribute by name).

@@ -11,6 +11,13 @@ use Rattle.dom_tree.proofs.ChildLists.{children_added}
 use Rattle.dom_tree.proofs.Holds.{holds_new, held_beside}
 use Rattle.dom_tree.proofs.forest.Forest.add.Goals as goal
 
+pub invariant_of-self-in_err-make_room : goal.invariant_of-self-in_err-make_room
+invariant_of-self-in_err-make_room c = record {
+  kept = IsKept-keys c.self.inside.arena.payloads c.self.inside.arena.children (keys_of c.self.inside.keys) (keys_of c.reserve.new.self)
+      c.self.invariant.kept c.reserve.ensures.keys;
+  ids = noted-same c.self.invariant.ids c.make_room.ensures.same;
+}
+
 pub invariant_of-self-in_err-key : goal.invariant_of-self-in_err-key
 invariant_of-self-in_err-key c = record {
   kept = IsKept-keys c.add.new.self.payloads c.add.new.self.children (keys_of c.self.inside.keys) (keys_of c.reserve.new.self)

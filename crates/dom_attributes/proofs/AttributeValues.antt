@@ -10,7 +10,7 @@ use Rattle.dom_attributes.proofs.Attributes.{text_test}
 pub text_same : (a b : Word) → text_eq a b ≡ true → a ≡ b
 text_same a b e = (bytes_eq-Decides a b).0 (text_test a b ∙ e)
 
-text_eq-same : (a : Word) → text_eq a a ≡ true
+pub text_eq-same : (a : Word) → text_eq a a ≡ true
 text_eq-same a = sym (text_test a a) ∙ (bytes_eq-Decides a a).1 refl
 
 text_eq-other : (a b : Word) → a ≢ b → text_eq a b ≡ false
@@ -20,10 +20,10 @@ pub other_name : (a b : Word) → text_eq a b ≡ false → b ≢ a
 other_name a b e is = absurd (true≢false (sym (text_eq-same a) ∙ (ap (text_eq a) (sym is) ∙ e)))
 
 -- the first attribute has the name, or another one
-value-here : (b : Word) (c : Attribute) (bs : List Attribute) → text_eq b c.name ≡ true → value_among b (c ∷ bs) ≡ Some c.value
+pub value-here : (b : Word) (c : Attribute) (bs : List Attribute) → text_eq b c.name ≡ true → value_among b (c ∷ bs) ≡ Some c.value
 value-here b c bs e = ap (λ t. option_map (λ (d : Attribute). d.value) (cond t (Some c) (find (λ d. text_eq b d.name) bs))) e
 
-value-behind : (b : Word) (c : Attribute) (bs : List Attribute) → text_eq b c.name ≡ false → value_among b (c ∷ bs) ≡ value_among b bs
+pub value-behind : (b : Word) (c : Attribute) (bs : List Attribute) → text_eq b c.name ≡ false → value_among b (c ∷ bs) ≡ value_among b bs
 value-behind b c bs e = ap (λ t. option_map (λ (d : Attribute). d.value) (cond t (Some c) (find (λ d. text_eq b d.name) bs))) e
 
 -- the attribute that is set
