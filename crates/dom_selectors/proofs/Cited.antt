@@ -18,7 +18,7 @@ pub use Rattle.dom_model.proofs.Model.{read_combinator, read_complex, read_compo
 pub use Rattle.dom_model.proofs.Model.{read_next, read_not, read_one_of, read_part, read_quoted, read_simple, read_test, read_test_of, read_type}
 pub use Rattle.dom_model.proofs.Model.{read_type_name, read_value, Reader, selector_matches, siblings, signs, Simple, simple, skip_space, text_eq, Trees}
 pub use Rattle.dom_model.proofs.Model.{with_value, Word, words_from}
-pub use Rattle.dom_laws.proofs.Laws.{above-itself, above-proper, above-root, above-split, after-split, all_single, before-split, below, child-of_parent}
+pub use Rattle.dom_laws.proofs.Laws.{above-absent, above-itself, above-proper, above-split, after-split, all_single, before-split, below, child-of_parent}
 pub use Rattle.dom_laws.proofs.Laws.{children-single, filter-no, filter-none, filter-yes, first-hit, first_split, Has, Has-above, Has-names, has_or_not, here}
 pub use Rattle.dom_laws.proofs.Laws.{In, In-from, In-left, In-names, In-parts, In-right, is_in-from, is_in-not, IsWithin, last-hit, last-miss, last_split}
 pub use Rattle.dom_laws.proofs.Laws.{no_first, no_last, Once, ordered, parent-of_child, proper-parent, Single, Single-apart}

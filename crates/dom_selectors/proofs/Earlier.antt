@@ -109,8 +109,8 @@ module _ (ts : Trees) (s x : NodeName) (once : Once ts) (h : Has ts x) where
       record {
         before = ap (filter p) its.before ∙ w.kept;
         parent = its.parent;
-        above = above-parent ts s once its.stands (parent_of ts s) refl ∙ (ap (from_above ts) its.parent ∙ sym
-            (above-parent ts x once h (parent_of ts x) refl));
+        above = above-parent ts s once (parent_of ts s) refl ∙ (ap (from_above ts) its.parent ∙ sym
+            (above-parent ts x once (parent_of ts x) refl));
         stands = its.stands;
       }
 
@@ -146,7 +146,7 @@ pub ancestor-in : (ts : Trees) (a x : NodeName) → Once ts → Has ts x → In 
 ancestor-in ts a x once h i = by (parent_of ts x) refl
   where
     by : (o : Option NodeName) → parent_of ts x ≡ o → IsAncestor ts a x
-    by None e = absurd (subst (In a) (above-parent ts x once h None e) i)
+    by None e = absurd (subst (In a) (above-parent ts x once None e) i)
     by (Some p) e =
         let up = proper-parent ts x p once h e in
         let path : ancestors ts x ≡ inclusive_ancestors ts p = up.0 ∙ sym (above-proper ts p up.1) in

@@ -1,6 +1,6 @@
 -- Queries that one node alone may answer.
-use Rattle.dom_selectors.proofs.Cited.{◌≡◌, inl, inr, ℕ, zero, suc, ◌<◌, Bool, true, false, ◌&&◌, ◌||◌, true≢false, List, [], ◌∷◌, length, Option}
-use Rattle.dom_selectors.proofs.Cited.{Some, None, refl, sym, ap, subst, ◌∙◌, drop, map, filter, list_all, get_or, option_map_or, codes, arith, cases_Bool}
+use Rattle.dom_selectors.proofs.Cited.{◌≡◌, inl, inr, ℕ, ◌<◌, Bool, true, false, ◌&&◌, ◌||◌, true≢false, List, [], ◌∷◌, length, Option}
+use Rattle.dom_selectors.proofs.Cited.{Some, None, refl, sym, ap, subst, ◌∙◌, drop, filter, get_or, option_map_or, codes, cases_Bool}
 use Rattle.dom_selectors.proofs.Cited.{and_parts, false_from_ne_true, Trees, NodeName, name_eq, is_in, inclusive_descendants, descendants, name_eq-other}
 use Rattle.dom_selectors.proofs.Cited.{compound_matches, selector_matches, DomString, kind_of, is_element, node_in, attribute_value}
 use Rattle.dom_selectors.proofs.Cited.{value_passes, simple_matches, Owner, has_node, names_of, nodes, NamedTrees, name_at, AreOwned, HasId, NearLaw, StandOnce}
@@ -10,6 +10,7 @@ use Rattle.dom_model.specs.Selectors.{Complex, of_id, equals, part_matches}
 use Rattle.dom_selectors.specs.declared.selector.CompoundPart.{CompoundPart}
 use Rattle.dom_selectors.specs.Views.{part_view, compound_view}
 use Rattle.dom_selectors.specs.Search.{last_compound}
+use Rattle.dom_selectors.proofs.Anywhere.{one_seen}
 use Rattle.dom_selectors.proofs.Chains.{not_last}
 
 -- where all that pass are one, it is taken alone
@@ -75,15 +76,9 @@ id_asked ts x v e = by (attribute_value (node_in ts x) (codes "id")) e
 
 -- who matches a compound matches each of its parts
 module _ (ts : Trees) (x : NodeName) where
-  among : (ps : List CompoundPart) (i : ℕ) (d : CompoundPart) → list_all (part_matches ts x) (map part_view ps) ≡ true → i < length ps →
-      part_matches ts x (part_view (get_or ps i d)) ≡ true
-  among [] i d all l = absurd (omega (arith, l))
-  among (p ∷ ps) zero d all l = (and_parts (part_matches ts x (part_view p)) _ all).0
-  among (p ∷ ps) (suc i) d all l = among ps i d ((and_parts (part_matches ts x (part_view p)) _ all).1) (omega (arith, l))
-
   pub part_asked : (ps : List CompoundPart) (i : ℕ) (d : CompoundPart) → compound_matches ts (compound_view ps) x ≡ true → i < length ps →
       part_matches ts x (part_view (get_or ps i d)) ≡ true
-  part_asked ps i d e l = among ps i d ((and_parts (is_element (kind_of ts x)) _ e).1) l
+  part_asked ps i d e l = one_seen (part_matches ts x) part_view ps i d ((and_parts (is_element (kind_of ts x)) _ e).1) l
 
 -- nobody passes
 pub nobody_found : (p : NodeName → Bool) (xs : List NodeName) → ((y : NodeName) → is_in name_eq y xs ≡ true → p y ≡ true → ⊥) → [] ≡ filter p xs

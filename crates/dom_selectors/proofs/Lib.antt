@@ -12,7 +12,9 @@ mod JoinedLaws
 mod Earlier
 mod Chains
 mod Searches
+mod Remembered
 mod QueryLaws
+mod SignLaws
 mod IdQueries
 mod Sound
 mod SoundLists

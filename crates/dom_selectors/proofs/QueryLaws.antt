@@ -5,14 +5,15 @@ use Rattle.dom_selectors.proofs.Cited.{top_places, has_asked, inl, inr, true≢f
 use Rattle.dom_selectors.proofs.Cited.{last_compound, complex_view}
 use Rattle.dom_selectors.proofs.Chains.{not_last}
 use Rattle.dom_selectors.specs.Known.{CompoundAsks, IsFirstLeft, IsFirstUnasked, SelectorAsks}
+use Rattle.dom_selectors.specs.declared.above.Known.{Known}
 use Rattle.dom_selectors.specs.declared.asking.Asked.{Asked}
 use Rattle.dom_selectors.specs.declared.selector.Complex.{Complex}
 use Rattle.dom_selectors.specs.declared.selector.CompoundPart.{CompoundPart}
 
 -- at first nothing is remembered
-pub nothing_known : (f : NamedTrees) (cs : List Complex) → IsKnownOfFirst f cs None
-nothing_known f [] = tt
-nothing_known f (c ∷ cs) = λ a e. absurd (none-some a e)
+pub nothing_known : (f : NamedTrees) (cs : List Complex) (known : Known) → known.parent ≡ None → known.grandparent ≡ None → IsKnownOfFirst f cs known
+nothing_known f [] known e g = tt
+nothing_known f (c ∷ cs) known e g = (λ a h. absurd (none-some a (sym e ∙ h)), λ a h. absurd (none-some a (sym g ∙ h)))
 
 module _ (asked : Asked) where
   -- what is left of a compound where a node has what is asked for

@@ -1,10 +1,10 @@
 -- What a query remembers of one node for the next.
-use Rattle.std.specs.Prelude.{◌≡◌, ℕ, Bool, true, List, [], ◌∷◌, Option, is_some}
+use Rattle.std.specs.Prelude.{◌≡◌, ℕ, Bool, true, List, [], ◌∷◌, Option}
 use Rattle.std.specs.List.{list_any}
 use Rattle.std.specs.Option.{option_map, ForSome}
 use Rattle.dom_base.specs.declared.NodeName.{NodeName}
 use Rattle.dom_model.specs.Names.{text_eq}
-use Rattle.dom_model.specs.Tree.{Trees, ancestors, attribute_value, node_in}
+use Rattle.dom_model.specs.Tree.{Trees, ancestors, node_in}
 use Rattle.dom_model.specs.Selectors as model
 use Rattle.dom_laws.specs.Within.{behind, from_node}
 use Rattle.node_arena.specs.Spots.{Spot, key_in}
@@ -12,8 +12,9 @@ use Rattle.dom_tree.specs.Forest.{NamedTrees, name_of}
 use Rattle.dom_selectors.specs.Search.{last_compound}
 use Rattle.dom_selectors.specs.Views.{compound_view, complex_view}
 use Rattle.dom_selectors.specs.declared.above.Above.{Above}
+use Rattle.dom_selectors.specs.declared.above.Known.{Known}
 use Rattle.dom_selectors.specs.declared.asking.Asked.{Asked}
-use Rattle.dom_selectors.specs.declared.asking.Asked.TheVariants.{Nothing, Name, Attribute, Class}
+use Rattle.dom_selectors.specs.declared.asking.Asked.TheVariants.{Nothing, Name}
 use Rattle.dom_selectors.specs.declared.selector.CompoundPart.{CompoundPart}
 use Rattle.dom_selectors.specs.declared.selector.Complex.{Complex}
 
@@ -26,17 +27,19 @@ left_part (model.joined left how c) = left
 abbrev pub IsKnown : NamedTrees → model.Complex → Option Above → Type 0
 IsKnown f c known = ForSome known (λ a. a.matches ≡ list_any (model.complex_matches f.trees c) (name_of f a.parent ∷ ancestors f.trees (name_of f a.parent)))
 
+-- so of two nodes (own rule)
+abbrev pub AreKnown : NamedTrees → model.Complex → Known → Type 0
+AreKnown f c known = IsKnown f c known.parent × IsKnown f c known.grandparent
+
 -- it is said of what is left of the last combinator of the first of these complex selectors (own rule)
-abbrev pub IsKnownOfFirst : NamedTrees → List Complex → Option Above → Type 0
+abbrev pub IsKnownOfFirst : NamedTrees → List Complex → Known → Type 0
 IsKnownOfFirst f [] known = Unit {0}
-IsKnownOfFirst f (c ∷ cs) known = IsKnown f (left_part (complex_view c)) known
+IsKnownOfFirst f (c ∷ cs) known = AreKnown f (left_part (complex_view c)) known
 
 -- a node has what is asked for (own rule)
 abbrev pub has_asked : Trees → NodeName → Asked → Bool
 has_asked ts x Nothing = true
 has_asked ts x (Name name) = text_eq (node_in ts x).element name.now
-has_asked ts x (Attribute name) = is_some (attribute_value (node_in ts x) name.now)
-has_asked ts x (Class class) = model.simple_matches ts x (model.of_class class.now)
 
 -- each node that matches a compound has it (own rule)
 abbrev pub CompoundAsks : List model.CompoundPart → Asked → Type 0

@@ -9,3 +9,4 @@ pub mod Laws
 pub mod Siblings
 pub mod Known
 pub mod Definitions
+pub mod Signs

@@ -34,10 +34,14 @@ simple_view (WithValue name test value) = model.with_value (string_bytes name) (
 simple_view FirstChild = model.first_child
 simple_view LastChild = model.last_child
 
+-- simple selectors
+abbrev pub simples_view : List Simple → List model.Simple
+simples_view ss = map simple_view ss
+
 -- a part of a compound
 abbrev pub part_view : CompoundPart → model.CompoundPart
 part_view (Is s) = model.simple (simple_view s)
-part_view (IsNot ss) = model.is_not (map simple_view ss.items)
+part_view (IsNot ss) = model.is_not ss
 
 -- a compound (CSS Selectors Level 4, compound selector)
 abbrev pub compound_view : List CompoundPart → List model.CompoundPart
@@ -52,15 +56,15 @@ combinator_view Later = model.later
 
 -- a combinator with the compound behind it
 abbrev pub link_view : Link → model.Combinator × List model.CompoundPart
-link_view l = (combinator_view l.combinator, compound_view l.compound.items)
+link_view l = (combinator_view l.combinator, l.compound)
 
 -- a complex selector: a compound with what is joined to it on the right (CSS Selectors Level 4, complex selector)
-abbrev pub complex_from : List CompoundPart → List Link → model.Complex
-complex_from first links = fold link (model.alone (compound_view first)) (map link_view links)
+abbrev pub complex_from : List model.CompoundPart → List Link → model.Complex
+complex_from first links = fold link (model.alone first) (map link_view links)
 
 -- a complex selector
 abbrev pub complex_view : Complex → model.Complex
-complex_view c = complex_from c.first.items c.links.items
+complex_view c = complex_from c.first c.links.items
 
 -- a list of complex selectors (CSS Selectors Level 4, selector list)
 abbrev pub selector_view : Selector → List model.Complex

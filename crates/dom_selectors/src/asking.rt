@@ -8,23 +8,22 @@ ghost use Rattle.node_arena.specs.Spots.{key_in};
 ghost use Rattle.dom_tree.specs.Forest.{IsNode, name_of};
 ghost use Rattle.dom_tree.specs.Spots.{name_here};
 ghost use Rattle.dom_tree.specs.Within.{StandsIn};
+ghost use Rattle.dom_attributes.specs.Signs.{HasBits};
+ghost use Rattle.dom_selectors.specs.Signs.{SelectorShows, Shows};
 ghost use Rattle.dom_selectors.specs.Known.{has_asked as spec_has_asked, nodes_behind, nodes_from, AreUnasked, CompoundAsks, IsFirstUnasked, SelectorAsks};
 ghost use Rattle.dom_selectors.specs.Views.{complex_view, compound_view, part_view, selector_view, simple_view};
 
 use crate::joined::last_of_complex;
-use crate::matching::has_class;
 use crate::selector::{Complex, CompoundPart, Selector, Simple};
-use dom_attributes::{is_same_string, is_same_text};
+use dom_attributes::{Signs, is_same_text};
 use dom_tree::{Forest, NodeAt};
 use node_arena::Key;
 
-/// What is asked of an element: a local name, an attribute, a class, or nothing.
+/// What is asked of an element beside its signs: a local name, or nothing.
 #[derive(Clone, Copy)]
 pub(crate) enum Asked<'a> {
     Nothing,
     Name(&'a str),
-    Attribute(&'a str),
-    Class(&'a [u16]),
 }
 
 /// Whether a node has what is asked for.
@@ -35,42 +34,16 @@ fn has_asked(node: &NodeAt, asked: Asked) -> bool
     match asked {
         Asked::Nothing => true,
         Asked::Name(name) => is_same_text(node.element(), name),
-        Asked::Attribute(name) => node.attr(name).is_some(),
-        Asked::Class(class) => has_class(node, class),
     }
 }
 
-/// The first node that has what is asked for behind one in the tree of a node `top`.
+/// The first node that may have what these are signs of, and has what is asked for, behind one in the tree of a node `top`.
 #[inline(always)]
-fn next_with<'a>(forest: &Forest, top: Key, from: NodeAt<'a>, asked: Asked) -> Option<NodeAt<'a>>
-    requires top { IsNode forest.now top }
-    requires same { from.whole ≡ forest.now }
-    requires stands { StandsIn forest.now top from.key }
-    ensures same { ForSome result (λ n. n.whole ≡ forest.now) }
-    ensures stands { ForSome (key_in result) (StandsIn forest.now top) }
-    ensures has { ForSome (key_in result) (λ k. spec_has_asked forest.now.trees (name_of forest.now k) asked.entry ≡ true) }
-    ensures passed { (test : NodeName → Bool) → ((x : NodeName) → test x ≡ true → spec_has_asked forest.now.trees x asked.entry ≡ true) →
-        filter test (nodes_from forest.now top result) ≡ filter test (nodes_behind forest.now top from.entry.key) }
-    ensures shorter { length (nodes_from forest.now top result) ≤ length (nodes_behind forest.now top from.entry.key) }
-{
-    forest.law_nodes_stand_once();
-    let mut at = from.following(top);
-    while let Some(node) = at {
-        if has_asked(&node, asked) {
-            return Some(node);
-        }
-        at = node.following(top);
-    }
-    None
-}
-
-/// The first node that has what is asked for behind one in the tree of a node `top`. What kind of thing is asked for is told once for
-/// all nodes that have it not.
-#[inline(always)]
-pub(crate) fn next_asked<'a>(
+fn next_with<'a>(
     forest: &Forest,
     top: Key,
     from: NodeAt<'a>,
+    signs: Signs,
     asked: Asked,
 ) -> Option<NodeAt<'a>>
     requires top { IsNode forest.now top }
@@ -79,25 +52,55 @@ pub(crate) fn next_asked<'a>(
     ensures same { ForSome result (λ n. n.whole ≡ forest.now) }
     ensures stands { ForSome (key_in result) (StandsIn forest.now top) }
     ensures has { ForSome (key_in result) (λ k. spec_has_asked forest.now.trees (name_of forest.now k) asked.entry ≡ true) }
-    ensures passed { (test : NodeName → Bool) → ((x : NodeName) → test x ≡ true → spec_has_asked forest.now.trees x asked.entry ≡ true) →
+    ensures passed { (test : NodeName → Bool) → ((x : NodeName) → test x ≡ true → Shows forest.now.trees x signs.bits) →
+        ((x : NodeName) → test x ≡ true → spec_has_asked forest.now.trees x asked.entry ≡ true) →
+        filter test (nodes_from forest.now top result) ≡ filter test (nodes_behind forest.now top from.entry.key) }
+    ensures shorter { length (nodes_from forest.now top result) ≤ length (nodes_behind forest.now top from.entry.key) }
+{
+    forest.law_nodes_stand_once();
+    let mut at = from.following(top);
+    while let Some(node) = at {
+        if node.may_have(signs) && has_asked(&node, asked) {
+            return Some(node);
+        }
+        at = node.following(top);
+    }
+    None
+}
+
+/// The first node that may have what these are signs of, and has what is asked for, behind one in the tree of a node `top`. What kind of
+/// thing is asked for is told once for all nodes that have it not.
+#[inline(always)]
+pub(crate) fn next_asked<'a>(
+    forest: &Forest,
+    top: Key,
+    from: NodeAt<'a>,
+    signs: Signs,
+    asked: Asked,
+) -> Option<NodeAt<'a>>
+    requires top { IsNode forest.now top }
+    requires same { from.whole ≡ forest.now }
+    requires stands { StandsIn forest.now top from.key }
+    ensures same { ForSome result (λ n. n.whole ≡ forest.now) }
+    ensures stands { ForSome (key_in result) (StandsIn forest.now top) }
+    ensures has { ForSome (key_in result) (λ k. spec_has_asked forest.now.trees (name_of forest.now k) asked.entry ≡ true) }
+    ensures passed { (test : NodeName → Bool) → ((x : NodeName) → test x ≡ true → Shows forest.now.trees x signs.bits) →
+        ((x : NodeName) → test x ≡ true → spec_has_asked forest.now.trees x asked.entry ≡ true) →
         filter test (nodes_from forest.now top result) ≡ filter test (nodes_behind forest.now top from.entry.key) }
     ensures shorter { length (nodes_from forest.now top result) ≤ length (nodes_behind forest.now top from.entry.key) }
 {
     match asked {
-        Asked::Nothing => next_with(forest, top, from, Asked::Nothing),
-        Asked::Name(name) => next_with(forest, top, from, Asked::Name(name)),
-        Asked::Attribute(name) => next_with(forest, top, from, Asked::Attribute(name)),
-        Asked::Class(class) => next_with(forest, top, from, Asked::Class(class)),
+        Asked::Nothing => next_with(forest, top, from, signs, Asked::Nothing),
+        Asked::Name(name) => next_with(forest, top, from, signs, Asked::Name(name)),
     }
 }
 
-/// Whether the same local name or attribute is asked for.
+/// Whether the same local name is asked for.
 fn is_same(asked: Asked, other: Asked) -> bool
     ensures { result ≡ true → (ts : Trees) (x : NodeName) → spec_has_asked ts x other.entry ≡ spec_has_asked ts x asked.entry }
 {
     match (asked, other) {
         (Asked::Name(name), Asked::Name(named)) => is_same_text(name, named),
-        (Asked::Attribute(name), Asked::Attribute(named)) => is_same_text(name, named),
         _ => false,
     }
 }
@@ -108,11 +111,6 @@ fn asked_by(simple: &Simple) -> Asked<'_>
 {
     match simple {
         Simple::OfType(name) => Asked::Name(name.as_str()),
-        Simple::OfId(_) => Asked::Attribute("id"),
-        Simple::OfClass(class) => Asked::Class(class.as_slice()),
-        Simple::WithAttribute(name) | Simple::WithValue(name, _, _) => {
-            Asked::Attribute(name.as_str())
-        }
         _ => Asked::Nothing,
     }
 }
@@ -134,10 +132,6 @@ fn is_asked(simple: &Simple, asked: Asked) -> bool
 {
     match (simple, asked) {
         (Simple::OfType(name), Asked::Name(named)) => is_same_text(name.as_str(), named),
-        (Simple::WithAttribute(name), Asked::Attribute(named)) => {
-            is_same_text(name.as_str(), named)
-        }
-        (Simple::OfClass(class), Asked::Class(named)) => is_same_string(class, named),
         _ => false,
     }
 }
@@ -168,7 +162,7 @@ pub(crate) fn first_unasked<'a>(complexes: &'a [Complex], asked: Asked) -> &'a [
     ensures { IsFirstUnasked complexes.entry.now result.now asked.entry }
 {
     match complexes {
-        [first, ..] => unasked(last_of_complex(first), asked),
+        [first, ..] => unasked(last_of_complex(first).parts.as_slice(), asked),
         [] => &[],
     }
 }
@@ -187,7 +181,7 @@ fn all_ask(complexes: &[Complex], asked: Asked) -> bool
 {
     let mut rest = complexes;
     while let [complex, others @ ..] = rest {
-        if !asks_first(last_of_complex(complex), asked) {
+        if !asks_first(last_of_complex(complex).parts.as_slice(), asked) {
             return false;
         }
         rest = others;
@@ -196,14 +190,14 @@ fn all_ask(complexes: &[Complex], asked: Asked) -> bool
 }
 
 impl Selector {
-    /// What the compounds on the right ask for first, if each asks for the same. A class is asked for by one alone.
+    /// What the compounds on the right ask for first, if each asks for the same.
     #[tactic(auto, using(crate::proofs::QueryLaws::one_more))]
     pub(crate) fn asked(&self) -> Asked<'_>
         ensures { SelectorAsks (selector_view self.now) result }
     {
         match self.complexes.as_slice() {
             [first, others @ ..] => {
-                let asked = first_asked(last_of_complex(first));
+                let asked = first_asked(last_of_complex(first).parts.as_slice());
                 if all_ask(others, asked) {
                     asked
                 } else {
@@ -211,6 +205,32 @@ impl Selector {
                 }
             }
             [] => Asked::Nothing,
+        }
+    }
+}
+
+/// Those of some signs that each node has which matches some of these complex selectors.
+fn common_signs(signs: Signs, complexes: &[Complex]) -> Signs
+    ensures some { SelectorShows (map complex_view complexes.now) result.bits }
+    ensures given { HasBits signs.bits result.bits }
+{
+    let mut rest = complexes;
+    let mut signs = signs;
+    while let [complex, others @ ..] = rest {
+        signs = signs.common(last_of_complex(complex).signs());
+        rest = others;
+    }
+    signs
+}
+
+impl Selector {
+    /// Signs that each node has which matches some of the complex selectors.
+    pub(crate) fn signs(&self) -> Signs
+        ensures { SelectorShows (selector_view self.now) result.bits }
+    {
+        match self.complexes.as_slice() {
+            [first, others @ ..] => common_signs(last_of_complex(first).signs(), others),
+            [] => Signs::none(),
         }
     }
 }

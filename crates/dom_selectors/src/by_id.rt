@@ -55,7 +55,7 @@ impl Selector {
         ensures { IfSome result (λ id. (ts : TreesOf) (x : Name) → selector_matches ts (selector_view self.now) x ≡ true → HasId ts x id.now) }
     {
         match self.complexes.as_slice() {
-            [complex] => id_among(last_of_complex(complex)),
+            [complex] => id_among(last_of_complex(complex).parts.as_slice()),
             _ => None,
         }
     }

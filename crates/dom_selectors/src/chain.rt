@@ -5,10 +5,10 @@ ghost use Rattle.std.specs.Option.{option_map, ForSome};
 ghost use Rattle.dom_model.specs.Selectors.{compound_matches as spec_compound_matches, complex_matches as spec_complex_matches, elements_before};
 ghost use Rattle.dom_tree.specs.Forest.{IsNode, name_of};
 ghost use Rattle.dom_selectors.specs.Search.{ChainEnds, ChainIsBefore, IsSearched, last_compound, only_left as spec_only_left};
-ghost use Rattle.dom_selectors.specs.Views.{combinator_view, compound_view, complex_from};
+ghost use Rattle.dom_selectors.specs.Views.{combinator_view, complex_from};
 
 use crate::matching::compound_matches;
-use crate::selector::{Combinator, CompoundPart, Link};
+use crate::selector::{Combinator, Compound, Link};
 use crate::siblings::{Side, element_beside};
 use dom_tree::Forest;
 use node_arena::Key;
@@ -48,23 +48,18 @@ fn only_left(forest: &Forest, combinator: Combinator, key: Key) -> Option<Key>
 
 /// The compound on the right.
 #[inline(always)]
-pub(crate) fn last_of<'a>(first: &'a [CompoundPart], links: &'a [Link]) -> &'a [CompoundPart]
-    ensures { compound_view result.now ≡ last_compound (complex_from first.entry.now links.entry.now) }
+pub(crate) fn last_of<'a>(first: &'a Compound, links: &'a [Link]) -> &'a Compound
+    ensures { result.now ≡ last_compound (complex_from first.entry.now links.entry.now) }
 {
     match links.split_last() {
         None => first,
-        Some((last, _left)) => last.compound.as_slice(),
+        Some((last, _left)) => &last.compound,
     }
 }
 
 /// Whether a node matches the compound on the right.
 #[inline(always)]
-pub(crate) fn last_matches(
-    forest: &Forest,
-    first: &[CompoundPart],
-    links: &[Link],
-    key: Key,
-) -> bool
+pub(crate) fn last_matches(forest: &Forest, first: &Compound, links: &[Link], key: Key) -> bool
     requires { IsNode forest.now key }
     ensures { result ≡ spec_compound_matches forest.now.trees (last_compound (complex_from first.now links.now)) (name_of forest.now key) }
 {
@@ -76,7 +71,7 @@ pub(crate) fn last_matches(
 #[inline(always)]
 pub(crate) fn chain_end<'a>(
     forest: &Forest,
-    first: &[CompoundPart],
+    first: &Compound,
     links: &'a [Link],
     key: Key,
 ) -> Option<Place<'a>>
@@ -116,7 +111,7 @@ pub(crate) fn chain_end<'a>(
 #[tactic(auto, using(crate::proofs::Chains::not_last))]
 fn chain_from<'a>(
     forest: &Forest,
-    first: &[CompoundPart],
+    first: &Compound,
     links: &'a [Link],
     key: Key,
 ) -> Option<Place<'a>>
@@ -137,7 +132,7 @@ fn chain_from<'a>(
 /// Where the chain ends from the nearest element before a node among its siblings at which it holds.
 pub(crate) fn chain_before<'a>(
     forest: &Forest,
-    first: &[CompoundPart],
+    first: &Compound,
     links: &'a [Link],
     key: Key,
 ) -> Option<Place<'a>>

@@ -13,7 +13,9 @@ ghost use Rattle.dom_selectors.specs.Grammar.{IsSelector};
 ghost use Rattle.dom_selectors.specs.Texts.{combinator_signs};
 ghost use Rattle.dom_selectors.specs.Views.{simple_view, part_view, compound_view, combinator_view, link_view, complex_view, selector_view};
 
-use crate::selector::{Combinator, Complex, CompoundPart, Link, Selector, Simple};
+use crate::selector::{
+    Combinator, Complex, Compound, CompoundPart, Link, Selector, Simple, Simples,
+};
 use crate::simples::{read_simple, read_type_name};
 use crate::tokens::{expect, skip_space};
 use dom_base::{Fault, Refusal};
@@ -77,7 +79,7 @@ fn read_not(alloc: Global, units: &[u16]) -> Result<Option<(CompoundPart, &[u16]
     let Some(rest) = expect(b")", skip_space(rest)) else {
         return Ok(None);
     };
-    Ok(Some((CompoundPart::IsNot(simples), rest)))
+    Ok(Some((CompoundPart::IsNot(Simples::of(simples)), rest)))
 }
 
 /// A part of a compound.
@@ -121,18 +123,15 @@ fn read_type_part(alloc: Global, units: &[u16]) -> Result<(Vec<CompoundPart>, &[
 }
 
 /// A compound.
-fn read_compound(
-    alloc: Global,
-    units: &[u16],
-) -> Result<Option<(Vec<CompoundPart>, &[u16])>, AllocError>
-    ensures { Reads (λ x. (compound_view x.0.items, x.1.now)) result (spec_read_compound units.now) }
+fn read_compound(alloc: Global, units: &[u16]) -> Result<Option<(Compound, &[u16])>, AllocError>
+    ensures { Reads (λ x. (x.0, x.1.now)) result (spec_read_compound units.now) }
 {
     let (typed, rest) = read_type_part(alloc, units)?;
     let (parts, rest) = read_parts(alloc, typed, rest)?;
     if parts.is_empty() {
         return Ok(None);
     }
-    Ok(Some((parts, rest)))
+    Ok(Some((Compound::of(parts), rest)))
 }
 
 /// `>`, `+` or `~`.

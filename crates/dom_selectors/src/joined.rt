@@ -8,11 +8,11 @@ ghost use Rattle.dom_model.specs.Selectors.{compound_matches as spec_compound_ma
 ghost use Rattle.dom_tree.specs.Forest.{IsNode, name_of};
 ghost use Rattle.dom_tree.specs.Spots.{name_here};
 ghost use Rattle.dom_selectors.specs.Search.{SegmentEnds, SegmentIsAbove, StopsAt, IsDescendant, last_compound};
-ghost use Rattle.dom_selectors.specs.Views.{compound_view, complex_from, complex_view};
+ghost use Rattle.dom_selectors.specs.Views.{complex_from, complex_view};
 
 use crate::chain::{Place, chain_before, chain_end, last_matches, last_of};
 use crate::matching::compound_matches;
-use crate::selector::{Combinator, Complex, CompoundPart, Link};
+use crate::selector::{Combinator, Complex, Compound, Link};
 use dom_tree::{Forest, NodeAt};
 use node_arena::Key;
 
@@ -20,7 +20,7 @@ use node_arena::Key;
 /// first compound; none where some chain holds at no element before.
 fn segment_end<'a>(
     forest: &Forest,
-    first: &[CompoundPart],
+    first: &Compound,
     links: &'a [Link],
     key: Key,
 ) -> Option<Place<'a>>
@@ -53,7 +53,7 @@ fn segment_end<'a>(
 #[tactic(auto, using(crate::proofs::Chains::not_last))]
 fn segment_from<'a>(
     forest: &Forest,
-    first: &[CompoundPart],
+    first: &Compound,
     links: &'a [Link],
     key: Key,
 ) -> Option<Place<'a>>
@@ -74,7 +74,7 @@ fn segment_from<'a>(
 /// Where the segment ends from the nearest ancestor of a node at which it holds.
 fn segment_above<'a>(
     forest: &Forest,
-    first: &[CompoundPart],
+    first: &Compound,
     links: &'a [Link],
     key: Key,
 ) -> Option<Place<'a>>
@@ -99,7 +99,7 @@ fn segment_above<'a>(
 
 /// Whether a node where a segment ends matches these links behind the first compound: whether each segment left of it holds at some
 /// node above.
-fn end_matches(forest: &Forest, first: &[CompoundPart], links: &[Link], key: Key) -> bool
+fn end_matches(forest: &Forest, first: &Compound, links: &[Link], key: Key) -> bool
     requires node { IsNode forest.now key }
     requires stops { StopsAt IsDescendant forest.now.trees (complex_from first.now links.now) (name_of forest.now key) }
     ensures { result ≡ spec_complex_matches forest.now.trees (complex_from first.now links.now) (name_of forest.now key) }
@@ -117,12 +117,7 @@ fn end_matches(forest: &Forest, first: &[CompoundPart], links: &[Link], key: Key
 }
 
 /// Whether some ancestor of a node matches these links behind the first compound, by their segments.
-pub(crate) fn ancestors_match(
-    forest: &Forest,
-    first: &[CompoundPart],
-    links: &[Link],
-    key: Key,
-) -> bool
+pub(crate) fn ancestors_match(forest: &Forest, first: &Compound, links: &[Link], key: Key) -> bool
     requires { IsNode forest.now key }
     ensures { result ≡ list_any (spec_complex_matches forest.now.trees (complex_from first.now links.now))
         (ancestors forest.now.trees (name_of forest.now key)) }
@@ -133,34 +128,32 @@ pub(crate) fn ancestors_match(
     }
 }
 
-/// Whether a node that matches the compound on the right matches a complex selector, by its segments.
+/// Whether a node that matches the compound on the right matches these links behind the first compound, by their segments.
 #[inline(never)]
-pub(crate) fn segments_match(forest: &Forest, complex: &Complex, key: Key) -> bool
+pub(crate) fn segments_match(forest: &Forest, first: &Compound, links: &[Link], key: Key) -> bool
     requires node { IsNode forest.now key }
-    requires matches { spec_compound_matches forest.now.trees (last_compound (complex_view complex.now)) (name_of forest.now key) ≡ true }
-    ensures { result ≡ spec_complex_matches forest.now.trees (complex_view complex.now) (name_of forest.now key) }
+    requires matches { spec_compound_matches forest.now.trees (last_compound (complex_from first.now links.now)) (name_of forest.now key) ≡ true }
+    ensures { result ≡ spec_complex_matches forest.now.trees (complex_from first.now links.now) (name_of forest.now key) }
 {
-    let first = complex.first.as_slice();
-    match segment_end(forest, first, complex.links.as_slice(), key) {
+    match segment_end(forest, first, links, key) {
         Some(end) => end_matches(forest, first, end.links, end.key),
         None => false,
     }
 }
 
-/// The compound on the right of a complex selector.
-#[inline(always)]
-pub(crate) fn last_of_complex(complex: &Complex) -> &[CompoundPart]
-    ensures { compound_view result.now ≡ last_compound (complex_view complex.now) }
+/// Whether a node matches these links behind the first compound. The compound on the right is tried first, since most nodes fail there.
+#[inline(never)]
+pub(crate) fn links_match(node: &NodeAt, first: &Compound, links: &[Link]) -> bool
+    ensures { result ≡ spec_complex_matches node.now.whole.trees (complex_from first.now links.now) (name_here node.now) }
 {
-    last_of(complex.first.as_slice(), complex.links.as_slice())
+    compound_matches(node, last_of(first, links))
+        && (links.is_empty() || segments_match(node.forest(), first, links, node.key()))
 }
 
-/// Whether a node matches a complex selector, whose compound on the right is given. That is tried first, since most nodes fail there.
+/// The compound on the right of a complex selector.
 #[inline(always)]
-pub(crate) fn complex_matches(node: &NodeAt, complex: &Complex, last: &[CompoundPart]) -> bool
-    requires { compound_view last.now ≡ last_compound (complex_view complex.now) }
-    ensures { result ≡ spec_complex_matches node.now.whole.trees (complex_view complex.now) (name_here node.now) }
+pub(crate) fn last_of_complex(complex: &Complex) -> &Compound
+    ensures { result.now ≡ last_compound (complex_view complex.now) }
 {
-    compound_matches(node, last)
-        && (complex.links.is_empty() || segments_match(node.forest(), complex, node.key()))
+    last_of(&complex.first, complex.links.as_slice())
 }

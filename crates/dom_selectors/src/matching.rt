@@ -7,7 +7,7 @@ ghost use Rattle.dom_model.specs.Selectors.{part_matches as spec_part_matches, c
 ghost use Rattle.dom_tree.specs.Spots.{name_here};
 ghost use Rattle.dom_selectors.specs.Views.{test_view, simple_view, part_view, compound_view};
 
-use crate::selector::{AttributeTest, CompoundPart, Simple};
+use crate::selector::{AttributeTest, Compound, CompoundPart, Simple, Simples};
 use crate::siblings::{Side, element_beside};
 use crate::values::{is_among_words, value_passes};
 use dom_attributes::{is_same_string, is_same_text};
@@ -46,7 +46,7 @@ fn has_id(node: &NodeAt, id: &[u16]) -> bool
 
 /// Whether a node has this class.
 #[inline(always)]
-pub(crate) fn has_class(node: &NodeAt, class: &[u16]) -> bool
+fn has_class(node: &NodeAt, class: &[u16]) -> bool
     ensures { result ≡ spec_simple_matches node.now.whole.trees (name_here node.now) (of_class class.now) }
 {
     match node.attr("class") {
@@ -74,6 +74,14 @@ fn simple_matches(node: &NodeAt, simple: &Simple) -> bool
     }
 }
 
+/// Whether an element matches all of some simple selectors. Most that have not their signs do not.
+#[inline(always)]
+fn simples_match(node: &NodeAt, simples: &Simples) -> bool
+    ensures { result ≡ list_all (spec_simple_matches node.now.whole.trees (name_here node.now)) simples.now }
+{
+    node.may_have(simples.signs) && all_simple_match(node, simples.list.as_slice())
+}
+
 /// Whether an element matches all of some simple selectors.
 #[inline(never)]
 fn all_simple_match(node: &NodeAt, simples: &[Simple]) -> bool
@@ -89,7 +97,7 @@ fn part_matches(node: &NodeAt, part: &CompoundPart) -> bool
 {
     match part {
         CompoundPart::Is(simple) => simple_matches(node, simple),
-        CompoundPart::IsNot(simples) => !all_simple_match(node, simples),
+        CompoundPart::IsNot(simples) => !simples_match(node, simples),
     }
 }
 
@@ -116,10 +124,10 @@ pub(crate) fn element_matches(node: &NodeAt, parts: &[CompoundPart]) -> bool
     is_element(node) && all_parts_match(node, parts)
 }
 
-/// Whether a node is an element that matches a compound. The local name comes first where one is asked for, since most elements fail
-/// there; and what is one simple selector alone is tried without a walk over parts.
+/// Whether a node is an element that matches the parts of a compound. The local name comes first where one is asked for, and what is one
+/// simple selector alone is tried without a walk over parts.
 #[inline(always)]
-pub(crate) fn compound_matches(node: &NodeAt, parts: &[CompoundPart]) -> bool
+fn parts_match(node: &NodeAt, parts: &[CompoundPart]) -> bool
     ensures { result ≡ spec_compound_matches node.now.whole.trees (compound_view parts.now) (name_here node.now) }
 {
     match parts {
@@ -129,4 +137,12 @@ pub(crate) fn compound_matches(node: &NodeAt, parts: &[CompoundPart]) -> bool
         [CompoundPart::Is(simple)] => { simple_matches(node, simple) && is_element(node) }
         _ => element_matches(node, parts),
     }
+}
+
+/// Whether a node is an element that matches a compound. Most that do not are seen by their signs.
+#[inline(always)]
+pub(crate) fn compound_matches(node: &NodeAt, compound: &Compound) -> bool
+    ensures { result ≡ spec_compound_matches node.now.whole.trees compound.now (name_here node.now) }
+{
+    node.may_have(compound.signs) && parts_match(node, compound.parts.as_slice())
 }

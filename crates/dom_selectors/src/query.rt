@@ -1,15 +1,14 @@
 //! Matches and queries.
 ghost use Rattle.std.specs.Prelude.{◌≡◌, map, IfOk, All};
-ghost use Rattle.std.specs.List.{list_any};
-ghost use Rattle.dom_model.specs.Selectors.{complex_matches as spec_complex_matches, selector_matches, query_all as spec_query_all};
+ghost use Rattle.dom_model.specs.Selectors.{selector_matches, query_all as spec_query_all};
 ghost use Rattle.dom_tree.specs.Forest.{IsNode, name_of};
 ghost use Rattle.dom_tree.specs.Spots.{name_here};
 ghost use Rattle.dom_selectors.specs.Known.{IsFirstLeft, IsKnownOfFirst};
 ghost use Rattle.dom_selectors.specs.Views.{complex_view, selector_view};
 
-use crate::above::{Above, matches_knowing};
+use crate::above::{Known, matches_knowing};
 use crate::asking::{first_unasked, next_asked};
-use crate::joined::{complex_matches, last_of_complex};
+use crate::joined::links_match;
 use crate::selector::{Complex, CompoundPart, Selector};
 use dom_tree::{Forest, NodeAt};
 use node_arena::Key;
@@ -22,7 +21,7 @@ fn some_complex_matches(node: &NodeAt, complexes: &[Complex]) -> bool
 {
     let mut rest = complexes;
     while let [complex, others @ ..] = rest {
-        if complex_matches(node, complex, last_of_complex(complex)) {
+        if links_match(node, &complex.first, complex.links.as_slice()) {
             return true;
         }
         rest = others;
@@ -37,7 +36,7 @@ fn some_matches(
     node: &NodeAt,
     complexes: &[Complex],
     unasked: &[CompoundPart],
-    known: &mut Option<Above>,
+    known: &mut Known,
 ) -> bool
     requires unasked { IsFirstLeft node.now.whole.trees (name_here node.now) complexes.now unasked.now }
     requires known { IsKnownOfFirst node.now.whole complexes.now known.old }
@@ -78,16 +77,17 @@ impl Selector {
     {
         forest.law_nodes_stand_once();
         let complexes = self.complexes.as_slice();
+        let signs = self.signs();
         let asked = self.asked();
         let unasked = first_unasked(complexes, asked);
-        let mut known = None;
+        let mut known = Known::nothing();
         let mut found = Vec::new(alloc);
-        let mut at = next_asked(forest, top, forest.at(top), asked);
+        let mut at = next_asked(forest, top, forest.at(top), signs, asked);
         while let Some(node) = at {
             if some_matches(&node, complexes, unasked, &mut known) {
                 found.push(node.key())?;
             }
-            at = next_asked(forest, top, node, asked);
+            at = next_asked(forest, top, node, signs, asked);
         }
         Ok(found)
     }

@@ -8,15 +8,8 @@ ghost use Rattle.dom_model.specs.Selectors.{is_space as spec_is_space};
 ghost use Rattle.dom_model.specs.SelectorText.{skip_space as spec_skip_space, expect as spec_expect, may_stand_quoted as spec_may_stand_quoted};
 ghost use Rattle.dom_model.specs.SelectorText.{read_name as spec_read_name, read_quoted as spec_read_quoted, read_value as spec_read_value};
 
+use dom_attributes::is_space;
 use std::alloc::{AllocError, Global};
-
-/// Whether a unit is white space. Most are greater than all that is.
-#[inline(always)]
-pub(crate) fn is_space(unit: u16) -> bool
-    ensures { result ≡ spec_is_space unit }
-{
-    unit <= 32 && matches!(unit, 9 | 10 | 12 | 13 | 32)
-}
 
 /// Whether a name may begin with the unit: a letter or `_`.
 fn begins_name(unit: u16) -> bool

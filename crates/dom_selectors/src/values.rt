@@ -9,8 +9,7 @@ ghost use Rattle.dom_selectors.specs.Views.{test_view};
 ghost use Rattle.dom_selectors.specs.Words.{begins_with_word as spec_begins_with_word, behind_space as spec_behind_space, is_among as spec_is_among};
 
 use crate::selector::AttributeTest;
-use crate::tokens::is_space;
-use dom_attributes::is_same_string;
+use dom_attributes::{is_same_string, is_space};
 
 /// Whether white space is in a string.
 fn has_space(text: &[u16]) -> bool

@@ -10,7 +10,7 @@ loop-at-init c =
     record {
       node = c.parent-at.ensures.node;
       left = ap (list_any (complex_matches f.trees (complex_from c.args.first.now c.args.links.now)))
-          (sym (above_step f c.law_nodes_stand_once.ensures.once c.law_nodes_stand_once.ensures.only c.args.key c.parent-at.result c.requires
+          (sym (above_step f c.law_nodes_stand_once.ensures.once c.law_nodes_stand_once.ensures.only c.args.key c.parent-at.result
           c.parent-at.ensures.value));
     }
 
@@ -18,14 +18,12 @@ pub loop-at-smaller : goal.loop-at-smaller
 loop-at-smaller c =
     let e = c.law_nodes_stand_once.ensures in
     above_less c.args.forest.now c.in-Some.above c.loop-at.at c.parent-at-in-Some.result c.in-Some.is
-    (above_step c.args.forest.now e.once e.only c.in-Some.above c.parent-at-in-Some.result
-    (c.loop-at.invariant.node c.in-Some.above c.in-Some.is) c.parent-at-in-Some.ensures.value)
+    (above_step c.args.forest.now e.once e.only c.in-Some.above c.parent-at-in-Some.result c.parent-at-in-Some.ensures.value)
 
 pub loop-at-preserved : goal.loop-at-preserved
 loop-at-preserved c =
     let f = c.args.forest.now in
-    let node = c.loop-at.invariant.node c.in-Some.above c.in-Some.is in
-    let step = above_step f c.law_nodes_stand_once.ensures.once c.law_nodes_stand_once.ensures.only c.in-Some.above c.parent-at-in-Some.result node
+    let step = above_step f c.law_nodes_stand_once.ensures.once c.law_nodes_stand_once.ensures.only c.in-Some.above c.parent-at-in-Some.result
     c.parent-at-in-Some.ensures.value in
     record {
       node = c.parent-at-in-Some.ensures.node;

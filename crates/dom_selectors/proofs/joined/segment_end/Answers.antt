@@ -1,6 +1,6 @@
 -- From the end of one chain to that of the next, left of `~`.
 use Rattle.dom_selectors.proofs.Cited.{◌≡◌, refl, ap, sym, subst, ◌∙◌, arith, true≢false, joined, later, name_at, Once-forest, Later}
-use Rattle.dom_selectors.proofs.Cited.{IsDescendant, IsSearched, StopsAt, compound_view, combinator_view, complex_from}
+use Rattle.dom_selectors.proofs.Cited.{IsDescendant, IsSearched, StopsAt, combinator_view, complex_from}
 use Rattle.dom_selectors.specs.declared.selector.Combinator.{Combinator}
 use Rattle.dom_selectors.proofs.JoinedLaws.{last-joined, no-links}
 use Rattle.dom_selectors.proofs.Searches.{comes-first, comes-before, none-before, stops-white, segment-ends}
@@ -38,8 +38,8 @@ loop-last-preserved c =
     record {
       node = c.in-Some-chain_before.ensures.node;
       shorter = omega (arith, c.in-Some-split_last.ensures.cases.1, c.in-Some-chain_before.ensures.shorter);
-      comes = comes-before c.loop-last.invariant.comes (compound_view last.compound.items) (is
-          ∙ ap (λ h. joined left (combinator_view h) (compound_view last.compound.items)) its_later) (complex_from c.args.first.now next.links.now)
+      comes = comes-before c.loop-last.invariant.comes last.compound (is
+          ∙ ap (λ h. joined left (combinator_view h) last.compound) its_later) (complex_from c.args.first.now next.links.now)
           (name_at f.names next.key) (Once-forest f c.law_nodes_stand_once.ensures.once c.law_nodes_stand_once.ensures.only)
           c.in-Some-chain_before.ensures.ends;
     }
@@ -69,8 +69,8 @@ returns-in_default-chain_before-clause-ends c =
       | in_default-matches w ↦ absurd (true≢false (sym c.if-not-matches.false ∙ w.matches-is))
     ] in
     let is = last-joined c.args.first.now end.links.now c.in-Some-split_last.left.now last c.in-Some-split_last.ensures.cases.0 in
-    none-before c.loop-last.invariant.comes (compound_view last.compound.items) (is
-    ∙ ap (λ h. joined left (combinator_view h) (compound_view last.compound.items)) its_later) c.in_default-chain_before.ensures.ends
+    none-before c.loop-last.invariant.comes last.compound (is
+    ∙ ap (λ h. joined left (combinator_view h) last.compound) its_later) c.in_default-chain_before.ensures.ends
 
 pub returns-clause-ends : goal.returns-clause-ends
 returns-clause-ends c =

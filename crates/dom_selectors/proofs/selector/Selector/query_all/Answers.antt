@@ -22,10 +22,10 @@ loop-at-init c =
       same = e.same;
       stands = e.stands;
       has = e.has;
-      known = nothing_known f c.args.self.now.complexes.items;
+      known = nothing_known f c.args.self.now.complexes.items c.nothing-known.result c.nothing-known.ensures.parent c.nothing-known.ensures.grandparent;
       nodes = subst (All (λ k. k < length f.names)) (sym c.new-found.ensures.items) (λ k d h. absurd (omega (arith, h)));
       all = ap (λ xs. map (name_at f.names) xs ++ filter test (nodes_from f c.args.top c.next_asked-at.result)) c.new-found.ensures.items
-          ∙ e.passed test (λ x. c.asked-asked.ensures f.trees x)
+          ∙ e.passed test (λ x. c.signs-signs.ensures f.trees x) (λ x. c.asked-asked.ensures f.trees x)
           ∙ ap (filter test) (behind_top f.trees (name_at f.names c.args.top) (IsWithin-itself f law.once law.only c.args.top c.requires));
     }
 
@@ -55,7 +55,8 @@ loop-at-preserved c =
     let rest = nodes_behind f c.args.top k in
     let matched : test x ≡ c.some_matches.result = sym (rw (same, c.as_slice-complexes.ensures.value) at c.some_matches.ensures.value) in
     let e = c.next_asked-at-in-Some.ensures in
-    let passed = λ (ks : List ℕ). ap (λ r. map (name_at f.names) ks ++ r) (e.passed test (λ y. c.asked-asked.ensures f.trees y)) in
+    let passed = λ (ks : List ℕ). ap (λ r. map (name_at f.names) ks ++ r) (e.passed test (λ y. c.signs-signs.ensures f.trees y)
+    (λ y. c.asked-asked.ensures f.trees y)) in
     let before : map (name_at f.names) c.loop-at.found.items ++ filter test (x ∷ rest) ≡ _ =
     ap (λ o. map (name_at f.names) c.loop-at.found.items ++ filter test (nodes_from f c.args.top o)) (sym c.in-Some.is) ∙ c.loop-at.invariant.all in
     let left : All (λ j. j < length f.names) c.if-some_matches.found.items ×
