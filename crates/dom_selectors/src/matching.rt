@@ -74,7 +74,7 @@ fn simple_matches(node: &NodeAt, simple: &Simple) -> bool
     }
 }
 
-/// Whether an element matches all of some simple selectors. Most that have not their signs do not.
+/// Whether an element matches all of some simple selectors. Most that do not are seen by their signs.
 #[inline(always)]
 fn simples_match(node: &NodeAt, simples: &Simples) -> bool
     ensures { result ≡ list_all (spec_simple_matches node.now.whole.trees (name_here node.now)) simples.now }
