@@ -6,7 +6,7 @@ use Rattle.std.proofs.lemmas.Bool.{cases_Bool}
 use Rattle.std.proofs.lemmas.Option.{none-some, same_Some}
 use denote.RawPtr.{Ptr, block_ptr, null_ptr, InBlock}
 use Rattle.node_arena.specs.Owned.{Placed, placed, same_ptr, value_at, set_at, without_at}
-use Rattle.node_arena.specs.Store.{number_of, key_at, IsMarked, places_of}
+use Rattle.node_arena.specs.Store.{number_of, key_at, led_at, IsMarked, places_of}
 use Rattle.node_arena.proofs.Places.{same_ptr_eq, same_ptr-refl}
 
 module _ {X : Type 0} where
@@ -77,15 +77,19 @@ number-key ps null_ptr k h = absurd (none-some k h)
 pub leads-key : (ps : List Ptr) (p : Ptr) (k : ℕ) → key_at ps p ≡ Some k → IsMarked ps true p
 leads-key ps p k h = rw h refl
 
--- where another cell comes last each link leads where it did
-pub key-kept : (ps : List Ptr) (p q : Ptr) (mark : Bool) → IsMarked ps mark q → key_at (ps ++ p ∷ []) q ≡ key_at ps q
-key-kept ps p (block_ptr b o) true h = number-kept ps p (block_ptr b o) h
-key-kept ps p (block_ptr b o) false h = ap (key_at (ps ++ p ∷ [])) h ∙ sym (ap (key_at ps) h)
-key-kept ps p null_ptr mark h = refl
+-- where another cell comes last each pointer to a cell leads where it did
+pub key-kept : (ps : List Ptr) (p q : Ptr) → IsSome (key_at ps q) → key_at (ps ++ p ∷ []) q ≡ key_at ps q
+key-kept ps p (block_ptr b o) h = number-kept ps p (block_ptr b o) h
+key-kept ps p null_ptr h = refl
+
+-- so does each link
+pub led-kept : (ps : List Ptr) (p q : Ptr) (mark : Bool) → IsMarked ps mark q → led_at (ps ++ p ∷ []) mark q ≡ led_at ps mark q
+led-kept ps p q true h = key-kept ps p q h
+led-kept ps p q false h = refl
 
 -- and leads to a cell as it did
 pub leads-kept : (ps : List Ptr) (p q : Ptr) (mark : Bool) → IsMarked ps mark q → IsMarked (ps ++ p ∷ []) mark q
-leads-kept ps p q true h = rw (key-kept ps p q true h) h
+leads-kept ps p q true h = rw (key-kept ps p q h) h
 leads-kept ps p q false h = h
 
 module _ {V : Type 0} where

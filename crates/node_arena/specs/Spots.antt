@@ -3,10 +3,10 @@ use Rattle.std.specs.Prelude.{ℕ, ◌<◌, List, length, Option, refl}
 use Rattle.std.specs.Option.{option_map}
 use Rattle.std.specs.Coded.{Coded, code_by, coded×, coded_ℕ}
 use Rattle.node_arena.specs.declared.store.Link.{Link}
-use Rattle.node_arena.specs.declared.store.Link.TheVariants.{Parent, First, Last, Next, Prev}
+use Rattle.node_arena.specs.declared.store.Link.TheVariants.{Parent, First, Next, Prev, Back}
 use Rattle.node_arena.specs.Links.{Cells}
-use Rattle.node_arena.specs.Cells.{IsLinked}
-use Rattle.node_arena.specs.Nodes.{children_of, parent_of, next_of, prev_of, head_of, last_of}
+use Rattle.node_arena.specs.Cells.{back_of, IsLinked}
+use Rattle.node_arena.specs.Nodes.{children_of, parent_of, next_of, prev_of, head_of}
 
 -- what is seen whole, and the key of what is looked at
 pub record Spot (X : Type 0) : Type 0 where
@@ -25,9 +25,9 @@ key_in s = option_map (λ x. x.key) s
 abbrev pub linked_to : List (List ℕ) → ℕ → Link → Option ℕ
 linked_to lists k Parent = parent_of lists k
 linked_to lists k First = head_of (children_of lists k)
-linked_to lists k Last = last_of (children_of lists k)
 linked_to lists k Next = next_of lists k
 linked_to lists k Prev = prev_of lists k
+linked_to lists k Back = back_of lists k
 
 -- a cell among cells that are linked as those of a forest
 pub record IsLinkedAt {T : Type 0} (s : Spot (Cells T)) : Type 0 where

@@ -1,7 +1,7 @@
 //! A cell of a store, where it lies.
-ghost use Rattle.std.specs.Prelude.{◌≡◌, Some, slice_get};
+ghost use Rattle.std.specs.Prelude.{◌≡◌, ◌<◌, length, Some, slice_get};
 ghost use Rattle.std.specs.Option.{ForSome};
-ghost use Rattle.node_arena.specs.Links.{link_at};
+ghost use Rattle.node_arena.specs.Links.{link_at, last_at};
 ghost use Rattle.node_arena.specs.Spots.{key_in};
 
 use crate::Key;
@@ -36,6 +36,7 @@ impl<'a, T> CellAt<'a, T> {
     pub(crate) fn to(&self, link: Link) -> Option<CellAt<'a, T>>
         ensures value { key_in result ≡ link_at self.now.whole.links self.now.key link }
         ensures same { ForSome result (λ c. c.whole ≡ self.now.whole) }
+        ensures cell { ForSome (key_in result) (λ k. k < length self.now.whole.links) }
     {
         if !self.cell.leads(link) {
             return None;
@@ -43,6 +44,18 @@ impl<'a, T> CellAt<'a, T> {
         let pool = self.pool;
         let cell = pool.get(self.cell.pointer(link));
         Some(CellAt { pool, cell })
+    }
+
+    /// The cell of the last child, if there is one.
+    #[inline(always)]
+    pub(crate) fn last(&self) -> Option<CellAt<'a, T>>
+        ensures value { key_in result ≡ last_at self.now.whole.links self.now.key }
+        ensures same { ForSome result (λ c. c.whole ≡ self.now.whole) }
+    {
+        match self.to(Link::First) {
+            Some(first) => first.to(Link::Back),
+            None => None,
+        }
     }
 
     /// Its key.

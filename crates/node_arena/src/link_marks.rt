@@ -1,50 +1,38 @@
 //! Which links of a cell lead to a cell.
 ghost use Rattle.std.specs.Prelude.{◌≡◌, false};
-ghost use Rattle.node_arena.specs.LinkMarks.{unmarked, ends_of, has_first, has_last, mark_of, with_mark};
+ghost use Rattle.node_arena.specs.LinkMarks.{unmarked, without_own, is_prev, is_back, mark_of, with_mark};
 
 use crate::store::Link;
 
-/// Which of the links to its first and to its last child a cell has.
+/// Where the link back of a cell leads: to no cell, around to the last child of its parent, or to the sibling before it.
 #[derive(Clone, Copy)]
-pub(crate) enum Ends {
-    Neither,
-    First,
-    Last,
-    Both,
+pub(crate) enum Back {
+    Nowhere,
+    Around,
+    Before,
 }
 
-impl Ends {
-    fn of(first: bool, last: bool) -> Ends
-        ensures { result ≡ ends_of first last }
+impl Back {
+    fn is_prev(self) -> bool
+        ensures { result ≡ is_prev self }
     {
-        match (first, last) {
-            (false, false) => Ends::Neither,
-            (true, false) => Ends::First,
-            (false, true) => Ends::Last,
-            (true, true) => Ends::Both,
-        }
+        matches!(self, Back::Before)
     }
 
-    fn first(self) -> bool
-        ensures { result ≡ has_first self }
+    fn is_back(self) -> bool
+        ensures { result ≡ is_back self }
     {
-        matches!(self, Ends::First | Ends::Both)
-    }
-
-    fn last(self) -> bool
-        ensures { result ≡ has_last self }
-    {
-        matches!(self, Ends::Last | Ends::Both)
+        !matches!(self, Back::Nowhere)
     }
 }
 
-/// The links of a cell that lead to a cell. They take the four bytes beside its key.
+/// The links of a cell that lead to a cell. They take the four bytes beside its key. The one back comes first, where it is read at the least cost.
 #[derive(Clone, Copy)]
 pub(crate) struct Marks {
+    back: Back,
     parent: bool,
+    first: bool,
     next: bool,
-    prev: bool,
-    ends: Ends,
 }
 
 impl Marks {
@@ -54,9 +42,9 @@ impl Marks {
     {
         Marks {
             parent: false,
+            first: false,
             next: false,
-            prev: false,
-            ends: Ends::Neither,
+            back: Back::Nowhere,
         }
     }
 
@@ -66,11 +54,20 @@ impl Marks {
     {
         match link {
             Link::Parent => self.parent,
-            Link::First => self.ends.first(),
-            Link::Last => self.ends.last(),
+            Link::First => self.first,
             Link::Next => self.next,
-            Link::Prev => self.prev,
+            Link::Prev => self.back.is_prev(),
+            Link::Back => self.back.is_back(),
         }
+    }
+
+    /// Takes the marks of a child's own links away: to its parent, to the next, and back.
+    pub(crate) fn clear_own(&mut self)
+        ensures { self.new ≡ without_own self.old }
+    {
+        self.parent = false;
+        self.next = false;
+        self.back = Back::Nowhere;
     }
 
     /// Marks one link, or takes its mark away.
@@ -79,10 +76,10 @@ impl Marks {
     {
         match link {
             Link::Parent => self.parent = leads,
-            Link::First => self.ends = Ends::of(leads, self.ends.last()),
-            Link::Last => self.ends = Ends::of(self.ends.first(), leads),
+            Link::First => self.first = leads,
             Link::Next => self.next = leads,
-            Link::Prev => self.prev = leads,
+            Link::Prev => self.back = if leads { Back::Before } else { Back::Nowhere },
+            Link::Back => self.back = if leads { Back::Around } else { Back::Nowhere },
         }
     }
 }

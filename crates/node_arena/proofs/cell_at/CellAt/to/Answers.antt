@@ -1,5 +1,7 @@
-use Rattle.std.proofs.Common.{refl, sym, ◌∙◌}
-use Rattle.node_arena.proofs.StoreLemmas.{Reading, reading, read-none, read-cell}
+use Rattle.std.proofs.Common.{◌<◌, length, refl, sym, subst, ◌∙◌}
+use Rattle.std.proofs.lemmas.Option.{same_Some}
+use Rattle.node_arena.specs.Store.{seen}
+use Rattle.node_arena.proofs.StoreLemmas.{Reading, reading, read-none, read-cell, within-cells}
 use Rattle.node_arena.proofs.cell_at.CellAt.to.Given.{Over}
 use Rattle.node_arena.proofs.cell_at.CellAt.to.Goals.{After-pointer}
 use Rattle.node_arena.proofs.cell_at.CellAt.to.Goals as goal
@@ -22,3 +24,9 @@ invariant_of-result g c =
 pub returns-clause-value : goal.returns-clause-value
 returns-clause-value g c =
     rw (← c.self.view_is) (read-cell c.self.invariant.placed (read g (goal.at.returns-clause-value g c).After-pointer) c.get-cell.ensures).1
+
+pub returns-clause-cell : goal.returns-clause-cell
+returns-clause-cell g c =
+    let there = read-cell c.self.invariant.placed (read g (goal.at.returns-clause-cell g c).After-pointer) c.get-cell.ensures in
+    rw (← c.self.view_is) (λ x is. subst (λ k. k < length (seen c.self.inside.pool.now.cells).links) (same_Some c.get-cell.result.now.key x is)
+    (within-cells there.0))

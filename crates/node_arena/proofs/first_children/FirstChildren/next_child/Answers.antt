@@ -20,7 +20,7 @@ returns-in-Some-clause-first g c k e =
     let parent = parent_of_is lists c.requires.linked.forest.one_list c.args.self.now.parent c.in-Some.last child in
     let next : next_in (children_of lists c.args.self.now.parent) c.in-Some.last ≡ Some k =
     ap (option_and_then (λ p. next_in (children_of lists p) c.in-Some.last)) (sym parent)
-    ∙ (sym (c.requires.linked.holds.next c.in-Some.last) ∙ (sym c.link.ensures ∙ e)) in
+    ∙ (sym (c.requires.linked.holds.next c.in-Some.last) ∙ (sym c.link.ensures.value ∙ e)) in
     first_more c.args.self.now.keys
     (c.requires.linked.forest.once c.args.self.now.parent) c.requires.first (sym c.in-Some.ensures) next
 
@@ -32,7 +32,7 @@ pub returns-in-None-clause-first : goal.returns-in-None-clause-first
 returns-in-None-clause-first g c k e =
     let lists = lists_of c.args.store.now.links in
     first_begun c.args.self.now.keys (children_of lists c.args.self.now.parent) k (last_of-none c.args.self.now.keys (sym c.in-None.ensures))
-    (sym (c.requires.linked.holds.first c.args.self.now.parent) ∙ (sym c.link-in-None.ensures ∙ e))
+    (sym (c.requires.linked.holds.first c.args.self.now.parent) ∙ (sym c.link-in-None.ensures.value ∙ e))
 
 pub returns-in-None-clause-other : goal.returns-in-None-clause-other
 returns-in-None-clause-other g c k e =

@@ -40,9 +40,9 @@ invariant_of-self-2 g c =
     record { absent = c.put-place.ensures.fresh; within = c.put-place.ensures.within } in (
       c.put-place.ensures.same_heap ∙ c.self.invariant.0,
       rw (listed, put g (goal.at.invariant_of-self-2 g c).After-put-place)
-          (IsWired-push c.nowhere-nowhere.result c.args.payload c.self.invariant.1 c.nowhere-nowhere.ensures at_place),
+          (IsWired-push c.nowhere-nowhere.result c.args.payload c.self.invariant.1 at_place),
     )
 
 pub returns-clause-ok : goal.returns-clause-ok
 returns-clause-ok g c = rw (put g (goal.at.returns-clause-ok g c).After-put-place, ← c.self.view_is)
-    (seen-push c.put-place.result c.nowhere-nowhere.result c.args.payload c.self.invariant.1 c.nowhere-nowhere.ensures)
+    (seen-push c.put-place.result c.nowhere-nowhere.result c.args.payload c.self.invariant.1)
