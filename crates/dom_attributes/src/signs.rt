@@ -161,11 +161,19 @@ impl Signs {
         }
     }
 
-    /// The signs of a node with this local name that gets the attributes of a map.
-    pub fn of_node(name: &str, attributes: &IndexMap<String, DomStr>) -> Signs
-        ensures { Cover result name.now (attributes_from attributes.now.entries) }
+    /// The signs of a node with this local name and no attributes.
+    pub fn of_bare(name: &str) -> Signs
+        ensures { Cover result name.now [] }
     {
-        let mut signs = Signs::of_element(name);
+        Signs::of_element(name)
+    }
+
+    /// These, and those of the attributes of a map, which a node without attributes gets.
+    #[inline(always)]
+    pub fn with_attributes(self, attributes: &IndexMap<String, DomStr>) -> Signs
+        ensures { (element : Word) → Cover self element [] → Cover result element (attributes_from attributes.now.entries) }
+    {
+        let mut signs = self;
         for index in 0..attributes.len() {
             if let Some((name, value)) = attributes.get_index(index) {
                 signs.gain(name.as_str(), value.as_slice());

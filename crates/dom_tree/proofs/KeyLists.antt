@@ -9,6 +9,7 @@ use Rattle.dom_base.specs.declared.OwnerPath.{OwnerPath}
 use Rattle.dom_base.specs.contracts.OwnerPartialEq.TheImpl as OwnerImpl
 use Rattle.dom_base.specs.contracts.OwnerEq.TheImpl.Laws.{laws-law}
 use Rattle.dom_tree.specs.declared.table.KeyTable.{KeyTable}
+use Rattle.dom_tree.specs.PageKeys.{page_keys}
 use Rattle.dom_tree.specs.Definitions.{keys_of, HasRoom, StandsAt}
 use Rattle.dom_tree.proofs.OwnerLists.{had, written-by, written-same}
 
@@ -16,14 +17,14 @@ module _ (t r : KeyTable) (page : r.page ≡ t.page) (owner : Owner) (new : Vec 
     (at : (p : Owner) → get OwnerImpl.ghosts.eq r.components p ≡ cond (OwnerImpl.ghosts.eq owner p) (Some new) (get OwnerImpl.ghosts.eq t.components p)) where
   -- the keys of all owners, where a component's list has the keys that it had
   pub keys-same : had (λ v. v.items) (get OwnerImpl.ghosts.eq t.components) owner ≡ new.items → (o : Owner) → keys_of r o ≡ keys_of t o
-  keys-same e Page = ap (λ v. v.items) page
+  keys-same e Page = ap page_keys page
   keys-same e (Component k) =
       written-same (λ v. v.items) (get OwnerImpl.ghosts.eq t.components) (get OwnerImpl.ghosts.eq r.components) owner new at e (Component k)
 
   -- and where it got one key more
   pub keys-written : (old : Vec Key Global) (key : ℕ) → owner ≢ Page → get OwnerImpl.ghosts.eq t.components owner ≡ Some old →
       new.items ≡ old.items ++ key ∷ [] → (o : Owner) → keys_of r o ≡ cond (owner_eq owner o) (keys_of t o ++ key ∷ []) (keys_of t o)
-  keys-written old key other found e Page = ap (λ v. v.items) page
+  keys-written old key other found e Page = ap page_keys page
       ∙ sym (cond-false (owner_eq owner Page) (keys_of t Page ++ key ∷ []) (keys_of t Page) (ne-owner_eq owner Page other))
   keys-written old key other found e (Component k) = written-by (λ v. v.items) (get OwnerImpl.ghosts.eq t.components)
       (get OwnerImpl.ghosts.eq r.components) owner new at old (λ keys. keys ++ key ∷ []) found e (Component k)

@@ -5,6 +5,7 @@ mod Roots
 pub mod Changes
 mod Reading
 mod KeyLists
+mod PageKeyLists
 pub mod OwnerLists
 mod Kept
 mod Adding

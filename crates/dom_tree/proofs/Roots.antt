@@ -136,7 +136,7 @@ pub IsOnce-range : (a n : ℕ) → IsOnce (range_with_len a n)
 IsOnce-range a zero = tt
 IsOnce-range a (suc n) = (false_from_ne_true _ (λ found. omega (arith, (range-within (a + 1) n a found).0)), IsOnce-range (a + 1) n)
 
-range-push : (a n k : ℕ) → a + n ≡ k → range_with_len a (suc n) ≡ range_with_len a n ++ k ∷ []
+pub range-push : (a n k : ℕ) → a + n ≡ k → range_with_len a (suc n) ≡ range_with_len a n ++ k ∷ []
 range-push a zero k e = let at : a ≡ k = omega arith in ap (λ j. j ∷ []) at
 range-push a (suc n) k e = ap (λ ks. a ∷ ks) (range-push (a + 1) n k (omega arith))
 

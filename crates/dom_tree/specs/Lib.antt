@@ -1,4 +1,5 @@
 -- Unmarked: own rules, about what the code holds and its contracts say.
+pub mod PageKeys
 pub mod Table
 pub mod Rows
 pub mod Contents

@@ -9,15 +9,17 @@ use Rattle.dom_base.specs.declared.Owner.TheVariants.{Page, Component}
 use Rattle.dom_base.specs.contracts.OwnerPartialEq.TheImpl as OwnerImpl
 use Rattle.node_arena.specs.declared.key.Key.{Key}
 use Rattle.dom_tree.specs.declared.table.KeyTable.{KeyTable}
+use Rattle.dom_tree.specs.PageKeys.{page_keys}
+use Rattle.dom_tree.specs.PageKeys as page
 
 -- an owner's keys, in the order of their nodes' numbers
 abbrev pub keys_of : KeyTable → Owner → List ℕ
-keys_of t Page = t.page.items
+keys_of t Page = page_keys t.page
 keys_of t (Component k) = option_map_or (λ v. v.items) (get OwnerImpl.ghosts.eq t.components (Component k)) []
 
 -- there is room for one key more of an owner
 abbrev pub HasRoom : KeyTable → Owner → Type 0
-HasRoom t Page = vec_len t.page < vec_capacity t.page
+HasRoom t Page = page.HasRoom t.page
 HasRoom t (Component k) = MatchOption (get OwnerImpl.ghosts.eq t.components (Component k)) ⊥ (λ v. vec_len v < vec_capacity v)
 
 -- an owner's list stands at this place among those of the components, or the owner has none

@@ -110,7 +110,7 @@ impl Forest {
         ensures other { IfErr result (λ fault. (fault ≡ Fault.Refused Refusal.Limit) ⊎ (fault ≡ Fault.Memory)) }
         ensures err { OnErr result (self.new ≡ self.old) }
     {
-        let number = self.keys.of(owner).len();
+        let number = self.keys.count(owner);
         if number == MAX_NODES as usize {
             return Err(Fault::Refused(Refusal::Limit));
         }
@@ -132,8 +132,7 @@ impl Forest {
     pub fn node_count(&self, owner: Owner) -> usize
         ensures { result ≡ count_of owner self.now.names }
     {
-        let keys = self.keys.of(owner);
-        keys.len()
+        self.keys.count(owner)
     }
 
     /// The key of the node of this name, if there is one (own rule). It is found by its number in its owner's list.

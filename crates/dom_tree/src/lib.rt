@@ -11,6 +11,7 @@ mod forest;
 mod ids;
 mod own;
 mod owners;
+mod page_keys;
 mod shared;
 mod stored;
 mod table;

@@ -2,10 +2,11 @@
 ghost use Rattle.std.specs.Prelude.{◌≡◌, true, IfOk};
 ghost use Rattle.std.specs.Rc.{rc_str_bytes};
 
-use dom_attributes::{SharedNames, is_same_text};
+use dom_attributes::{SharedNames, Signs, is_same_text};
 use dom_base::Owner;
 use std::alloc::{AllocError, Global};
 use std::collections::HashSet;
+use std::marker::Model;
 use std::rc::{Rc, RcStr};
 
 /// The owner of some nodes and their local name, which is empty where they are no elements.
@@ -13,6 +14,47 @@ use std::rc::{Rc, RcStr};
 pub(crate) struct Shared {
     pub(crate) owner: Owner,
     pub(crate) element: RcStr,
+}
+
+/// What some nodes share, with the signs of such a node that has no attributes, which no node then asks for anew.
+#[derive(Drop)]
+pub(crate) struct Kept {
+    pub(crate) shared: Rc<Shared>,
+    pub(crate) signs: Signs,
+}
+
+impl Model for Kept {
+    ghost use Rattle.std.specs.Prelude.{[]};
+    ghost use Rattle.std.specs.Rc.{rc_str_bytes};
+    ghost use Rattle.dom_attributes.specs.Signs.{Cover};
+    ghost use Rattle.dom_tree.specs.declared.shared.Shared.{Shared};
+
+    ghost Value = { Shared };
+
+    ghost view = { λ k. k.shared.value };
+
+    ghost invariant = { λ k. Cover k.signs (rc_str_bytes k.shared.value.element) [] };
+}
+
+impl Kept {
+    /// What is shared, with its signs.
+    fn of(shared: Rc<Shared>) -> Kept
+        ensures { result ≡ shared.value }
+    {
+        let signs = Signs::of_bare(shared.element.as_str());
+        Kept { shared, signs }
+    }
+
+    /// The same once more.
+    #[inline(always)]
+    fn again(&self) -> Result<Kept, AllocError>
+        ensures { IfOk result (λ kept. kept ≡ self.now) }
+    {
+        Ok(Kept {
+            shared: self.shared.clone()?,
+            signs: self.signs,
+        })
+    }
 }
 
 /// How many are compared one after another, before the others are found by a hash.
@@ -32,7 +74,7 @@ impl Shared {
 /// others, and each of the first local names once for all owners.
 #[derive(Drop)]
 pub(crate) struct SharedTable {
-    few: Vec<Rc<Shared>>,
+    few: Vec<Kept>,
     /// The place among the few that was found last.
     last: usize,
     others: HashSet<Rc<Shared>>,
@@ -54,26 +96,26 @@ impl SharedTable {
 
     /// An owner with a local name, as it is kept, or from now on. What was found last among the few is tried first.
     #[inline(always)]
-    pub(crate) fn shared(&mut self, owner: Owner, element: &str) -> Result<Rc<Shared>, AllocError>
-        ensures owner { IfOk result (λ shared. shared.value.owner ≡ owner) }
-        ensures element { IfOk result (λ shared. rc_str_bytes shared.value.element ≡ element.now) }
+    pub(crate) fn shared(&mut self, owner: Owner, element: &str) -> Result<Kept, AllocError>
+        ensures owner { IfOk result (λ kept. kept.owner ≡ owner) }
+        ensures element { IfOk result (λ kept. rc_str_bytes kept.element ≡ element.now) }
     {
         match self.few.get(self.last) {
-            Some(kept) if kept.is(owner, element) => kept.clone(),
+            Some(kept) if kept.shared.is(owner, element) => kept.again(),
             _ => self.sought(owner, element),
         }
     }
 
     /// An owner with a local name, sought among all that are kept, and kept from now on.
     #[inline(never)]
-    fn sought(&mut self, owner: Owner, element: &str) -> Result<Rc<Shared>, AllocError>
-        ensures owner { IfOk result (λ shared. shared.value.owner ≡ owner) }
-        ensures element { IfOk result (λ shared. rc_str_bytes shared.value.element ≡ element.now) }
+    fn sought(&mut self, owner: Owner, element: &str) -> Result<Kept, AllocError>
+        ensures owner { IfOk result (λ kept. kept.owner ≡ owner) }
+        ensures element { IfOk result (λ kept. rc_str_bytes kept.element ≡ element.now) }
     {
         for (place, kept) in self.few.iter().enumerate() {
-            if kept.is(owner, element) {
+            if kept.shared.is(owner, element) {
                 self.last = place;
-                return kept.clone();
+                return kept.again();
             }
         }
         let element = self.names.name(element)?;
@@ -81,18 +123,19 @@ impl SharedTable {
     }
 
     /// What is not among the few, as it is kept among the others, or from now on.
-    fn kept(&mut self, shared: Rc<Shared>) -> Result<Rc<Shared>, AllocError>
-        ensures owner { IfOk result (λ kept. kept.value.owner ≡ shared.value.owner) }
-        ensures element { IfOk result (λ kept. rc_str_bytes kept.value.element ≡ rc_str_bytes shared.value.element) }
+    fn kept(&mut self, shared: Rc<Shared>) -> Result<Kept, AllocError>
+        ensures owner { IfOk result (λ kept. kept.owner ≡ shared.value.owner) }
+        ensures element { IfOk result (λ kept. rc_str_bytes kept.element ≡ rc_str_bytes shared.value.element) }
     {
         if self.few.len() < FEW {
-            self.few.push(shared.clone()?)?;
-            return Ok(shared);
+            let kept = Kept::of(shared);
+            self.few.push(kept.again()?)?;
+            return Ok(kept);
         }
         if let Some(kept) = self.others.get(&shared) {
-            return kept.clone();
+            return Ok(Kept::of(kept.clone()?));
         }
         let _ = self.others.insert(shared.clone()?)?;
-        Ok(shared)
+        Ok(Kept::of(shared))
     }
 }

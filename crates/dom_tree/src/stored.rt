@@ -12,7 +12,7 @@ ghost use Rattle.dom_tree.specs.Ids.{code_in};
 use crate::data::NodeData;
 use crate::ids::id_code;
 use crate::own::Own;
-use crate::shared::{Shared, SharedTable};
+use crate::shared::{Kept, Shared, SharedTable};
 use dom_attributes::{SharedNames, Signs};
 use dom_base::{DomStr, Kind, NodeName};
 use node_arena::Key;
@@ -73,10 +73,11 @@ impl StoredNode {
             text,
             document,
         } = node;
-        let signs = Signs::of_node(element.as_str(), &attributes);
+        let Kept { shared, signs } = table.shared(name.owner, element.as_str())?;
+        let signs = signs.with_attributes(&attributes);
         let has_document = document.is_some();
         Ok(StoredNode {
-            shared: table.shared(name.owner, element.as_str())?,
+            shared,
             own: Own::of(alloc, kind, has_document, name.number, attributes)?,
             text,
             document: document.unwrap_or_default(),

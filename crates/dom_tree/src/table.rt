@@ -1,21 +1,22 @@
 //! The keys of each owner's nodes, by the nodes' numbers.
-ghost use Rattle.std.specs.Prelude.{◌≡◌, ◌≢◌, ◌++◌, ◌∷◌, [], if◌then◌else◌, slice_get, OnOk, None};
+ghost use Rattle.std.specs.Prelude.{◌≡◌, ◌≢◌, ◌++◌, ◌∷◌, [], if◌then◌else◌, length, slice_get, OnOk, None};
 ghost use Rattle.dom_base.specs.declared.Owner.{Owner as Owners};
 ghost use Rattle.dom_base.specs.declared.Owner.TheVariants.{Page};
 ghost use Rattle.dom_model.specs.Names.{owner_eq};
 ghost use Rattle.dom_tree.specs.Table.{keys_of, HasRoom, StandsAt};
 
+use crate::page_keys::PageKeys;
 use dom_base::{NodeName, Owner};
 use indexmap::IndexMap;
 use node_arena::Key;
 use std::alloc::{AllocError, Global};
 use std::cell::Cell;
 
-/// A list of keys for each owner. The page's is found without a search, and that of the component that was asked for last without a
+/// The keys of each owner. The page's are found without a search, and that of the component that was asked for last without a
 /// hash.
 #[derive(Drop)]
 pub(crate) struct KeyTable {
-    page: Vec<Key>,
+    page: PageKeys,
     components: IndexMap<Owner, Vec<Key>>,
     /// The place among `components` that was found last.
     last: Cell<usize>,
@@ -28,20 +29,28 @@ impl KeyTable {
         ensures { (o : Owners) → keys_of result o ≡ [] }
     {
         KeyTable {
-            page: Vec::new(alloc),
+            page: PageKeys::new(alloc),
             components: IndexMap::new(alloc),
             last: Cell::new(0),
             alloc,
         }
     }
 
-    /// An owner's keys.
-    pub(crate) fn of(&self, owner: Owner) -> &[Key]
-        ensures { result.now ≡ keys_of self.now owner }
+    /// How many keys an owner has.
+    pub(crate) fn count(&self, owner: Owner) -> usize
+        ensures { result ≡ length (keys_of self.now owner) }
     {
         if matches!(owner, Owner::Page) {
-            return self.page.as_slice();
+            return self.page.len();
         }
+        self.of_component(owner).len()
+    }
+
+    /// The keys of an owner, which is not the page.
+    fn of_component(&self, owner: Owner) -> &[Key]
+        requires { owner ≢ Page }
+        ensures { result.now ≡ keys_of self.now owner }
+    {
         match self.place(owner) {
             Some(place) => self.components[place].as_slice(),
             None => &[],
@@ -69,16 +78,19 @@ impl KeyTable {
         ensures { result ≡ slice_get (keys_of self.now name.owner) name.number }
     {
         if matches!(name.owner, Owner::Page) {
-            return self.page.as_slice().get(name.number as usize).copied();
+            return self.page.get(name.number);
         }
-        self.find_of_any(name)
+        self.find_of_component(name)
     }
 
-    /// The key of a name, if its owner, whoever that is, has so many.
-    fn find_of_any(&self, name: NodeName) -> Option<Key>
+    /// The key of a name, if its owner, which is not the page, has so many.
+    fn find_of_component(&self, name: NodeName) -> Option<Key>
+        requires { name.owner ≢ Page }
         ensures { result ≡ slice_get (keys_of self.now name.owner) name.number }
     {
-        self.of(name.owner).get(name.number as usize).copied()
+        self.of_component(name.owner)
+            .get(name.number as usize)
+            .copied()
     }
 
     /// Makes room for one key more of an owner.
@@ -87,7 +99,7 @@ impl KeyTable {
         ensures room { OnOk result (HasRoom self.new owner) }
     {
         match owner {
-            Owner::Page => self.page.reserve(1),
+            Owner::Page => self.page.reserve(),
             Owner::Component(_) => match self.place(owner) {
                 Some(place) => self.components.pair_mut(place).1.reserve(1),
                 None => self.begin(owner),
@@ -115,9 +127,7 @@ impl KeyTable {
         ensures { (o : Owners) → keys_of self.new o ≡ (if owner_eq owner o then keys_of self.old o ++ key ∷ [] else keys_of self.old o) }
     {
         match owner {
-            Owner::Page => {
-                let _ = self.page.push(key);
-            }
+            Owner::Page => self.page.push(key),
             Owner::Component(_) => {
                 if let Some(place) = self.place(owner) {
                     let _ = self.components.pair_mut(place).1.push(key);

@@ -29,16 +29,16 @@ invariant_of-self-in_err-key c = record {
 
 pub overflow_cast-name : goal.overflow_cast-name
 overflow_cast-name c =
-    let counted = ap (length {A = ℕ}) c.of-number.ensures ∙ c.self.invariant.kept.counted c.args.owner in
+    let counted = c.count-number.ensures ∙ c.self.invariant.kept.counted c.args.owner in
     omega (arith, counted, c.self.invariant.kept.limited c.args.owner)
 
 -- the node that is added
 adds : (c : goal.After-put) → Adds c.self.inside.arena.payloads c.self.inside.arena.children (keys_of c.self.inside.keys)
     (keys_of c.push.new.self) c.args.owner
-    (stored_from (node_of c.args.owner (length c.of-number.result.now)) (contents_of c.args.node))
+    (stored_from (node_of c.args.owner (c.count-number.result)) (contents_of c.args.node))
 adds c = adds_from (record {
   kept = c.self.invariant.kept;
-  next_number = ap (length {A = ℕ}) c.of-number.ensures;
+  next_number = c.count-number.ensures;
   free = c.if-number.false;
   document = λ k e. subst (λ (n : ℕ). k < n) (ap (λ (f : NamedTrees). length f.names) (sym c.self.view_is) ∙
       length-map c.self.inside.arena.payloads (λ s. s.name)) (c.requires.document_is_node k e);
@@ -52,7 +52,7 @@ adds c = adds_from (record {
 
 -- what the arena then has
 added : (c : goal.After-put) → IsAdded c.self.inside.arena c.add.new.self
-    (stored_from (node_of c.args.owner (length c.of-number.result.now)) (contents_of c.args.node))
+    (stored_from (node_of c.args.owner (c.count-number.result)) (contents_of c.args.node))
 added c = subst (λ (s : Stored). IsAdded c.self.inside.arena c.add.new.self s) c.in_ok-stored.ensures c.in_ok-key.ensures.ok
 
 pub invariant_of-self-2 : goal.invariant_of-self-2

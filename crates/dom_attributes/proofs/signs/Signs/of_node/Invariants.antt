@@ -1,8 +1,0 @@
--- The attributes so far are covered.
-use Rattle.dom_base.proofs.Std.{take}
-use Rattle.dom_attributes.specs.Attributes.{attributes_from}
-use Rattle.dom_attributes.specs.Signs.{Cover}
-use Rattle.dom_attributes.proofs.signs.Signs.of_node.Given as goal
-
-abbrev pub invariant-loop-index : goal.invariant-loop-index
-invariant-loop-index l = Cover l.signs l.fn.name (take l.index (attributes_from l.attributes.entries))
