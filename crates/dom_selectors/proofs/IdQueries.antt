@@ -8,7 +8,12 @@ use Rattle.dom_selectors.proofs.Cited.{StandAlone, name_found, IsWithin-itself, 
 use Rattle.dom_selectors.proofs.Cited.{filter-yes, filter-no, filter-none, IsWithin, all_single, here, below, stands_in, within-member}
 use Rattle.dom_model.specs.Selectors.{Complex, of_id, equals, part_matches}
 use Rattle.dom_selectors.specs.declared.selector.CompoundPart.{CompoundPart}
+use Rattle.dom_selectors.specs.declared.selector.Complex.{Complex as Read}
 use Rattle.dom_selectors.specs.Views.{part_view, compound_view}
+use Rattle.dom_base.proofs.Std.{◌⊎◌}
+use Rattle.std.specs.Prelude.{◌-◌}
+use Rattle.dom_selectors.proofs.Cited.{◌≤◌, arith, complex_matches, complex_view, map, or_cases, take}
+use Rattle.dom_selectors.proofs.SignLaws.{all_others}
 use Rattle.dom_selectors.specs.Search.{last_compound}
 use Rattle.dom_selectors.proofs.Anywhere.{one_seen}
 use Rattle.dom_selectors.proofs.Chains.{not_last}
@@ -59,12 +64,24 @@ module _ (ts : Trees) (top : NodeName) (w : IsWithin ts top top) where
             true≢false (sym (subst (λ z. (is_in name_eq z (descendants ts top) && p z) ≡ true) (alone y there t)
             (ap (λ b. b && p y) there ∙ t)) ∙ off)
 
--- what matches one complex selector matches its compound on the right
-pub last_matches : (ts : Trees) (c : Complex) (x : NodeName) → selector_matches ts (c ∷ []) x ≡ true → compound_matches ts (last_compound c) x ≡ true
+-- what matches a complex selector matches its compound on the right
+pub last_matches : (ts : Trees) (c : Complex) (x : NodeName) → complex_matches ts c x ≡ true → compound_matches ts (last_compound c) x ≡ true
 last_matches ts c x e = elim (cases_Bool (compound_matches ts (last_compound c) x)) [
   | inl h ↦ h
-  | inr h ↦ absurd (true≢false (sym e ∙ ap (λ b. b || false) (not_last ts c x h)))
+  | inr h ↦ absurd (true≢false (sym e ∙ not_last ts c x h))
 ]
+
+-- what matches some complex selectors matches the first or one of the others
+module _ (ts : Trees) (x : NodeName) where
+  pub first_or_others : (cs : List Read) (d : Read) → 1 ≤ length cs → selector_matches ts (map complex_view cs) x ≡ true →
+      (complex_matches ts (complex_view (get_or cs 0 d)) x ≡ true) ⊎
+      (selector_matches ts (map complex_view (take (length cs - 1) (drop 1 cs))) x ≡ true)
+  first_or_others [] d some e = absurd (omega (arith, some))
+  first_or_others (c ∷ cs) d some e =
+      elim (or_cases (complex_matches ts (complex_view c) x) (selector_matches ts (map complex_view cs) x) e) [
+        | inl h ↦ inl h
+        | inr h ↦ inr (subst (λ (ds : List Read). selector_matches ts (map complex_view ds) x ≡ true) (sym (all_others c cs)) h)
+      ]
 
 -- who matches `#NAME` has this ID
 pub id_asked : (ts : Trees) (x : NodeName) (v : DomString) → simple_matches ts x (of_id v) ≡ true → HasId ts x v
@@ -115,3 +132,14 @@ module _ (f : NamedTrees) (once : StandOnce f) (only : StandAlone f) (owned : Ar
               (near f.trees owned a.owner a refl).inside x (is_in-from x (inclusive_descendants f.trees a) inside);
         },
       )
+
+-- the one that is searched for is found, or matches what is left
+abbrev pub IsLeft : Option ℕ → ℕ → Bool → Type 0
+IsLeft only k rest = (only ≡ Some k) ⊎ (rest ≡ true)
+
+-- nothing is left
+pub none_left : {only : Option ℕ} {k : ℕ} (ts : Trees) (x : NodeName) (cs : List Read) → length cs < 1 →
+    IsLeft only k (selector_matches ts (map complex_view cs) x) → only ≡ Some k
+none_left ts x cs none (inl e) = e
+none_left ts x [] none (inr e) = absurd (true≢false (sym e))
+none_left ts x (c ∷ cs) none (inr e) = absurd (omega (arith, none))

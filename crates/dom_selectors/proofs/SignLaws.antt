@@ -93,12 +93,15 @@ one_more_shows bits c cs one rest ts x e = elim (or_cases (complex_matches ts (c
   | inr m ↦ rest ts x m
 ]
 
+-- those behind the first are all others
+pub all_others : (c : Read) (cs : List Read) → take (length (c ∷ cs) - 1) cs ≡ cs
+all_others c cs =
+    let same : length (c ∷ cs) - 1 ≡ length cs = omega arith in
+    ap (λ n. take n cs) same ∙ take_all (length cs) cs (omega arith)
+
 -- so where the first is followed by others
 pub rest_shows : (bits : ℕ) (cs : List Read) (d : Read) → 1 ≤ length cs → CompoundShows (last_compound (complex_view (get_or cs 0 d))) bits →
     SelectorShows (map complex_view (take (length cs - 1) (drop 1 cs))) bits → SelectorShows (map complex_view cs) bits
 rest_shows bits [] d some one rest = absurd (omega (arith, some))
 rest_shows bits (c ∷ cs) d some one rest =
-    let all : take (length (c ∷ cs) - 1) cs ≡ cs =
-    let same : length (c ∷ cs) - 1 ≡ length cs = omega arith in
-    ap (λ n. take n cs) same ∙ take_all (length cs) cs (omega arith) in
-    one_more_shows bits c cs one (subst (λ (ds : List Read). SelectorShows (map complex_view ds) bits) all rest)
+    one_more_shows bits c cs one (subst (λ (ds : List Read). SelectorShows (map complex_view ds) bits) (all_others c cs) rest)

@@ -9,7 +9,7 @@ use Rattle.dom_model.specs.Selectors as model
 use Rattle.dom_laws.specs.Within.{behind, from_node}
 use Rattle.node_arena.specs.Spots.{Spot, key_in}
 use Rattle.dom_tree.specs.Forest.{NamedTrees, name_of}
-use Rattle.dom_selectors.specs.Search.{last_compound}
+use Rattle.dom_selectors.specs.Search.{IsDescendant, last_compound}
 use Rattle.dom_selectors.specs.Views.{compound_view, complex_view}
 use Rattle.dom_selectors.specs.declared.above.Above.{Above}
 use Rattle.dom_selectors.specs.declared.above.Known.{Known}
@@ -22,6 +22,11 @@ use Rattle.dom_selectors.specs.declared.selector.Complex.{Complex}
 abbrev pub left_part : model.Complex → model.Complex
 left_part (model.alone c) = model.alone c
 left_part (model.joined left how c) = left
+
+-- the last combinator of a complex selector is white space (own rule)
+abbrev pub IsBehindSpace : model.Complex → Type 0
+IsBehindSpace (model.alone c) = ⊥
+IsBehindSpace (model.joined left how c) = IsDescendant how
 
 -- it is said of a node, if of any, whether it or one above it matches (own rule)
 abbrev pub IsKnown : NamedTrees → model.Complex → Option Above → Type 0

@@ -1,14 +1,15 @@
 //! Whether what stands left of white space matches above a node. What was found above a node is remembered for the
 //! nodes beside it, and for those beside its parent.
-ghost use Rattle.std.specs.Prelude.{◌≡◌, MatchOption, None};
+ghost use Rattle.std.specs.Prelude.{◌≡◌, true, false, MatchOption, None};
 ghost use Rattle.std.specs.List.{list_any};
 ghost use Rattle.std.specs.Option.{ForSome};
 ghost use Rattle.dom_model.specs.Tree.{ancestors};
 ghost use Rattle.dom_model.specs.Selectors.{complex_matches as spec_complex_matches, compound_matches as spec_compound_matches};
+ghost use Rattle.dom_model.specs.Selectors as model;
 ghost use Rattle.dom_model.specs.Selectors.{combined_with, child};
 ghost use Rattle.dom_tree.specs.Forest.{IsNode, name_of};
 ghost use Rattle.dom_tree.specs.Spots.{name_here};
-ghost use Rattle.dom_selectors.specs.Known.{AreKnown, IsKnown, left_part};
+ghost use Rattle.dom_selectors.specs.Known.{AreKnown, IsBehindSpace, IsKnown, left_part};
 ghost use Rattle.dom_selectors.specs.Search.{last_compound};
 ghost use Rattle.dom_selectors.specs.Views.{compound_view, complex_from, complex_view};
 
@@ -56,29 +57,59 @@ fn answer_of(known: &Option<Above>, parent: Key) -> Option<bool>
     }
 }
 
+/// Whether it is remembered of the parent of a node that neither it nor one above it matches.
+#[inline(always)]
+pub(crate) fn fails_below(node: &NodeAt, known: &Known) -> bool
+    ensures { (c : model.Complex) → AreKnown node.now.whole c known.now → result ≡ true →
+        list_any (spec_complex_matches node.now.whole.trees c) (ancestors node.now.whole.trees (name_here node.now)) ≡ false }
+{
+    let Some(above) = &known.parent else {
+        return false;
+    };
+    if above.matches {
+        return false;
+    }
+    node.forest().law_nodes_stand_once();
+    match node.parent() {
+        Some(parent) => parent.key() == above.parent,
+        None => false,
+    }
+}
+
+/// Whether the last combinator of a complex selector is white space.
+#[inline(always)]
+pub(crate) fn is_behind_space(complex: &Complex) -> bool
+    ensures { result ≡ true → IsBehindSpace (complex_view complex.now) }
+{
+    match complex.links.as_slice().split_last() {
+        Some((link, _left)) => matches!(link.combinator, Combinator::Descendant),
+        None => false,
+    }
+}
+
 /// Whether an ancestor of a node matches what is left of white space, where it is remembered of one node.
 #[inline(never)]
 fn ancestor_matches(
-    forest: &Forest,
+    node: &NodeAt,
     first: &Compound,
     left: &[Link],
-    key: Key,
     known: &mut Option<Above>,
 ) -> bool
-    requires node { IsNode forest.now key }
-    requires known { IsKnown forest.now (complex_from first.now left.now) known.old }
-    ensures value { result ≡ list_any (spec_complex_matches forest.now.trees (complex_from first.now left.now))
-        (ancestors forest.now.trees (name_of forest.now key)) }
-    ensures known { IsKnown forest.now (complex_from first.now left.now) known.new }
+    requires { IsKnown node.now.whole (complex_from first.now left.now) known.old }
+    ensures value { result ≡ list_any (spec_complex_matches node.now.whole.trees (complex_from first.now left.now))
+        (ancestors node.now.whole.trees (name_here node.now)) }
+    ensures known { IsKnown node.now.whole (complex_from first.now left.now) known.new }
 {
+    let forest = node.forest();
     forest.law_nodes_stand_once();
-    let Some(parent) = forest.parent(key) else {
+    let Some(above) = node.parent() else {
         return false;
     };
+    let parent = above.key();
     if let Some(matches) = answer_of(known, parent) {
         return matches;
     }
-    let matches = ancestors_match(forest, first, left, key);
+    let matches = ancestors_match(forest, first, left, node.key());
     *known = Some(Above { parent, matches });
     matches
 }
@@ -102,7 +133,7 @@ fn left_matches(node: &NodeAt, first: &Compound, left: &[Link], known: &mut Know
         return matches;
     }
     let matches = links_match(&parent, first, left)
-        || ancestor_matches(forest, first, left, key, &mut known.grandparent);
+        || ancestor_matches(&parent, first, left, &mut known.grandparent);
     known.parent = Some(Above {
         parent: key,
         matches,
@@ -122,24 +153,15 @@ fn parent_matches(node: &NodeAt, first: &Compound, left: &[Link]) -> bool
     }
 }
 
-/// Whether a node matches a complex selector, where what of its compound on the right is left to be tried is given. That is tried first,
-/// since most nodes fail there. Behind white space what is remembered is asked before the tree.
+/// Whether a node that matches the compound on the right of a complex selector matches the selector. Behind white space what is remembered
+/// is asked before the tree.
 #[inline(always)]
-pub(crate) fn matches_knowing(
-    node: &NodeAt,
-    complex: &Complex,
-    unasked: &[CompoundPart],
-    known: &mut Known,
-) -> bool
-    requires unasked { spec_compound_matches node.now.whole.trees (compound_view unasked.now) (name_here node.now) ≡
-        spec_compound_matches node.now.whole.trees (last_compound (complex_view complex.now)) (name_here node.now) }
+fn links_match_knowing(node: &NodeAt, complex: &Complex, known: &mut Known) -> bool
+    requires matches { spec_compound_matches node.now.whole.trees (last_compound (complex_view complex.now)) (name_here node.now) ≡ true }
     requires known { AreKnown node.now.whole (left_part (complex_view complex.now)) known.old }
     ensures value { result ≡ spec_complex_matches node.now.whole.trees (complex_view complex.now) (name_here node.now) }
     ensures known { AreKnown node.now.whole (left_part (complex_view complex.now)) known.new }
 {
-    if !element_matches(node, unasked) {
-        return false;
-    }
     let Some((link, left)) = complex.links.as_slice().split_last() else {
         return true;
     };
@@ -153,4 +175,23 @@ pub(crate) fn matches_knowing(
             node.key(),
         ),
     }
+}
+
+/// Whether a node matches a complex selector, where what of its compound on the right is left to be tried is given. That is tried first,
+/// since most nodes fail there.
+#[inline(always)]
+pub(crate) fn matches_knowing(
+    node: &NodeAt,
+    complex: &Complex,
+    unasked: &[CompoundPart],
+    known: &mut Known,
+) -> bool
+    requires unasked { spec_compound_matches node.now.whole.trees (compound_view unasked.now) (name_here node.now) ≡
+        spec_compound_matches node.now.whole.trees (last_compound (complex_view complex.now)) (name_here node.now) }
+    requires known { AreKnown node.now.whole (left_part (complex_view complex.now)) known.old }
+    ensures value { result ≡ spec_complex_matches node.now.whole.trees (complex_view complex.now) (name_here node.now) }
+    ensures known { AreKnown node.now.whole (left_part (complex_view complex.now)) known.new }
+{
+    element_matches(node, unasked)
+        && (complex.links.is_empty() || links_match_knowing(node, complex, known))
 }

@@ -39,7 +39,7 @@ fn has_asked(node: &NodeAt, asked: Asked) -> bool
 
 /// The first node that may have what these are signs of, and has what is asked for, behind one in the tree of a node `top`.
 #[inline(always)]
-fn next_with<'a>(
+pub(crate) fn next_with<'a>(
     forest: &Forest,
     top: Key,
     from: NodeAt<'a>,
@@ -66,33 +66,6 @@ fn next_with<'a>(
         at = node.following(top);
     }
     None
-}
-
-/// The first node that may have what these are signs of, and has what is asked for, behind one in the tree of a node `top`. What kind of
-/// thing is asked for is told once for all nodes that have it not.
-#[inline(always)]
-pub(crate) fn next_asked<'a>(
-    forest: &Forest,
-    top: Key,
-    from: NodeAt<'a>,
-    signs: Signs,
-    asked: Asked,
-) -> Option<NodeAt<'a>>
-    requires top { IsNode forest.now top }
-    requires same { from.whole ≡ forest.now }
-    requires stands { StandsIn forest.now top from.key }
-    ensures same { ForSome result (λ n. n.whole ≡ forest.now) }
-    ensures stands { ForSome (key_in result) (StandsIn forest.now top) }
-    ensures has { ForSome (key_in result) (λ k. spec_has_asked forest.now.trees (name_of forest.now k) asked.entry ≡ true) }
-    ensures passed { (test : NodeName → Bool) → ((x : NodeName) → test x ≡ true → Shows forest.now.trees x signs.bits) →
-        ((x : NodeName) → test x ≡ true → spec_has_asked forest.now.trees x asked.entry ≡ true) →
-        filter test (nodes_from forest.now top result) ≡ filter test (nodes_behind forest.now top from.entry.key) }
-    ensures shorter { length (nodes_from forest.now top result) ≤ length (nodes_behind forest.now top from.entry.key) }
-{
-    match asked {
-        Asked::Nothing => next_with(forest, top, from, signs, Asked::Nothing),
-        Asked::Name(name) => next_with(forest, top, from, signs, Asked::Name(name)),
-    }
 }
 
 /// Whether the same local name is asked for.

@@ -1,18 +1,20 @@
-//! Queries for an ID: where one node alone may have it, no tree is walked.
-ghost use Rattle.std.specs.Prelude.{◌≡◌, ◌&&◌, true, map, IfOk, IfSome, All};
+//! Queries for IDs: where one node alone may match, no tree is walked.
+ghost use Rattle.std.specs.Prelude.{◌≡◌, ◌&&◌, ℕ, Some, true, false, map, IfOk, IfSome, All};
+ghost use Rattle.std.specs.Option.{ForSome};
 ghost use Rattle.dom_base.specs.declared.NodeName.{NodeName as Name};
 ghost use Rattle.dom_model.specs.Names.{name_eq, is_in};
 ghost use Rattle.dom_model.specs.Tree.{Trees as TreesOf, descendants};
-ghost use Rattle.dom_model.specs.Selectors.{compound_matches as spec_compound_matches, part_matches as spec_part_matches};
-ghost use Rattle.dom_model.specs.Selectors.{simple_matches as spec_simple_matches};
+ghost use Rattle.dom_model.specs.Selectors.{complex_matches as spec_complex_matches, compound_matches as spec_compound_matches};
+ghost use Rattle.dom_model.specs.Selectors.{part_matches as spec_part_matches, simple_matches as spec_simple_matches};
 ghost use Rattle.dom_model.specs.Selectors.{selector_matches, query_all as spec_query_all};
 ghost use Rattle.dom_tree.specs.Forest.{IsNode, name_of};
-ghost use Rattle.dom_tree.specs.Ids.{HasId};
+ghost use Rattle.dom_tree.specs.Ids.{HasId, MayBear};
 ghost use Rattle.dom_tree.specs.Owners.{AreOwned};
-ghost use Rattle.dom_selectors.specs.Views.{compound_view, part_view, simple_view, selector_view};
+ghost use Rattle.dom_selectors.specs.Views.{complex_view, compound_view, part_view, simple_view, selector_view};
 
 use crate::joined::last_of_complex;
-use crate::selector::{CompoundPart, Selector, Simple};
+use crate::selector::{Complex, CompoundPart, Selector, Simple};
+use dom_base::Owner;
 use dom_tree::{Forest, law_reads_are_own};
 use node_arena::Key;
 use std::alloc::{AllocError, Global};
@@ -49,20 +51,51 @@ fn id_among(parts: &[CompoundPart]) -> Option<&[u16]>
     None
 }
 
-impl Selector {
-    /// An ID that each node which matches has, if this is one complex selector, and its compound on the right asks for an ID.
-    fn asked_id(&self) -> Option<&[u16]>
-        ensures { IfSome result (λ id. (ts : TreesOf) (x : Name) → selector_matches ts (selector_view self.now) x ≡ true → HasId ts x id.now) }
-    {
-        match self.complexes.as_slice() {
-            [complex] => id_among(last_of_complex(complex).parts.as_slice()),
-            _ => None,
-        }
-    }
+/// An ID that each node has which matches a complex selector, if its compound on the right asks for one.
+#[tactic(auto, using(crate::proofs::IdQueries::last_matches))]
+fn id_asked(complex: &Complex) -> Option<&[u16]>
+    ensures { IfSome result (λ id. (ts : TreesOf) (x : Name) → spec_complex_matches ts (complex_view complex.now) x ≡ true → HasId ts x id.now) }
+{
+    id_among(last_of_complex(complex).parts.as_slice())
+}
 
+/// Whether a node is another one than that which was found, if one was.
+fn is_another(found: Option<Key>, key: Key) -> bool
+    ensures { result ≡ false → ForSome found (λ k. k ≡ key) }
+{
+    match found {
+        Some(other) => other != key,
+        None => false,
+    }
+}
+
+/// The only node of an owner that may match some of these complex selectors, if any may; nothing where it is not known. It is known where
+/// the compound on the right of each asks for an ID, and no two nodes may have some of these.
+fn only_matching(forest: &Forest, owner: Owner, complexes: &[Complex]) -> Option<Option<Key>>
+    ensures kept { (k : ℕ) → IsNode forest.now k → (name_of forest.now k).owner ≡ owner →
+        selector_matches forest.now.trees (map complex_view complexes.now) (name_of forest.now k) ≡ true → MayBear result k }
+    ensures node { (k : ℕ) → result ≡ Some (Some k) → IsNode forest.now k }
+{
+    let mut only = None;
+    let mut rest = complexes;
+    while let [complex, others @ ..] = rest {
+        let id = id_asked(complex)?;
+        if let Some(key) = forest.only_bearer(owner, id)? {
+            if is_another(only, key) {
+                return None;
+            }
+            only = Some(key);
+        }
+        rest = others;
+    }
+    Some(only)
+}
+
+impl Selector {
     /// What `query_all` says, where each node has the owner of its root: the proper descendants of a node that match a selector, in
-    /// tree order (DOM Standard, querySelectorAll()). If each that matches has to have one ID, and one node alone may have it, then
-    /// this one is looked at, and the tree is not walked (own rule). It is refused where memory for the answer is refused.
+    /// tree order (DOM Standard, querySelectorAll()). If each complex selector asks for an ID, and one node alone may
+    /// have some of these, then this one is looked at, and the tree is not walked (own rule). It is refused where memory for the answer is
+    /// refused.
     pub fn query(&self, alloc: Global, forest: &Forest, top: Key) -> Result<Vec<Key>, AllocError>
         requires node { IsNode forest.now top }
         requires owned { AreOwned forest.now.trees }
@@ -70,12 +103,9 @@ impl Selector {
             (name_of forest.now top)) }
         ensures nodes { IfOk result (λ keys. All (IsNode forest.now) keys.items) }
     {
-        let Some(id) = self.asked_id() else {
-            return self.query_all(alloc, forest, top);
-        };
         law_reads_are_own();
         forest.law_nodes_stand_once();
-        match forest.only_bearer(forest.name(top).owner, id) {
+        match only_matching(forest, forest.name(top).owner, self.complexes.as_slice()) {
             Some(None) => Ok(Vec::new(alloc)),
             Some(Some(key)) => self.query_one(alloc, forest, top, key),
             None => self.query_all(alloc, forest, top),

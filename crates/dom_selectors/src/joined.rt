@@ -11,7 +11,7 @@ ghost use Rattle.dom_selectors.specs.Search.{SegmentEnds, SegmentIsAbove, StopsA
 ghost use Rattle.dom_selectors.specs.Views.{complex_from, complex_view};
 
 use crate::chain::{Place, chain_before, chain_end, last_matches, last_of};
-use crate::matching::compound_matches;
+use crate::matching::parts_match;
 use crate::selector::{Combinator, Complex, Compound, Link};
 use dom_tree::{Forest, NodeAt};
 use node_arena::Key;
@@ -141,13 +141,22 @@ pub(crate) fn segments_match(forest: &Forest, first: &Compound, links: &[Link], 
     }
 }
 
-/// Whether a node matches these links behind the first compound. The compound on the right is tried first, since most nodes fail there.
+/// Whether a node matches these links behind the first compound, where it may have the signs of the compound on the right. That one is
+/// tried first, since most nodes fail there.
 #[inline(never)]
+fn shown_links_match(node: &NodeAt, first: &Compound, links: &[Link]) -> bool
+    ensures { result ≡ spec_complex_matches node.now.whole.trees (complex_from first.now links.now) (name_here node.now) }
+{
+    parts_match(node, last_of(first, links).parts.as_slice())
+        && (links.is_empty() || segments_match(node.forest(), first, links, node.key()))
+}
+
+/// Whether a node matches these links behind the first compound. Most that do not are seen by the signs of the compound on the right.
+#[inline(always)]
 pub(crate) fn links_match(node: &NodeAt, first: &Compound, links: &[Link]) -> bool
     ensures { result ≡ spec_complex_matches node.now.whole.trees (complex_from first.now links.now) (name_here node.now) }
 {
-    compound_matches(node, last_of(first, links))
-        && (links.is_empty() || segments_match(node.forest(), first, links, node.key()))
+    node.may_have(last_of(first, links).signs()) && shown_links_match(node, first, links)
 }
 
 /// The compound on the right of a complex selector.

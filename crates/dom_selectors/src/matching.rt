@@ -87,7 +87,14 @@ fn simples_match(node: &NodeAt, simples: &Simples) -> bool
 fn all_simple_match(node: &NodeAt, simples: &[Simple]) -> bool
     ensures { result ≡ list_all (λ s. spec_simple_matches node.now.whole.trees (name_here node.now) (simple_view s)) simples.now }
 {
-    simples.iter().all(|s| simple_matches(node, s))
+    let mut rest = simples;
+    while let [simple, others @ ..] = rest {
+        if !simple_matches(node, simple) {
+            return false;
+        }
+        rest = others;
+    }
+    true
 }
 
 /// Whether an element matches a part of a compound.
@@ -127,7 +134,7 @@ pub(crate) fn element_matches(node: &NodeAt, parts: &[CompoundPart]) -> bool
 /// Whether a node is an element that matches the parts of a compound. The local name comes first where one is asked for, and what is one
 /// simple selector alone is tried without a walk over parts.
 #[inline(always)]
-fn parts_match(node: &NodeAt, parts: &[CompoundPart]) -> bool
+pub(crate) fn parts_match(node: &NodeAt, parts: &[CompoundPart]) -> bool
     ensures { result ≡ spec_compound_matches node.now.whole.trees (compound_view parts.now) (name_here node.now) }
 {
     match parts {

@@ -1,13 +1,13 @@
 //! Matches and queries.
-ghost use Rattle.std.specs.Prelude.{◌≡◌, map, IfOk, All};
+ghost use Rattle.std.specs.Prelude.{◌≡◌, ◌++◌, ◌∷◌, [], true, false, map, IfOk, OnOk, All};
 ghost use Rattle.dom_model.specs.Selectors.{selector_matches, query_all as spec_query_all};
 ghost use Rattle.dom_tree.specs.Forest.{IsNode, name_of};
 ghost use Rattle.dom_tree.specs.Spots.{name_here};
-ghost use Rattle.dom_selectors.specs.Known.{IsFirstLeft, IsKnownOfFirst};
+ghost use Rattle.dom_selectors.specs.Known.{IsFirstLeft, IsKnownOfFirst, SelectorAsks};
 ghost use Rattle.dom_selectors.specs.Views.{complex_view, selector_view};
 
-use crate::above::{Known, matches_knowing};
-use crate::asking::{first_unasked, next_asked};
+use crate::above::{Known, fails_below, is_behind_space, matches_knowing};
+use crate::asking::{Asked, first_unasked, next_with};
 use crate::joined::links_match;
 use crate::selector::{Complex, CompoundPart, Selector};
 use dom_tree::{Forest, NodeAt};
@@ -15,7 +15,7 @@ use node_arena::Key;
 use std::alloc::{AllocError, Global};
 
 /// Whether a node matches some of these complex selectors.
-#[inline(always)]
+#[inline(never)]
 fn some_complex_matches(node: &NodeAt, complexes: &[Complex]) -> bool
     ensures { result ≡ selector_matches node.now.whole.trees (map complex_view complexes.now) (name_here node.now) }
 {
@@ -27,6 +27,18 @@ fn some_complex_matches(node: &NodeAt, complexes: &[Complex]) -> bool
         rest = others;
     }
     false
+}
+
+/// Whether what is remembered says that a node does not match, without a look at the node itself.
+#[inline(always)]
+fn is_known_to_fail(node: &NodeAt, complexes: &[Complex], known: &Known) -> bool
+    requires { IsKnownOfFirst node.now.whole complexes.now known.now }
+    ensures { result ≡ true → selector_matches node.now.whole.trees (map complex_view complexes.now) (name_here node.now) ≡ false }
+{
+    match complexes {
+        [complex] => fails_below(node, known) && is_behind_space(complex),
+        _ => false,
+    }
 }
 
 /// Whether a node matches some of these complex selectors, where what of the compound on the right of the first one is left to be tried is
@@ -43,12 +55,25 @@ fn some_matches(
     ensures value { result ≡ selector_matches node.now.whole.trees (map complex_view complexes.now) (name_here node.now) }
     ensures known { IsKnownOfFirst node.now.whole complexes.now known.new }
 {
+    if is_known_to_fail(node, complexes, known) {
+        return false;
+    }
     match complexes {
         [first, others @ ..] => {
-            matches_knowing(node, first, unasked, known) || some_complex_matches(node, others)
+            matches_knowing(node, first, unasked, known)
+                || !others.is_empty() && some_complex_matches(node, others)
         }
         [] => false,
     }
+}
+
+/// Takes a node among those found.
+#[inline(never)]
+fn take(found: &mut Vec<Key>, key: Key) -> Result<(), AllocError>
+    ensures { OnOk result (found.new.items ≡ found.old.items ++ key ∷ []) }
+{
+    found.push(key)?;
+    Ok(())
 }
 
 impl Selector {
@@ -64,6 +89,7 @@ impl Selector {
     /// The proper descendants of a node that match a selector, in tree order; nodes above it count for matching (DOM
     /// Standard, querySelectorAll()). The tree below the node is walked once, by its links. It is refused where memory
     /// for the answer is refused.
+    #[inline(never)]
     pub fn query_all(
         &self,
         alloc: Global,
@@ -75,19 +101,40 @@ impl Selector {
             (name_of forest.now top)) }
         ensures nodes { IfOk result (λ keys. All (IsNode forest.now) keys.items) }
     {
+        match self.asked() {
+            Asked::Nothing => self.query_asking(alloc, forest, top, Asked::Nothing),
+            Asked::Name(name) => self.query_asking(alloc, forest, top, Asked::Name(name)),
+        }
+    }
+
+    /// What `query_all` says, where each node that matches has what is asked for. It is in line, so that what kind of thing is asked for is
+    /// told once for all nodes.
+    #[inline(always)]
+    fn query_asking(
+        &self,
+        alloc: Global,
+        forest: &Forest,
+        top: Key,
+        asked: Asked,
+    ) -> Result<Vec<Key>, AllocError>
+        requires node { IsNode forest.now top }
+        requires asks { SelectorAsks (selector_view self.now) asked }
+        ensures found { IfOk result (λ keys. map (name_of forest.now) keys.items ≡ spec_query_all forest.now.trees (selector_view self.now)
+            (name_of forest.now top)) }
+        ensures nodes { IfOk result (λ keys. All (IsNode forest.now) keys.items) }
+    {
         forest.law_nodes_stand_once();
         let complexes = self.complexes.as_slice();
         let signs = self.signs();
-        let asked = self.asked();
         let unasked = first_unasked(complexes, asked);
         let mut known = Known::nothing();
         let mut found = Vec::new(alloc);
-        let mut at = next_asked(forest, top, forest.at(top), signs, asked);
+        let mut at = next_with(forest, top, forest.at(top), signs, asked);
         while let Some(node) = at {
             if some_matches(&node, complexes, unasked, &mut known) {
-                found.push(node.key())?;
+                take(&mut found, node.key())?;
             }
-            at = next_asked(forest, top, node, signs, asked);
+            at = next_with(forest, top, node, signs, asked);
         }
         Ok(found)
     }

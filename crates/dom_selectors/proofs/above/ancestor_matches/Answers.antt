@@ -1,28 +1,32 @@
 -- The ancestors of a node are its parent and those above it.
 use Rattle.dom_selectors.proofs.Cited.{Some, None, ap, sym, ◌∙◌, list_any, complex_matches, complex_from}
 use Rattle.dom_selectors.proofs.JoinedLaws.{above_step}
-use Rattle.dom_selectors.proofs.Remembered.{found_known, remembered}
+use Rattle.dom_selectors.proofs.Remembered.{found_known, remembered, some_from}
 use Rattle.dom_selectors.proofs.above.ancestor_matches.Goals as goal
 
 pub returns-in_default-clause-value : goal.returns-in_default-clause-value
 returns-in_default-clause-value c =
-    let e = c.law_nodes_stand_once.ensures in
-    sym (ap (list_any (complex_matches c.args.forest.now.trees (complex_from c.args.first.now c.args.left.now)))
-    (above_step c.args.forest.now e.once e.only c.args.key None c.in_default.ensures.value))
+    let f = c.args.node.now.whole in
+    let e = rw c.forest-forest.ensures at c.law_nodes_stand_once.ensures in
+    sym (ap (list_any (complex_matches f.trees (complex_from c.args.first.now c.args.left.now)))
+    (above_step f e.once e.only c.args.node.now.key None c.in_default.ensures.value))
 
 pub returns-in-Some-answer_of-clause-value : goal.returns-in-Some-answer_of-clause-value
 returns-in-Some-answer_of-clause-value c =
-    let f = c.args.forest.now in
-    let e = c.law_nodes_stand_once.ensures in
+    let f = c.args.node.now.whole in
+    let e = rw c.forest-forest.ensures at c.law_nodes_stand_once.ensures in
     let d = complex_from c.args.first.now c.args.left.now in
-    remembered f d c.args.known.now c.in-Some.parent c.requires.known
+    remembered f d c.args.known.now c.key-parent.result c.requires
     (c.answer_of.ensures c.in-Some-answer_of.matches c.in-Some-answer_of.is)
-    ∙ sym (ap (list_any (complex_matches f.trees d)) (above_step f e.once e.only c.args.key (Some c.in-Some.parent) c.in-Some.ensures.value))
+    ∙ ap (some_from f d) c.key-parent.ensures.value
+    ∙ sym (ap (list_any (complex_matches f.trees d)) (above_step f e.once e.only c.args.node.now.key (Some c.in-Some.above.key) c.in-Some.ensures.value))
 
 pub returns-clause-known : goal.returns-clause-known
 returns-clause-known c =
-    let f = c.args.forest.now in
-    let e = c.law_nodes_stand_once.ensures in
+    let f = c.args.node.now.whole in
+    let e = rw c.forest-forest.ensures at c.law_nodes_stand_once.ensures in
     let d = complex_from c.args.first.now c.args.left.now in
-    found_known f d (record { parent = c.in-Some.parent; matches = c.ancestors_match-matches.result }) (c.ancestors_match-matches.ensures
-    ∙ ap (list_any (complex_matches f.trees d)) (above_step f e.once e.only c.args.key (Some c.in-Some.parent) c.in-Some.ensures.value))
+    found_known f d (record { parent = c.key-parent.result; matches = c.ancestors_match-matches.result })
+    (rw (c.forest-forest.ensures, c.key.ensures.value) at c.ancestors_match-matches.ensures
+    ∙ ap (list_any (complex_matches f.trees d)) (above_step f e.once e.only c.args.node.now.key (Some c.in-Some.above.key) c.in-Some.ensures.value)
+    ∙ ap (some_from f d) (sym c.key-parent.ensures.value))

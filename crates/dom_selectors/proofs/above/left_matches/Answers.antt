@@ -36,7 +36,7 @@ found c =
     elim c.if-links_match.branch [
       | then-links_match w ↦ w.matches-is ∙ w.if-links_match.true ∙ sym (or_left here above (sym tried ∙ w.if-links_match.true))
       | else-links_match w ↦
-          w.matches-is ∙ rw (c.forest-forest.ensures, c.key-key.ensures.value) at w.ancestor_matches-matches.ensures.value
+          w.matches-is ∙ rw (c.in-Some.ensures.same c.in-Some.parent refl) at w.ancestor_matches-matches.ensures.value
           ∙ sym (ap (λ b. b || above) (sym tried ∙ w.if-links_match.false))
     ]
 
@@ -56,6 +56,7 @@ returns-clause-known c =
       elim c.if-links_match.branch [
         | then-links_match w ↦ subst (λ (k : Known). IsKnown f d k.grandparent) (sym w.known-is) c.requires.1
         | else-links_match w ↦ subst (λ (k : Known). IsKnown f d k.grandparent) (sym w.known-is)
-            (subst (λ (g : NamedTrees). IsKnown g d w.ancestor_matches-matches.new.known) c.forest-forest.ensures w.ancestor_matches-matches.ensures.known)
+            (subst (λ (g : NamedTrees). IsKnown g d w.ancestor_matches-matches.new.known) (c.in-Some.ensures.same c.in-Some.parent refl)
+            w.ancestor_matches-matches.ensures.known)
       ],
     )
