@@ -67,4 +67,6 @@ pub use Rattle.dom_worlds.proofs.TreeLemmas.{inside-no_ancestor, kids-absent, ki
 pub use Rattle.dom_worlds.proofs.TreeLemmas.{node-map_nodes, nodes-listed, nodes-named, nodes-then, nodes-with_node, read-all, root-below_none}
 pub use Rattle.dom_worlds.proofs.TreeLemmas.{roots-equal, roots-same, roots-there, self-above, times-has_node, times-map_nodes, nodes-step, NewHas}
 pub use Rattle.dom_worlds.proofs.WorldLemmas.{each-part, holds-world_after, IsKeptIn, root-alone}
+pub use Rattle.dom_worlds.proofs.PlanLemmas.{normalizing-needed}
 pub use Rattle.dom_worlds.specs.Definitions.{AllNodes, EndsIn, EndsWithin, HasBounds, HasEnds, HasTables, IsNodeIn, IsPart, IsShadowAt, IsWithin}
+pub use Rattle.dom_worlds.specs.Definitions.{needs_normalizing}

@@ -2,12 +2,14 @@
 use Rattle.dom_mutation.proofs.Cited.{◌≡◌, ℕ, suc, ◌<◌, ◌≤◌, inl, inr, Bool, true, false, List, [], ◌∷◌, ◌++◌, drop, length, map, Option, Some, None}
 use Rattle.dom_mutation.proofs.Cited.{option_map, refl, sym, ap, subst, ◌∙◌, arith, ◌==◌, filter, flat_map, take_while, if◌then◌else◌, AllByRecursion}
 use Rattle.dom_mutation.proofs.Cited.{ForSome, option_map_or, cases_Bool, cond-true, cond-false, or_left, map-append, append-nil, append_assoc}
-use Rattle.dom_mutation.proofs.Cited.{drop-append-le, filter-append, none-some, take_while-cons, NodeName, Owner, DomString, name_eq, first_of, is_empty, is_in}
+use Rattle.dom_mutation.proofs.Cited.{drop-append-le, filter-append, none-some, take_while-cons, NodeName, Owner, DomString, name_eq, first_of}
+use Rattle.dom_mutation.proofs.Cited.{is_empty, is_in}
 use Rattle.dom_mutation.proofs.Cited.{Step, items_before, items_after, Trees, kind_of, is_text, node_in, length_of, siblings, parent_of}
 use Rattle.dom_mutation.proofs.Cited.{from_next, from_sibling, next_sibling, has_node, has_node-times, is_inclusive_ancestor, inclusive_ancestors}
 use Rattle.dom_mutation.proofs.Cited.{observed, remove_plan, contiguous_texts_after, joining, normalizing_text, name_eq-same, name_at, DocState}
 use Rattle.dom_mutation.proofs.Cited.{planned, name_in, owner_in, trees_in, IsOwnNode, Once, once_subtree, first_inside, self-above}
-use Rattle.dom_mutation.proofs.Cited.{inclusive_descendants, part_of, subtree, world_after, NoTwice, names_once, walked, StandsIn, left, Walks, walks}
+use Rattle.dom_mutation.proofs.Cited.{◌&&◌, not, is_some, by_cases, needs_normalizing, inclusive_descendants, part_of, subtree, world_after, NoTwice}
+use Rattle.dom_mutation.proofs.Cited.{names_once, walked, StandsIn, left, Walks, walks}
 use Rattle.dom_tree.proofs.Owned.{read_own, stays_own}
 use Rattle.dom_tree.specs.Definitions.{AreOwned, NamedTrees, trees_of_owner}
 use Rattle.dom_mutation.proofs.Placed.{Counted, once_in}
@@ -79,6 +81,13 @@ pub text_next : (ts : Trees) (x y : NodeName) (b : Bool) → next_sibling ts x �
     (if b then Some y else None) ≡ first_of (contiguous_texts_after ts x)
 text_next ts x y b next kind = sym (first_while (λ y. is_text (kind_of ts y)) (items_after name_eq x (siblings ts x)) y next ∙
     ap (λ t. if t then Some y else None) kind)
+
+-- one is found where there is one
+pub some_first : (f : ℕ → NodeName) (o : Option ℕ) (zs : List NodeName) → option_map f o ≡ first_of zs → is_some o ≡ not (is_empty zs)
+some_first f None [] e = refl
+some_first f None (z ∷ zs) e = absurd (none-some z e)
+some_first f (Some k) [] e = absurd (none-some (f k) (sym e))
+some_first f (Some k) (z ∷ zs) e = refl
 
 -- how far the loop has come that lists them
 pub record Follows (d : DocState) (node : ℕ) (keys : List ℕ) (at : Option ℕ) : Type 0 where
@@ -168,8 +177,12 @@ module _ (d : DocState) (node : ℕ) where
 abbrev pub below_of : DocState → ℕ → List NodeName
 below_of d top = inclusive_descendants (trees_in d top) (name_in d top)
 
+-- those Texts that normalization changes
+abbrev pub is_needed : Trees → NodeName → Bool
+is_needed ts y = is_text (kind_of ts y) && needs_normalizing ts y
+
 abbrev pub texts_in : DocState → ℕ → List NodeName → List NodeName
-texts_in d top xs = filter (λ y. is_text (kind_of (trees_in d top) y)) xs
+texts_in d top xs = filter (is_needed (trees_in d top)) xs
 
 -- what the forest finds of an owner's nodes is so in the owner's trees
 module _ (d : DocState) (f : NamedTrees) (names : f.names ≡ d.names) (trees : (o : Owner) → trees_of_owner o f.trees ≡ (part_of d.world o).trees)
@@ -257,7 +270,7 @@ module _ (d : DocState) (counted : Counted d) (top : ℕ) (keys : List ℕ) (at 
   more : texts_in d top (drop 1 (walked xs (option_map (name_in d) next))) ≡ map (name_in d) keys ++ texts_in d top (y ∷ [])
   more =
       ap (λ zs. texts_in d top (drop 1 zs)) walk.more ∙ ap (texts_in d top) (drop-append-le 1 (items_before name_eq y xs) (y ∷ []) some_before)
-      ∙ filter-append (λ y. is_text (kind_of (trees_in d top) y)) (drop 1 (items_before name_eq y xs)) (y ∷ []) ∙
+      ∙ filter-append (is_needed (trees_in d top)) (drop 1 (items_before name_eq y xs)) (y ∷ []) ∙
       ap (λ zs. zs ++ texts_in d top (y ∷ [])) (sym before)
 
   longer : 1 ≤ length (walked xs (option_map (name_in d) next))
@@ -265,29 +278,45 @@ module _ (d : DocState) (counted : Counted d) (top : ℕ) (keys : List ℕ) (at 
       subst (λ (zs : List NodeName). 1 ≤ length zs) (sym walk.more)
       (let size = Rattle.std.proofs.lemmas.List.length_push (items_before name_eq y xs) y in omega (arith, size))
 
-  own_kind : kind_of (trees_in d k) y ≡ kind_of (trees_in d top) y
-  own_kind = ap (λ o. kind_of (part_of d.world o).trees y) (gathers.here k is).1
+  own_test : is_needed (trees_in d k) y ≡ is_needed (trees_in d top) y
+  own_test = ap (λ o. is_needed (part_of d.world o).trees y) (gathers.here k is).1
 
-  pub gathers_text : true ≡ is_text (kind_of (trees_in d k) y) → Gathers d top (keys ++ k ∷ []) next
-  gathers_text text = record {
+  gathers_needed : is_needed (trees_in d k) y ≡ true → Gathers d top (keys ++ k ∷ []) next
+  gathers_needed needed = record {
     listed = map-append (name_in d) keys (k ∷ []) ∙
         ap (λ zs. map (name_in d) keys ++ zs)
-        (sym (cond-true (is_text (kind_of (trees_in d top) y)) (y ∷ []) [] (ap is_text (sym own_kind) ∙ sym text))) ∙ sym more;
+        (sym (cond-true (is_needed (trees_in d top) y) (y ∷ []) [] (sym own_test ∙ needed))) ∙ sym more;
     stands = walk.stands;
     some = longer;
     nodes = all_push (IsOwnNode d top) keys k gathers.nodes (gathers.here k is);
     here = near;
   }
 
-  pub gathers_other : false ≡ is_text (kind_of (trees_in d k) y) → Gathers d top keys next
-  gathers_other text = record {
+  gathers_not : is_needed (trees_in d k) y ≡ false → Gathers d top keys next
+  gathers_not other = record {
     listed = sym (more ∙ ap (λ zs. map (name_in d) keys ++ zs)
-        (cond-false (is_text (kind_of (trees_in d top) y)) (y ∷ []) [] (ap is_text (sym own_kind) ∙ sym text)) ∙ append-nil (map (name_in d) keys));
+        (cond-false (is_needed (trees_in d top) y) (y ∷ []) [] (sym own_test ∙ other)) ∙ append-nil (map (name_in d) keys));
     stands = walk.stands;
     some = longer;
     nodes = gathers.nodes;
     here = near;
   }
+
+  -- of a Text
+  pub gathers_text : {now : List ℕ} → true ≡ is_text (kind_of (trees_in d k) y) →
+      now ≡ keys ++ (if needs_normalizing (trees_in d k) y then k ∷ [] else []) → Gathers d top now next
+  gathers_text text listed =
+      by_cases (needs_normalizing (trees_in d k) y)
+      (λ e. subst (λ (ks : List ℕ). Gathers d top ks next)
+      (sym (listed ∙ ap (λ (ks : List ℕ). keys ++ ks) (cond-true (needs_normalizing (trees_in d k) y) (k ∷ []) [] e)))
+      (gathers_needed (ap (λ b. b && needs_normalizing (trees_in d k) y) (sym text) ∙ e)))
+      (λ e. subst (λ (ks : List ℕ). Gathers d top ks next)
+      (sym (listed ∙ ap (λ (ks : List ℕ). keys ++ ks) (cond-false (needs_normalizing (trees_in d k) y) (k ∷ []) [] e) ∙ append-nil keys))
+      (gathers_not (ap (λ b. b && needs_normalizing (trees_in d k) y) (sym text) ∙ e)))
+
+  -- of another node
+  pub gathers_other : false ≡ is_text (kind_of (trees_in d k) y) → Gathers d top keys next
+  gathers_other text = gathers_not (ap (λ b. b && needs_normalizing (trees_in d k) y) (sym text))
 
   pub gathers_fewer : left xs (option_map (name_in d) next) < left xs (option_map (name_in d) at)
   gathers_fewer = subst (λ (o : Option ℕ). left xs (option_map (name_in d) next) < left xs (option_map (name_in d) o)) (sym is) walk.fewer

@@ -1,5 +1,5 @@
 //! Normalization (DOM Standard, normalize(); concept: contiguous exclusive Text nodes).
-ghost use Rattle.std.specs.Prelude.{◌≡◌, ◌≢◌, map, filter, flat_map, true, IfOk, OnOk, Some};
+ghost use Rattle.std.specs.Prelude.{◌≡◌, ◌≢◌, ◌&&◌, ◌++◌, ◌∷◌, [], map, filter, flat_map, true, IfOk, OnOk, Some, if◌then◌else◌};
 ghost use Rattle.std.specs.List.{AllByRecursion};
 ghost use Rattle.std.specs.Option.{option_map, ForSome};
 ghost use Rattle.dom_model.specs.Names.{first_of};
@@ -8,6 +8,7 @@ ghost use Rattle.dom_model.specs.Changes.{in_turn, observed, remove_plan};
 ghost use Rattle.dom_model.specs.TextChanges.{contiguous_texts_after, joining, normalizing_text};
 ghost use Rattle.dom_model.specs.World.{part_of};
 ghost use Rattle.dom_worlds.specs.Bounds.{HasBounds};
+ghost use Rattle.dom_worlds.specs.Texts.{needs_normalizing};
 ghost use Rattle.dom_base.specs.declared.Owner.{Owner as OwnerOf};
 ghost use Rattle.dom_tree.specs.Owners.{trees_of_owner, AreOwned};
 ghost use Rattle.dom_tree.specs.Spots.{name_here};
@@ -164,23 +165,25 @@ fn is_text(parts: &Parts, node: Key) -> bool
     matches!(parts.kind(node), Kind::Text)
 }
 
-/// The Texts below a node, in tree order.
-pub(crate) fn texts_below(parts: &Parts, top: Key) -> Result<SmallVec<Key, 64>, AllocError>
+/// The Texts below a node that normalization changes, in tree order.
+pub(crate) fn texts_below(parts: &Parts, top: Key) -> Result<SmallVec<Key, 8>, AllocError>
     requires { HoldsNode parts.now top }
-    ensures names { IfOk result (λ keys. map (name_in parts.now) keys.items ≡ filter (λ y. is_text (kind_of (trees_in parts.now top) y))
+    ensures names { IfOk result (λ keys. map (name_in parts.now) keys.items ≡ filter
+        (λ y. is_text (kind_of (trees_in parts.now top) y) && needs_normalizing (trees_in parts.now top) y)
         (descendants (trees_in parts.now top) (name_in parts.now top))) }
     ensures nodes { IfOk result (λ keys. AllByRecursion (IsOwnNode parts.now top) keys.items) }
 {
     texts_in(parts, parts.forest(), top)
 }
 
-/// The Texts below a node, in tree order, where the forest is given.
-fn texts_in(parts: &Parts, forest: &Forest, top: Key) -> Result<SmallVec<Key, 64>, AllocError>
+/// The Texts below a node that normalization changes, in tree order, where the forest is given.
+fn texts_in(parts: &Parts, forest: &Forest, top: Key) -> Result<SmallVec<Key, 8>, AllocError>
     requires top_is_node { HoldsNode parts.now top }
     requires names { forest.now.names ≡ parts.now.names }
     requires trees { (o : OwnerOf) → trees_of_owner o forest.now.trees ≡ (part_of parts.now.world o).trees }
     requires owned { AreOwned forest.now.trees }
-    ensures names { IfOk result (λ keys. map (name_in parts.now) keys.items ≡ filter (λ y. is_text (kind_of (trees_in parts.now top) y))
+    ensures names { IfOk result (λ keys. map (name_in parts.now) keys.items ≡ filter
+        (λ y. is_text (kind_of (trees_in parts.now top) y) && needs_normalizing (trees_in parts.now top) y)
         (descendants (trees_in parts.now top) (name_in parts.now top))) }
     ensures nodes { IfOk result (λ keys. AllByRecursion (IsOwnNode parts.now top) keys.items) }
 {
@@ -189,11 +192,36 @@ fn texts_in(parts: &Parts, forest: &Forest, top: Key) -> Result<SmallVec<Key, 64
     let mut at = forest.at(top).following(top);
     while let Some(node) = at {
         if is_text_at(&node) {
-            keys.push(node.key())?;
+            list_needed(parts, &mut keys, node.key())?;
         }
         at = node.following(top);
     }
     Ok(keys)
+}
+
+/// A Text is listed where normalization changes it.
+#[inline(always)]
+fn list_needed(parts: &Parts, keys: &mut SmallVec<Key, 8>, text: Key) -> Result<(), AllocError>
+    requires { HoldsNode parts.now text }
+    ensures { OnOk result (keys.new.items ≡ keys.old.items ++
+        (if needs_normalizing (trees_in parts.now text) (name_in parts.now text) then text ∷ [] else [])) }
+{
+    if needs_normalizing(parts, text) {
+        keys.push(text)?;
+    }
+    Ok(())
+}
+
+/// Whether a Text has no data, or a Text directly behind it.
+#[inline(always)]
+fn needs_normalizing(parts: &Parts, text: Key) -> bool
+    requires { HoldsNode parts.now text }
+    ensures { result ≡ needs_normalizing (trees_in parts.now text) (name_in parts.now text) }
+{
+    if parts.text(text).is_empty() {
+        return true;
+    }
+    text_after(parts, text).is_some()
 }
 
 /// Whether a node is a Text, where it lies.

@@ -1,7 +1,7 @@
 -- A walk along the children of a node.
-use Rattle.dom_range_ops.proofs.Cited.{◌≡◌, inl, ℕ, zero, suc, List, [], ◌∷◌, ◌++◌, drop, Option, Some, None, refl, sym, ap, subst, ◌∙◌, append_assoc}
-use Rattle.dom_range_ops.proofs.Cited.{option_map_or, NodeName, name_eq, first_of, items_after, Trees, children_of, next_sibling, parent-of_child}
-use Rattle.dom_range_ops.proofs.Cited.{children-single, In, In-right, Single, Single-apart, first_split, no_first, after-split, Has, Once}
+use Rattle.dom_range_ops.proofs.Cited.{◌≡◌, ◌<◌, ◌-◌, arith, inl, ℕ, zero, suc, List, [], ◌∷◌, ◌++◌, drop, Option, Some, None, refl, sym, ap, subst}
+use Rattle.dom_range_ops.proofs.Cited.{◌∙◌, append_assoc, option_map_or, NodeName, name_eq, first_of, items_after, Trees, children_of, next_sibling}
+use Rattle.dom_range_ops.proofs.Cited.{parent-of_child, children-single, In, In-right, Single, Single-apart, first_split, no_first, after-split, Has, Once}
 
 -- the walk has come to a child, behind which so many are left to pass
 pub record IsAtKid (ts : Trees) (p : NodeName) (index left : ℕ) (at : Option NodeName) : Type 0 where
@@ -11,14 +11,11 @@ pub record IsAtKid (ts : Trees) (p : NodeName) (index left : ℕ) (at : Option N
   pub first : at ≡ first_of back
   pub goal : drop index (children_of ts p) ≡ drop left back
 
--- the first child
-pub kid-first : (ts : Trees) (p : NodeName) (index : ℕ) (at : Option NodeName) → at ≡ first_of (children_of ts p) → IsAtKid ts p index index at
-kid-first ts p index at e = record { front = []; back = children_of ts p; kids = refl; first = e; goal = refl }
-
 -- the next one
-pub kid-next : {ts : Trees} {p x : NodeName} {index left : ℕ} {next : Option NodeName} → Once ts → Has ts p →
-    IsAtKid ts p index (suc left) (Some x) → next ≡ next_sibling ts x → IsAtKid ts p index left next
-kid-next {ts} {p} {x} {left} once h k e =
+pub kid-next : {ts : Trees} {p x : NodeName} {index left : ℕ} {next : Option NodeName} → Once ts → Has ts p → 0 < left →
+    IsAtKid ts p index left (Some x) → next ≡ next_sibling ts x → IsAtKid ts p index (left - 1) next
+kid-next {ts} {p} {x} {index} {left} once h some k e =
+    let more : left ≡ suc (left - 1) = omega arith in
     let s = first_split k.back x (sym k.first) in
     let whole : children_of ts p ≡ k.front ++ x ∷ s.0 = k.kids ∙ ap (λ xs. k.front ++ xs) s.1 in
     let up = parent-of_child ts p x once h (subst (In x) (sym whole) (In-right x k.front (x ∷ s.0) (inl refl))) in
@@ -29,12 +26,8 @@ kid-next {ts} {p} {x} {left} once h k e =
       kids = whole ∙ sym (append_assoc k.front (x ∷ []) s.0);
       first = e ∙ (ap (λ (o : Option NodeName). first_of (items_after name_eq x (option_map_or (children_of ts) o (x ∷ [])))) up.0 ∙
           ap (λ xs. first_of (items_after name_eq x xs)) whole ∙ ap first_of (after-split x k.front s.0 apart));
-      goal = k.goal ∙ ap (drop (suc left)) s.1;
+      goal = k.goal ∙ (ap (λ n. drop n k.back) more ∙ ap (drop (suc (left - 1))) s.1);
     }
-
--- nothing is left to pass
-pub kid-there : (ts : Trees) (p : NodeName) (index : ℕ) (at : Option NodeName) → IsAtKid ts p index 0 at → at ≡ first_of (drop index (children_of ts p))
-kid-there ts p index at k = k.first ∙ ap first_of (sym k.goal)
 
 -- there are no more
 pub kid-none : (ts : Trees) (p : NodeName) (index left : ℕ) → IsAtKid ts p index left None → None ≡ first_of (drop index (children_of ts p))

@@ -15,13 +15,13 @@ pub(crate) fn child_at(forest: &Forest, node: Key, index: usize) -> Option<Key>
     ensures node { ForSome result (IsNode forest.now) }
 {
     forest.law_nodes_stand_once();
-    let mut at = forest.first(node);
+    let mut at = forest.first(node)?;
     let mut left = index;
     while left > 0 {
-        at = forest.next(at?);
+        at = forest.next(at)?;
         left -= 1;
     }
-    at
+    Some(at)
 }
 
 /// Whether a node is the one found.

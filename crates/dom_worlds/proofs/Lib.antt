@@ -18,6 +18,8 @@ mod Chains
 mod Invariants
 mod Effects
 mod Placings
+mod Spared
+mod SparedPlans
 mod StepKeeps
 mod TreeChangeLaws
 mod PartSteps

@@ -19,3 +19,4 @@ pub use Rattle.dom_worlds.proofs.PartSteps.{Allowed, IsOwn, KeepsNames, attribut
 pub use Rattle.dom_worlds.proofs.PartSteps.{Asked, some-keeps}
 pub use Rattle.dom_worlds.proofs.TableSteps.{Fits, HasNode, MadeIn}
 pub use Rattle.dom_worlds.proofs.TableRecords.{IfSome, all-get, tables-after}
+pub use Rattle.dom_worlds.proofs.SparedPlans.{normalizing-needed}

@@ -7,4 +7,5 @@ pub mod Wholes
 pub mod Follows
 pub mod Sights
 pub mod Bounds
+pub mod Texts
 pub mod Definitions
