@@ -39,7 +39,11 @@ pub(crate) fn index_before_ends(
     ensures none { result ≡ None → (k : ℕ) (d : RangeEnd) → k < length ends.now →
         IsUpTo parent (index_of forest.now.trees (name_of forest.now child)) (point_of (slice_index_or ends.now k d)) }
 {
-    forest.index_below(child, reach(ends, parent))
+    let limit = reach(ends, parent);
+    if limit == 0 {
+        return None;
+    }
+    forest.index_below(child, limit)
 }
 
 /// The index of a child, or a lesser number that is greater than an offset. As many siblings as the offset are looked at, and one

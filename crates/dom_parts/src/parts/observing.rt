@@ -12,9 +12,10 @@ ghost use Rattle.dom_model.specs.CommandRefusals.{past_limit};
 ghost use Rattle.dom_observers.specs.Views.{words_of};
 ghost use Rattle.dom_parts.specs.Doc.{name_in, owner_in, change_in, notice_in, notices_of, NamesNodes, Makes, MakesSaying, HoldsNode};
 
+use super::settling::give_up_observers;
 use crate::Parts;
 use dom_base::{Fault, Owner};
-use dom_observers::{Observers, Options, Record};
+use dom_observers::{Options, Record};
 use node_arena::Key;
 use std::alloc::AllocError;
 
@@ -104,7 +105,7 @@ impl Parts {
         match self.observers.notify(owner) {
             Ok(notices) => Ok(notices),
             Err(error) => {
-                self.observers = Observers::new(self.alloc);
+                give_up_observers(&mut self.observers, self.alloc);
                 Err(error)
             }
         }

@@ -9,14 +9,16 @@ ghost use Rattle.dom_model.specs.Steps.{queue_record};
 ghost use Rattle.dom_observers.specs.Views.{change_of};
 ghost use Rattle.dom_parts.specs.Doc.{name_in, owner_in, trees_in, change_in, NamesNodes, AreNodes, IsNodeIf, stepped, HoldsNode};
 
+use super::settling::give_up_observers;
 use crate::Parts;
 use dom_base::DomStr;
-use dom_observers::{Change, Observers};
+use dom_observers::Change;
 use node_arena::Key;
 use std::alloc::AllocError;
 
 impl Parts {
     /// Queues a tree mutation record: observers are told that a node's children change (DOM Standard, queue a tree mutation record).
+    #[inline(always)]
     pub fn queue_tree_record(
         &mut self,
         target: Key,
@@ -38,6 +40,29 @@ impl Parts {
         if !watched {
             return Ok(());
         }
+        self.record_children(top, target, added, removed, prev, next)
+    }
+
+    /// The record of a change of a node's children goes to the observers that are interested in it, as `record` says.
+    #[inline(never)]
+    fn record_children(
+        &mut self,
+        top: Option<Key>,
+        target: Key,
+        added: &[Key],
+        removed: &[Key],
+        prev: Option<Key>,
+        next: Option<Key>,
+    ) -> Result<(), AllocError>
+        requires target_is_node { HoldsNode self.old target }
+        requires added_are_nodes { AreNodes self.old added.now }
+        requires removed_are_nodes { AreNodes self.old removed.now }
+        requires prev_is_node { IsNodeIf self.old prev }
+        requires next_is_node { IsNodeIf self.old next }
+        ensures { OnOk result (self.new ≡ stepped (owner_in self.old target)
+            (queue_record (child_list (name_in self.old target) (map (name_in self.old) added.now) (map (name_in self.old) removed.now)
+            (option_map (name_in self.old) prev) (option_map (name_in self.old) next))) self.old) }
+    {
         let alloc = self.alloc;
         let change = Change::ChildList {
             target,
@@ -143,7 +168,7 @@ impl Parts {
             Ok(true) => self.trees.queue.push_notify(owner),
             Ok(false) => Ok(()),
             Err(error) => {
-                self.observers = Observers::new(self.alloc);
+                give_up_observers(&mut self.observers, self.alloc);
                 Err(error)
             }
         }

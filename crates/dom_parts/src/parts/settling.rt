@@ -2,7 +2,9 @@
 ghost use Rattle.std.specs.Prelude.{◌≡◌, []};
 ghost use Rattle.dom_model.specs.Tree.{none};
 ghost use Rattle.dom_traversal.specs.Cursors.{cursors_of};
+ghost use Rattle.dom_base.specs.declared.Owner.{Owner as OwnerOf};
 ghost use Rattle.dom_observers.specs.Owners.{tables_of as observers_of};
+ghost use Rattle.dom_observers.specs.Tables.{no_tables};
 ghost use Rattle.dom_parts.specs.AllTables.{tables_with_trees, AreFirst, IsSettled};
 ghost use Rattle.dom_parts.specs.Doc.{nothing_left};
 
@@ -47,7 +49,9 @@ pub(super) fn settle(
     done
 }
 
-/// Gives everything up: there are no nodes then, and the page alone is there.
+/// Gives everything up: there are no nodes then, and the page alone is there. It is kept out of line, since a step clears the room of all that
+/// it may have to make, and makes none of this unless memory is refused.
+#[inline(never)]
 pub(super) fn give_up(
     trees: &mut NodeTrees,
     cursors: &mut Cursors,
@@ -62,4 +66,12 @@ pub(super) fn give_up(
     *cursors = Cursors::new(alloc);
     *observers = Observers::new(alloc);
     *ranges = RangeTable::new(alloc);
+}
+
+/// Takes all observers away, since memory for a record or a registration was refused. It is kept out of line, as `give_up` is.
+#[inline(never)]
+pub(super) fn give_up_observers(observers: &mut Observers, alloc: Global)
+    ensures { (o : OwnerOf) → observers_of observers.new o ≡ no_tables }
+{
+    *observers = Observers::new(alloc);
 }

@@ -10,10 +10,9 @@ ghost use Rattle.dom_model.specs.World.{part_of};
 ghost use Rattle.dom_worlds.specs.Bounds.{HasBounds};
 ghost use Rattle.dom_parts.specs.Doc.{name_in, owner_in, trees_in, stepped, planned, IsChild, IsOwnNode, MayCome, JoinsFit, HoldsNode};
 
-use super::settling::settle;
+use super::settling::{give_up_observers, settle};
 use crate::Parts;
 use dom_base::DomStr;
-use dom_observers::Observers;
 use dom_traversal::law_iterators_stay;
 use node_arena::Key;
 use std::alloc::{AllocError, Global};
@@ -83,7 +82,7 @@ impl Parts {
             unreachable!()
         };
         if let Err(error) = self.observers.transient(&self.trees.forest, parent, node) {
-            self.observers = Observers::new(self.alloc);
+            give_up_observers(&mut self.observers, self.alloc);
             return Err(error);
         }
         let owner = self.trees.forest.name(node).owner;

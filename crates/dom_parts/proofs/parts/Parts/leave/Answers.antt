@@ -23,7 +23,7 @@ unreachable-requires c =
 pub invariant_of-self : goal.invariant_of-self
 invariant_of-self c =
     let f = c.self.inside.trees.forest in
-    none_held f c.self.invariant c.self.view_is (name_at f.names c.args.node).owner (observers_of c.new.result) c.new.ensures
+    none_held f c.self.invariant c.self.view_is (name_at f.names c.args.node).owner (observers_of c.give_up_observers.new.observers) c.give_up_observers.ensures
 
 pub leave-requires-clause-iterators : goal.leave-requires-clause-iterators
 leave-requires-clause-iterators c k i e =

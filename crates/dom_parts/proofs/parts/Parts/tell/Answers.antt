@@ -24,7 +24,8 @@ invariant_of-self-in-Ok-false c =
 
 pub invariant_of-self-in-Err : goal.invariant_of-self-in-Err
 invariant_of-self-in-Err c =
-    none_held c.self.inside.trees.forest c.self.invariant c.self.view_is c.name-owner.result.owner (tables_of c.new.result) c.new.ensures
+    none_held c.self.inside.trees.forest c.self.invariant c.self.view_is c.name-owner.result.owner (tables_of c.give_up_observers.new.observers)
+    c.give_up_observers.ensures
 
 pub returns-in-Ok-true : goal.returns-in-Ok-true
 returns-in-Ok-true c =
