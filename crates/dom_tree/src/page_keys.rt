@@ -6,8 +6,8 @@ ghost use Rattle.dom_tree.specs.PageKeys.{page_keys, HasRoom};
 use node_arena::Key;
 use std::alloc::{AllocError, Global};
 
-/// The keys of the page's nodes. Those of the first of them are their own numbers, as long as no component has made a node: of these it is
-/// told how many they are. The others stand in a list.
+/// The keys of the page's nodes. The first are the nodes' own numbers, as long as no component has made a node: only their count is
+/// kept. The others stand in a list.
 #[derive(Drop)]
 pub(crate) struct PageKeys {
     first: u32,

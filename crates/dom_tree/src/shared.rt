@@ -16,7 +16,7 @@ pub(crate) struct Shared {
     pub(crate) element: RcStr,
 }
 
-/// What some nodes share, with the signs of such a node that has no attributes, which no node then asks for anew.
+/// What some nodes share, with the signs of such a node that has no attributes. Of the first few these are told once for all nodes.
 #[derive(Drop)]
 pub(crate) struct Kept {
     pub(crate) shared: Rc<Shared>,
