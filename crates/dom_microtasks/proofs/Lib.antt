@@ -2,3 +2,4 @@
 mod Counting
 mod Keeping
 mod Places
+mod Waiting

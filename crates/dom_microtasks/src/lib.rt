@@ -2,10 +2,11 @@
 //! observers, of which each owner has one queued at most (own rule). The first task in is the first out.
 #![tactic(auto)]
 
-ghost use Rattle.std.specs.Prelude.{◌≡◌, ◌++◌, ◌∷◌, [], drop, OnOk, OnErr};
+ghost use Rattle.std.specs.Prelude.{◌≡◌, ◌++◌, ◌∷◌, [], false, drop, OnOk, OnErr};
+ghost use Rattle.std.specs.List.{list_any};
 ghost use Rattle.std.specs.Option.{option_map};
 ghost use Rattle.dom_model.specs.Names.{first_of};
-ghost use Rattle.dom_model.specs.World.{micro_task, queued_notify};
+ghost use Rattle.dom_model.specs.World.{micro_task, is_notify_of, queued_notify};
 ghost use Rattle.dom_microtasks.specs.Tasks.{task_of};
 
 mod by_owner;
@@ -79,6 +80,7 @@ impl Queue {
     /// Queues an owner's notification behind all tasks, where it is not queued yet (DOM Standard, queue a mutation
     /// observer microtask; that each owner has its own is an own rule). It is found to be queued without a search. Where
     /// memory is refused, the queue is as it was.
+    #[inline(always)]
     pub fn push_notify(&mut self, owner: Owner) -> Result<(), AllocError>
         ensures ok { OnOk result (self.new ≡ queued_notify owner self.old) }
         ensures err { OnErr result (self.new ≡ self.old) }
@@ -86,6 +88,16 @@ impl Queue {
         if self.waiting.get(owner) != 0 {
             return Ok(());
         }
+        self.push_first_notify(owner)
+    }
+
+    /// Queues an owner's notification, which is not queued yet, behind all tasks, as `push_notify` says.
+    #[inline(never)]
+    fn push_first_notify(&mut self, owner: Owner) -> Result<(), AllocError>
+        requires { list_any (is_notify_of owner) self.old ≡ false }
+        ensures ok { OnOk result (self.new ≡ queued_notify owner self.old) }
+        ensures err { OnErr result (self.new ≡ self.old) }
+    {
         self.tasks.reserve(1)?;
         self.waiting.set(owner, 1)?;
         let _ = self.tasks.push_back(Task::Notify(owner));

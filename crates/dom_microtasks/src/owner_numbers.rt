@@ -32,6 +32,7 @@ impl OwnerNumbers {
     }
 
     /// The number of an owner.
+    #[inline(always)]
     pub(crate) fn get(&self, owner: Owner) -> usize
         ensures { result ≡ number_at self.now owner }
     {

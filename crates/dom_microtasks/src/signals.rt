@@ -1,6 +1,6 @@
 //! The signalled slots (DOM Standard, signal a slot change). That each owner's are taken apart from those of others is an own rule.
-ghost use Rattle.std.specs.Prelude.{◌≡◌, [], map, not, filter, OnOk, OnErr};
-ghost use Rattle.dom_model.specs.Names.{name_eq, append_once, node_of};
+ghost use Rattle.std.specs.Prelude.{◌≡◌, [], false, map, not, filter, OnOk, OnErr};
+ghost use Rattle.dom_model.specs.Names.{name_eq, is_in, append_once, node_of};
 ghost use Rattle.dom_model.specs.Turns.{is_owned_by};
 
 use crate::by_owner::ByOwner;
@@ -60,6 +60,7 @@ impl Signals {
 
     /// Signals a slot: it comes behind the others, where it is not among them (DOM Standard, signal a slot change). It is found
     /// without a search. Where memory is refused, they are as they were.
+    #[inline(always)]
     pub fn add(&mut self, slot: NodeName) -> Result<(), AllocError>
         ensures ok { OnOk result (self.new ≡ append_once name_eq self.old slot) }
         ensures err { OnErr result (self.new ≡ self.old) }
@@ -67,6 +68,16 @@ impl Signals {
         if self.own.has(slot) {
             return Ok(());
         }
+        self.add_new(slot)
+    }
+
+    /// Puts a slot that is not among them behind the others, as `add` says.
+    #[inline(never)]
+    fn add_new(&mut self, slot: NodeName) -> Result<(), AllocError>
+        requires { is_in name_eq slot self.old ≡ false }
+        ensures ok { OnOk result (self.new ≡ append_once name_eq self.old slot) }
+        ensures err { OnErr result (self.new ≡ self.old) }
+    {
         self.log.reserve(1)?;
         self.own.push(slot)?;
         let _ = self.log.push(slot);
