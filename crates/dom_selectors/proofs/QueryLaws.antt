@@ -4,16 +4,28 @@ use Rattle.dom_selectors.proofs.Cited.{none-some, NodeName, Trees, descendants, 
 use Rattle.dom_selectors.proofs.Cited.{top_places, has_asked, inl, inr, true≢false, or_cases, cases_Bool, compound_matches, complex_matches, selector_matches}
 use Rattle.dom_selectors.proofs.Cited.{last_compound, complex_view}
 use Rattle.dom_selectors.proofs.Chains.{not_last}
-use Rattle.dom_selectors.specs.Known.{CompoundAsks, IsFirstLeft, IsFirstUnasked, SelectorAsks}
+use Rattle.dom_selectors.proofs.Cited.{alone, joined}
+use Rattle.dom_model.specs.Selectors.{Complex as Joined}
+use Rattle.dom_selectors.specs.Known.{CompoundAsks, IsFirstLeft, IsFirstUnasked, IsKnownOf, SelectorAsks}
 use Rattle.dom_selectors.specs.declared.above.Known.{Known}
 use Rattle.dom_selectors.specs.declared.asking.Asked.{Asked}
 use Rattle.dom_selectors.specs.declared.selector.Complex.{Complex}
 use Rattle.dom_selectors.specs.declared.selector.CompoundPart.{CompoundPart}
 
--- at first nothing is remembered
-pub nothing_known : (f : NamedTrees) (cs : List Complex) (known : Known) → known.parent ≡ None → known.grandparent ≡ None → IsKnownOfFirst f cs known
-nothing_known f [] known e g = tt
-nothing_known f (c ∷ cs) known e g = (λ a h. absurd (none-some a (sym e ∙ h)), λ a h. absurd (none-some a (sym g ∙ h)))
+module _ (f : NamedTrees) (known : Known) (fails : known.failing ≡ None) (matches : known.matching ≡ None) (above : known.above ≡ None) where
+  -- nothing is remembered of a complex selector
+  nothing_of : (d : Joined) → IsKnownOf f d known
+  nothing_of (alone k) = fails
+  nothing_of (joined left how k) = record {
+    failing = λ j h. absurd (none-some j (sym fails ∙ h));
+    matching = λ j h. absurd (none-some j (sym matches ∙ h));
+    above = λ a h. absurd (none-some a (sym above ∙ h));
+  }
+
+  -- at first nothing is remembered
+  pub nothing_known : (cs : List Complex) → IsKnownOfFirst f cs known
+  nothing_known [] = tt
+  nothing_known (c ∷ cs) = nothing_of (complex_view c)
 
 module _ (asked : Asked) where
   -- what is left of a compound where a node has what is asked for

@@ -1,7 +1,7 @@
 -- What proofs cite of this crate's definitions.
 pub use Rattle.dom_selectors.specs.Grammar.{AreEach, double, Form, IsBracketed, IsCombinator, IsComplex, IsCompound, IsCompoundOf, IsLink, IsName, IsPart}
 pub use Rattle.dom_selectors.specs.Grammar.{IsQuoted, IsSelector, IsSimple, IsSpaced, IsSpaces, IsTested, IsType, IsValue, plain, sign, single}
-pub use Rattle.dom_selectors.specs.Known.{AreUnasked, has_asked, IsFirstLeft, IsFirstUnasked, IsKnown, IsKnownOfFirst, left_part, nodes_behind, nodes_from}
+pub use Rattle.dom_selectors.specs.Known.{AreUnasked, has_asked, IsFirstLeft, IsFirstUnasked, IsKnown, IsKnownOfFirst, nodes_behind, nodes_from}
 pub use Rattle.dom_selectors.specs.Reads.{as_parts, behind_list, IsRefusalWhere}
 pub use Rattle.dom_selectors.specs.Search.{ChainEnds, ChainIsBefore, elements_to, IsDescendant, IsSearched, last_compound, MatchesAbove, only_left, SegmentEnds}
 pub use Rattle.dom_selectors.specs.Search.{SegmentIsAbove, StopsAt}

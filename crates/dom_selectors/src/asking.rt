@@ -10,7 +10,8 @@ ghost use Rattle.dom_tree.specs.Spots.{name_here};
 ghost use Rattle.dom_tree.specs.Within.{StandsIn};
 ghost use Rattle.dom_attributes.specs.Signs.{HasBits};
 ghost use Rattle.dom_selectors.specs.Signs.{SelectorShows, Shows};
-ghost use Rattle.dom_selectors.specs.Known.{has_asked as spec_has_asked, nodes_behind, nodes_from, AreUnasked, CompoundAsks, IsFirstUnasked, SelectorAsks};
+ghost use Rattle.dom_selectors.specs.Known.{has_asked as spec_has_asked, nodes_behind, nodes_from, AreUnasked, CompoundAsks, IsFirstUnasked};
+ghost use Rattle.dom_selectors.specs.Known.{IsNoChild, SelectorAsks};
 ghost use Rattle.dom_selectors.specs.Views.{complex_view, compound_view, part_view, selector_view, simple_view};
 
 use crate::joined::last_of_complex;
@@ -37,7 +38,22 @@ fn has_asked(node: &NodeAt, asked: Asked) -> bool
     }
 }
 
-/// The first node that may have what these are signs of, and has what is asked for, behind one in the tree of a node `top`.
+/// Whether a node is a child of one given, if one is.
+#[inline(always)]
+fn is_child(node: &NodeAt, given: &Option<Key>) -> bool
+    ensures { result ≡ true → IsNoChild node.now.whole given.now (name_here node.now) → ⊥ }
+{
+    let Some(key) = given else {
+        return false;
+    };
+    match node.parent() {
+        Some(parent) => parent.key() == *key,
+        None => false,
+    }
+}
+
+/// The first node that may have what these are signs of, and has what is asked for, behind one in the tree of a node `top`. Children
+/// of a node that is known to have none that matches are passed.
 #[inline(always)]
 pub(crate) fn next_with<'a>(
     forest: &Forest,
@@ -45,6 +61,7 @@ pub(crate) fn next_with<'a>(
     from: NodeAt<'a>,
     signs: Signs,
     asked: Asked,
+    failing: &Option<Key>,
 ) -> Option<NodeAt<'a>>
     requires top { IsNode forest.now top }
     requires same { from.whole ≡ forest.now }
@@ -54,13 +71,14 @@ pub(crate) fn next_with<'a>(
     ensures has { ForSome (key_in result) (λ k. spec_has_asked forest.now.trees (name_of forest.now k) asked.entry ≡ true) }
     ensures passed { (test : NodeName → Bool) → ((x : NodeName) → test x ≡ true → Shows forest.now.trees x signs.bits) →
         ((x : NodeName) → test x ≡ true → spec_has_asked forest.now.trees x asked.entry ≡ true) →
+        ((x : NodeName) → test x ≡ true → IsNoChild forest.now failing.now x) →
         filter test (nodes_from forest.now top result) ≡ filter test (nodes_behind forest.now top from.entry.key) }
     ensures shorter { length (nodes_from forest.now top result) ≤ length (nodes_behind forest.now top from.entry.key) }
 {
     forest.law_nodes_stand_once();
     let mut at = from.following(top);
     while let Some(node) = at {
-        if node.may_have(signs) && has_asked(&node, asked) {
+        if node.may_have(signs) && has_asked(&node, asked) && !is_child(&node, failing) {
             return Some(node);
         }
         at = node.following(top);

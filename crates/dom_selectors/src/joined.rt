@@ -117,6 +117,7 @@ fn end_matches(forest: &Forest, first: &Compound, links: &[Link], key: Key) -> b
 }
 
 /// Whether some ancestor of a node matches these links behind the first compound, by their segments.
+#[inline(never)]
 pub(crate) fn ancestors_match(forest: &Forest, first: &Compound, links: &[Link], key: Key) -> bool
     requires { IsNode forest.now key }
     ensures { result ≡ list_any (spec_complex_matches forest.now.trees (complex_from first.now links.now))
@@ -144,19 +145,22 @@ pub(crate) fn segments_match(forest: &Forest, first: &Compound, links: &[Link], 
 /// Whether a node matches these links behind the first compound, where it may have the signs of the compound on the right. That one is
 /// tried first, since most nodes fail there.
 #[inline(never)]
-fn shown_links_match(node: &NodeAt, first: &Compound, links: &[Link]) -> bool
-    ensures { result ≡ spec_complex_matches node.now.whole.trees (complex_from first.now links.now) (name_here node.now) }
+fn shown_links_match(forest: &Forest, first: &Compound, links: &[Link], key: Key) -> bool
+    requires { IsNode forest.now key }
+    ensures { result ≡ spec_complex_matches forest.now.trees (complex_from first.now links.now) (name_of forest.now key) }
 {
-    parts_match(node, last_of(first, links).parts.as_slice())
-        && (links.is_empty() || segments_match(node.forest(), first, links, node.key()))
+    parts_match(&forest.at(key), last_of(first, links).parts.as_slice())
+        && (links.is_empty() || segments_match(forest, first, links, key))
 }
 
-/// Whether a node matches these links behind the first compound. Most that do not are seen by the signs of the compound on the right.
+/// Whether a node matches these links behind the first compound. Most that do not are seen by the signs of the compound on the right, which
+/// is given.
 #[inline(always)]
-pub(crate) fn links_match(node: &NodeAt, first: &Compound, links: &[Link]) -> bool
+pub(crate) fn links_match(node: &NodeAt, last: &Compound, first: &Compound, links: &[Link]) -> bool
+    requires { last.now ≡ last_compound (complex_from first.now links.now) }
     ensures { result ≡ spec_complex_matches node.now.whole.trees (complex_from first.now links.now) (name_here node.now) }
 {
-    node.may_have(last_of(first, links).signs()) && shown_links_match(node, first, links)
+    node.may_have(last.signs()) && shown_links_match(node.forest(), first, links, node.key())
 }
 
 /// The compound on the right of a complex selector.

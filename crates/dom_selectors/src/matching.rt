@@ -4,6 +4,7 @@ ghost use Rattle.std.specs.List.{list_all};
 ghost use Rattle.dom_model.specs.Tree.{is_element as spec_is_element, kind_of, node_in};
 ghost use Rattle.dom_model.specs.Selectors.{attribute_passes as spec_attribute_passes, simple_matches as spec_simple_matches};
 ghost use Rattle.dom_model.specs.Selectors.{part_matches as spec_part_matches, compound_matches as spec_compound_matches, of_id, of_class};
+ghost use Rattle.dom_tree.specs.Forest.{IsNode, name_of};
 ghost use Rattle.dom_tree.specs.Spots.{name_here};
 ghost use Rattle.dom_selectors.specs.Views.{test_view, simple_view, part_view, compound_view};
 
@@ -12,7 +13,8 @@ use crate::siblings::{Side, element_beside};
 use crate::values::{is_among_words, value_passes};
 use dom_attributes::{is_same_string, is_same_text};
 use dom_base::Kind;
-use dom_tree::NodeAt;
+use dom_tree::{Forest, NodeAt};
+use node_arena::Key;
 
 /// Whether a node is an element.
 #[inline(always)]
@@ -79,17 +81,20 @@ fn simple_matches(node: &NodeAt, simple: &Simple) -> bool
 fn simples_match(node: &NodeAt, simples: &Simples) -> bool
     ensures { result ≡ list_all (spec_simple_matches node.now.whole.trees (name_here node.now)) simples.now }
 {
-    node.may_have(simples.signs) && all_simple_match(node, simples.list.as_slice())
+    node.may_have(simples.signs)
+        && all_simple_match(node.forest(), node.key(), simples.list.as_slice())
 }
 
 /// Whether an element matches all of some simple selectors.
 #[inline(never)]
-fn all_simple_match(node: &NodeAt, simples: &[Simple]) -> bool
-    ensures { result ≡ list_all (λ s. spec_simple_matches node.now.whole.trees (name_here node.now) (simple_view s)) simples.now }
+fn all_simple_match(forest: &Forest, key: Key, simples: &[Simple]) -> bool
+    requires { IsNode forest.now key }
+    ensures { result ≡ list_all (λ s. spec_simple_matches forest.now.trees (name_of forest.now key) (simple_view s)) simples.now }
 {
+    let node = forest.at(key);
     let mut rest = simples;
     while let [simple, others @ ..] = rest {
-        if !simple_matches(node, simple) {
+        if !simple_matches(&node, simple) {
             return false;
         }
         rest = others;

@@ -1,14 +1,15 @@
 //! Matches and queries.
 ghost use Rattle.std.specs.Prelude.{◌≡◌, ◌++◌, ◌∷◌, [], true, false, map, IfOk, OnOk, All};
 ghost use Rattle.dom_model.specs.Selectors.{selector_matches, query_all as spec_query_all};
-ghost use Rattle.dom_tree.specs.Forest.{IsNode, name_of};
+ghost use Rattle.dom_base.specs.declared.NodeName.{NodeName};
+ghost use Rattle.dom_tree.specs.Forest.{IsNode, NamedTrees, name_of};
 ghost use Rattle.dom_tree.specs.Spots.{name_here};
-ghost use Rattle.dom_selectors.specs.Known.{IsFirstLeft, IsKnownOfFirst, SelectorAsks};
+ghost use Rattle.dom_selectors.specs.Known.{IsFirstLeft, IsKnownOfFirst, IsLeftOfFirst, IsNoChild, SelectorAsks};
 ghost use Rattle.dom_selectors.specs.Views.{complex_view, selector_view};
 
-use crate::above::{Known, fails_below, is_behind_space, matches_knowing};
+use crate::above::{Known, Left, left_of, matches_knowing};
 use crate::asking::{Asked, first_unasked, next_with};
-use crate::joined::links_match;
+use crate::joined::{last_of_complex, links_match};
 use crate::selector::{Complex, CompoundPart, Selector};
 use dom_tree::{Forest, NodeAt};
 use node_arena::Key;
@@ -16,12 +17,19 @@ use std::alloc::{AllocError, Global};
 
 /// Whether a node matches some of these complex selectors.
 #[inline(never)]
-fn some_complex_matches(node: &NodeAt, complexes: &[Complex]) -> bool
-    ensures { result ≡ selector_matches node.now.whole.trees (map complex_view complexes.now) (name_here node.now) }
+fn some_complex_matches(forest: &Forest, key: Key, complexes: &[Complex]) -> bool
+    requires { IsNode forest.now key }
+    ensures { result ≡ selector_matches forest.now.trees (map complex_view complexes.now) (name_of forest.now key) }
 {
+    let node = forest.at(key);
     let mut rest = complexes;
     while let [complex, others @ ..] = rest {
-        if links_match(node, &complex.first, complex.links.as_slice()) {
+        if links_match(
+            &node,
+            last_of_complex(complex),
+            &complex.first,
+            complex.links.as_slice(),
+        ) {
             return true;
         }
         rest = others;
@@ -29,49 +37,70 @@ fn some_complex_matches(node: &NodeAt, complexes: &[Complex]) -> bool
     false
 }
 
-/// Whether what is remembered says that a node does not match, without a look at the node itself.
-#[inline(always)]
-fn is_known_to_fail(node: &NodeAt, complexes: &[Complex], known: &Known) -> bool
-    requires { IsKnownOfFirst node.now.whole complexes.now known.now }
-    ensures { result ≡ true → selector_matches node.now.whole.trees (map complex_view complexes.now) (name_here node.now) ≡ false }
-{
-    match complexes {
-        [complex] => fails_below(node, known) && is_behind_space(complex),
-        _ => false,
-    }
-}
-
 /// Whether a node matches some of these complex selectors, where what of the compound on the right of the first one is left to be tried is
-/// given, and something may be remembered of what is left of that.
+/// given, and what is left of its last combinator, of which something may be remembered.
 #[inline(always)]
 fn some_matches(
     node: &NodeAt,
     complexes: &[Complex],
     unasked: &[CompoundPart],
+    left: &Option<Left>,
     known: &mut Known,
 ) -> bool
     requires unasked { IsFirstLeft node.now.whole.trees (name_here node.now) complexes.now unasked.now }
+    requires left { IsLeftOfFirst complexes.now left.now }
     requires known { IsKnownOfFirst node.now.whole complexes.now known.old }
     ensures value { result ≡ selector_matches node.now.whole.trees (map complex_view complexes.now) (name_here node.now) }
     ensures known { IsKnownOfFirst node.now.whole complexes.now known.new }
 {
-    if is_known_to_fail(node, complexes, known) {
-        return false;
-    }
     match complexes {
         [first, others @ ..] => {
-            matches_knowing(node, first, unasked, known)
-                || !others.is_empty() && some_complex_matches(node, others)
+            matches_knowing(node, first, unasked, left, known)
+                || !others.is_empty() && some_complex_matches(node.forest(), node.key(), others)
         }
         [] => false,
     }
 }
 
-/// Takes a node among those found.
+/// What is left of the last combinator of the first of these complex selectors, if it has one.
+fn first_left(complexes: &[Complex]) -> Option<Left<'_>>
+    ensures { IsLeftOfFirst complexes.now result }
+{
+    match complexes {
+        [first, ..] => left_of(first),
+        [] => None,
+    }
+}
+
+/// A node none of whose children matches some of these complex selectors, where that is remembered of one.
+#[inline(always)]
+fn failing_below(complexes: &[Complex], known: &Known) -> Option<Key>
+    ensures { (f : NamedTrees) → IsKnownOfFirst f complexes.now known.now → (x : NodeName) →
+        selector_matches f.trees (map complex_view complexes.now) x ≡ true → IsNoChild f result x }
+{
+    match complexes {
+        [_] => known.failing,
+        _ => None,
+    }
+}
+
+/// Takes a node among those found, for which there may be no room.
 #[inline(never)]
+fn take_growing(found: &mut Vec<Key>, key: Key) -> Result<(), AllocError>
+    ensures { OnOk result (found.new.items ≡ found.old.items ++ key ∷ []) }
+{
+    found.push(key)?;
+    Ok(())
+}
+
+/// Takes a node among those found. It is in line where there is room.
+#[inline(always)]
 fn take(found: &mut Vec<Key>, key: Key) -> Result<(), AllocError>
     ensures { OnOk result (found.new.items ≡ found.old.items ++ key ∷ []) }
 {
+    if found.len() == found.capacity() {
+        return take_growing(found, key);
+    }
     found.push(key)?;
     Ok(())
 }
@@ -83,7 +112,7 @@ impl Selector {
         requires { IsNode forest.now key }
         ensures { result ≡ selector_matches forest.now.trees (selector_view self.now) (name_of forest.now key) }
     {
-        some_complex_matches(&forest.at(key), self.complexes.as_slice())
+        some_complex_matches(forest, key, self.complexes.as_slice())
     }
 
     /// The proper descendants of a node that match a selector, in tree order; nodes above it count for matching (DOM
@@ -108,7 +137,7 @@ impl Selector {
     }
 
     /// What `query_all` says, where each node that matches has what is asked for. It is in line, so that what kind of thing is asked for is
-    /// told once for all nodes.
+    /// told once for all nodes; and so whether something is left of the last combinator.
     #[inline(always)]
     fn query_asking(
         &self,
@@ -123,18 +152,43 @@ impl Selector {
             (name_of forest.now top)) }
         ensures nodes { IfOk result (λ keys. All (IsNode forest.now) keys.items) }
     {
+        let left = first_left(self.complexes.as_slice());
+        match left {
+            Some(_) => self.query_knowing(alloc, forest, top, asked, &left),
+            None => self.query_knowing(alloc, forest, top, asked, &None),
+        }
+    }
+
+    /// What `query_all` says, where what is left of the last combinator of the first complex selector is given too.
+    #[inline(always)]
+    fn query_knowing(
+        &self,
+        alloc: Global,
+        forest: &Forest,
+        top: Key,
+        asked: Asked,
+        left: &Option<Left>,
+    ) -> Result<Vec<Key>, AllocError>
+        requires node { IsNode forest.now top }
+        requires asks { SelectorAsks (selector_view self.now) asked }
+        requires left { IsLeftOfFirst self.now.complexes.items left.now }
+        ensures found { IfOk result (λ keys. map (name_of forest.now) keys.items ≡ spec_query_all forest.now.trees (selector_view self.now)
+            (name_of forest.now top)) }
+        ensures nodes { IfOk result (λ keys. All (IsNode forest.now) keys.items) }
+    {
         forest.law_nodes_stand_once();
         let complexes = self.complexes.as_slice();
         let signs = self.signs();
         let unasked = first_unasked(complexes, asked);
         let mut known = Known::nothing();
         let mut found = Vec::new(alloc);
-        let mut at = next_with(forest, top, forest.at(top), signs, asked);
+        let mut at = next_with(forest, top, forest.at(top), signs, asked, &None);
         while let Some(node) = at {
-            if some_matches(&node, complexes, unasked, &mut known) {
+            if some_matches(&node, complexes, unasked, left, &mut known) {
                 take(&mut found, node.key())?;
             }
-            at = next_with(forest, top, node, signs, asked);
+            let failing = failing_below(complexes, &known);
+            at = next_with(forest, top, node, signs, asked, &failing);
         }
         Ok(found)
     }

@@ -7,8 +7,9 @@ pub returns-then-may_have : goal.returns-then-may_have
 returns-then-may_have c =
     let f = c.args.node.now.whole in
     let x = name_at f.names c.args.node.now.key in
-    c.all_simple_match.ensures ∙ ap (list_all (λ s. simple_matches f.trees x (simple_view s))) c.as_slice.ensures.value
-    ∙ all_seen (simple_matches f.trees x) simple_view c.simples.inside.list.items ∙ ap (list_all (simple_matches f.trees x)) c.simples.view_is
+    rw (c.forest.ensures, c.key.ensures.value) at c.all_simple_match.ensures ∙ ap (list_all (λ s. simple_matches f.trees x (simple_view s)))
+    c.as_slice.ensures.value ∙ all_seen (simple_matches f.trees x) simple_view c.simples.inside.list.items
+    ∙ ap (list_all (simple_matches f.trees x)) c.simples.view_is
 
 pub returns-else-may_have : goal.returns-else-may_have
 returns-else-may_have c =

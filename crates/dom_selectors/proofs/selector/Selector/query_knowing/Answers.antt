@@ -1,10 +1,10 @@
 -- The nodes that match are taken, one after another.
 use Rattle.dom_selectors.proofs.Cited.{◌≡◌, ◌<◌, ℕ, Bool, [], ◌∷◌, ◌++◌, length, refl, sym, ap, subst, ◌∙◌, arith, map, filter, All}
 use Rattle.dom_selectors.proofs.Cited.{All-push, NodeName, query_all, selector_matches, name_at, above-itself, IsWithin-itself}
-use Rattle.dom_selectors.proofs.Cited.{List, suc, key_in, nodes_behind, nodes_from, selector_view}
+use Rattle.dom_selectors.proofs.Cited.{List, suc, key_in, nodes_behind, nodes_from, none-some, selector_view}
 use Rattle.dom_selectors.proofs.QueryLaws.{behind_top, left_here, nothing_known, taken, left_out}
-use Rattle.dom_selectors.proofs.selector.Selector.query_asking.Goals.{then-some_matches+in_ok-take, else-some_matches}
-use Rattle.dom_selectors.proofs.selector.Selector.query_asking.Goals as goal
+use Rattle.dom_selectors.proofs.selector.Selector.query_knowing.Goals.{then-some_matches+in_ok-take, else-some_matches}
+use Rattle.dom_selectors.proofs.selector.Selector.query_knowing.Goals as goal
 
 pub next_with-at-requires-clause-stands : goal.next_with-at-requires-clause-stands
 next_with-at-requires-clause-stands c = rw c.at.ensures (record {
@@ -22,10 +22,11 @@ loop-at-init c =
       same = e.same;
       stands = e.stands;
       has = e.has;
-      known = nothing_known f c.args.self.now.complexes.items c.nothing-known.result c.nothing-known.ensures.parent c.nothing-known.ensures.grandparent;
+      known = nothing_known f c.nothing-known.result c.nothing-known.ensures.failing c.nothing-known.ensures.matching c.nothing-known.ensures.above
+          c.args.self.now.complexes.items;
       nodes = subst (All (λ k. k < length f.names)) (sym c.new-found.ensures.items) (λ k d h. absurd (omega (arith, h)));
       all = ap (λ xs. map (name_at f.names) xs ++ filter test (nodes_from f c.args.top c.next_with-at.result)) c.new-found.ensures.items
-          ∙ e.passed test (λ x. c.signs-signs.ensures f.trees x) (λ x. c.requires.asks f.trees x)
+          ∙ e.passed test (λ x. c.signs-signs.ensures f.trees x) (λ x. c.requires.asks f.trees x) (λ x m j none. absurd (none-some j none))
           ∙ ap (filter test) (behind_top f.trees (name_at f.names c.args.top) (IsWithin-itself f law.once law.only c.args.top c.requires.node));
     }
 
@@ -36,6 +37,9 @@ some_matches-requires-clause-unasked c = rw (c.loop-at.invariant.same c.in-Some.
 
 pub some_matches-requires-clause-known : goal.some_matches-requires-clause-known
 some_matches-requires-clause-known c = rw (c.loop-at.invariant.same c.in-Some.node c.in-Some.is, c.as_slice-complexes.ensures.value) c.loop-at.invariant.known
+
+pub some_matches-requires-clause-left : goal.some_matches-requires-clause-left
+some_matches-requires-clause-left c = rw c.as_slice-complexes.ensures.value c.requires.left
 
 pub loop-at-smaller : goal.loop-at-smaller
 loop-at-smaller c =
@@ -55,8 +59,10 @@ loop-at-preserved c =
     let rest = nodes_behind f c.args.top k in
     let matched : test x ≡ c.some_matches.result = sym (rw (same, c.as_slice-complexes.ensures.value) at c.some_matches.ensures.value) in
     let e = c.next_with-at-in-Some.ensures in
+    let known = rw (same, c.as_slice-complexes.ensures.value) at c.some_matches.ensures.known in
+    let below = rw c.as_slice-complexes.ensures.value at c.failing_below-failing.ensures in
     let passed = λ (ks : List ℕ). ap (λ r. map (name_at f.names) ks ++ r) (e.passed test (λ y. c.signs-signs.ensures f.trees y)
-    (λ y. c.requires.asks f.trees y)) in
+    (λ y. c.requires.asks f.trees y) (below f known)) in
     let before : map (name_at f.names) c.loop-at.found.items ++ filter test (x ∷ rest) ≡ _ =
     ap (λ o. map (name_at f.names) c.loop-at.found.items ++ filter test (nodes_from f c.args.top o)) (sym c.in-Some.is) ∙ c.loop-at.invariant.all in
     let left : All (λ j. j < length f.names) c.if-some_matches.found.items ×
@@ -81,7 +87,7 @@ loop-at-preserved c =
       same = e.same;
       stands = e.stands;
       has = e.has;
-      known = rw (same, c.as_slice-complexes.ensures.value) at c.some_matches.ensures.known;
+      known = known;
       nodes = left.0;
       all = passed c.if-some_matches.found.items ∙ left.1;
     }

@@ -1,7 +1,7 @@
 -- Those found and those still to be found are all.
 use Rattle.dom_selectors.proofs.Cited.{◌≡◌, ◌<◌, ◌++◌, length, filter, map, true, All, ForSome, selector_matches, query_all, name_at, StandsIn}
 use Rattle.dom_selectors.proofs.Cited.{has_asked, IsKnownOfFirst, key_in, nodes_from, selector_view}
-use Rattle.dom_selectors.proofs.selector.Selector.query_asking.Given as goal
+use Rattle.dom_selectors.proofs.selector.Selector.query_knowing.Given as goal
 
 abbrev pub invariant-loop-at : goal.invariant-loop-at
 invariant-loop-at l = record {
