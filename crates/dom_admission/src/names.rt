@@ -1,19 +1,38 @@
 //! The names of nodes.
 ghost use Rattle.std.specs.Prelude.{◌≡◌, ◌≤◌, ℕ, ◌++◌, length, map, take, All, IfOk, OnOk, OnErr};
+ghost use Rattle.dom_printer.specs.Names.{name_view};
 ghost use Rattle.dom_tree.specs.Forest.{IsNode, name_of};
 
 use dom_base::NodeName;
+use dom_printer::LentName;
 use dom_tree::Forest;
 use node_arena::Key;
+use smallvec::SmallVec;
 use std::alloc::{AllocError, Global};
 
-/// The names of nodes, in their order. The only error is memory refused (own rule).
-pub fn names_of(alloc: Global, forest: &Forest, keys: &[Key]) -> Result<Vec<NodeName>, AllocError>
-    requires { All (IsNode forest.now) keys.now }
-    ensures { IfOk result (λ names. names.items ≡ map (name_of forest.now) keys.now) }
+/// The name of a node, with its owner lent.
+#[inline(always)]
+pub fn lent_name(forest: &Forest, key: Key) -> LentName<'_>
+    requires { IsNode forest.now key }
+    ensures { name_view result ≡ name_of forest.now key }
 {
-    let mut names = Vec::with_capacity(alloc, keys.len())?;
-    put_names(&mut names, forest, keys)?;
+    let (owner, number) = forest.lent_name(key);
+    LentName { owner, number }
+}
+
+/// The names of nodes, in their order, with their owners lent. One or two take no memory. The only error is memory refused (own rule).
+pub fn names_of<'a>(
+    alloc: Global,
+    forest: &'a Forest,
+    keys: &[Key],
+) -> Result<SmallVec<LentName<'a>, 2>, AllocError>
+    requires { All (IsNode forest.now) keys.now }
+    ensures { IfOk result (λ names. map name_view names.items ≡ map (name_of forest.now) keys.now) }
+{
+    let mut names = SmallVec::with_capacity(alloc, keys.len())?;
+    for key in keys {
+        names.push(lent_name(forest, *key))?;
+    }
     Ok(names)
 }
 

@@ -1,15 +1,17 @@
 //! The commands on shadow trees: the making of components, and slots (DOM Standard, 4.2.2 Shadow tree).
-ghost use Rattle.std.specs.Prelude.{◌≡◌, IfOk};
+ghost use Rattle.std.specs.Prelude.{◌≡◌, ◌++◌, ◌∷◌, [], OnOk};
 ghost use Rattle.dom_model.specs.Command.{attach, shadow_root, slot_of, assigned as assigned_command};
+ghost use Rattle.dom_model.specs.Output.{says, replied, a_list};
 ghost use Rattle.dom_model.specs.Slots.{assigned_nodes};
 ghost use Rattle.dom_model.specs.Trace.{is_page};
+ghost use Rattle.dom_text.specs.Text.{output_text};
 ghost use Rattle.dom_mutation.specs.Doc.{HoldsNode, name_in};
 ghost use Rattle.dom_reader.specs.Views.{word_view};
 ghost use Rattle.dom_admission.specs.Handled.{KeepsNames, IsHandled};
 
 use dom_admission::{Operand, State, names_of};
-use dom_base::{Fault, NodeName, Owner, Refusal};
-use dom_printer::Value;
+use dom_base::{Fault, Owner, Refusal};
+use dom_printer::{Value, put_reply};
 use dom_reader::NodeWord;
 use dom_slots::law_slots_are_of_worlds;
 use node_arena::Key;
@@ -74,19 +76,27 @@ pub fn assigned(
         return Err(Fault::Refused(Refusal::Syntax));
     }
     let slot = state.admit_one(*owner, Operand::Slot(slot))?;
-    let nodes = assigned_to(state, slot)?;
-    state.accept(owner, &Value::List(&nodes), out)
+    reply_assigned(state, owner, slot, out)?;
+    state.open_turn(owner);
+    Ok(())
 }
 
-/// The names of the nodes assigned to a slot.
-fn assigned_to(state: &State, slot: Key) -> Result<Vec<NodeName>, AllocError>
+/// Puts the reply that has the nodes assigned to a slot.
+fn reply_assigned(
+    state: &State,
+    owner: &Owner,
+    slot: Key,
+    out: &mut Vec<u8>,
+) -> Result<(), AllocError>
     requires { HoldsNode state.now slot }
-    ensures { IfOk result (λ names. names.items ≡ assigned_nodes state.now.world (name_in state.now slot)) }
+    ensures { OnOk result (out.new.items ≡ out.old.items
+        ++ output_text (says owner.now (replied (a_list (assigned_nodes state.now.world (name_in state.now slot)))) ∷ [])) }
 {
     law_slots_are_of_worlds();
     let (forest, slots) = state.forest_and_slots();
     let nodes = slots.assigned(forest, slot)?;
-    names_of(state.alloc, forest, &nodes)
+    let names = names_of(state.alloc, forest, &nodes)?;
+    put_reply(out, owner, &Value::List(&names))
 }
 
 /// Whether an owner is the page.

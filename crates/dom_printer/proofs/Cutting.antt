@@ -2,9 +2,9 @@
 use Rattle.dom_base.proofs.Std.{◌≡◌, ℕ, ◌∷◌, [], ◌+◌, ◌-◌, ◌<◌, ◌≤◌, List, ◌++◌, length, take, drop, sym, ap, ◌∙◌, arith, length-append, append_assoc}
 use Rattle.dom_base.proofs.Std.{length-drop, length-take-le, take-append-add, take-append-drop, take-append-le, take-append_seam}
 
--- twenty spaces
+-- nineteen spaces
 abbrev pub spaces : List ℕ
-spaces = 32 ∷ 32 ∷ 32 ∷ 32 ∷ 32 ∷ 32 ∷ 32 ∷ 32 ∷ 32 ∷ 32 ∷ 32 ∷ 32 ∷ 32 ∷ 32 ∷ 32 ∷ 32 ∷ 32 ∷ 32 ∷ 32 ∷ 32 ∷ []
+spaces = 32 ∷ 32 ∷ 32 ∷ 32 ∷ 32 ∷ 32 ∷ 32 ∷ 32 ∷ 32 ∷ 32 ∷ 32 ∷ 32 ∷ 32 ∷ 32 ∷ 32 ∷ 32 ∷ 32 ∷ 32 ∷ 32 ∷ []
 
 -- a line's end and spaces, behind a text, parted behind none or one of these bytes
 pub parted : (text : List ℕ) (n : ℕ) → n ≤ 1 → text ++ (10 ∷ spaces) ≡ (text ++ take n (10 ∷ [])) ++ drop n (10 ∷ spaces)
@@ -33,3 +33,8 @@ module _ (old text more : List ℕ) (s k : ℕ) where
       sym (take-append-le (length text) put (drop k (text ++ more)) (omega arith)) ∙ ap (take (length text)) (take-append-drop k (text ++ more))
       ∙ take-append_seam text more in
       ap (λ (n : ℕ). take n (old ++ put)) count ∙ take-append-add old put (length text) ∙ ap (λ (x : List ℕ). old ++ x) front
+
+-- a text that begins with a head and a letter, behind which other bytes are found
+pub headed : (head : List ℕ) (letter : ℕ) {xs ys : List ℕ} (front more : List ℕ) → xs ≡ head ++ letter ∷ ys → ys ≡ front ++ more
+    → xs ≡ (head ++ letter ∷ front) ++ more
+headed head letter front more e f = e ∙ ap (λ (t : List ℕ). head ++ letter ∷ t) f ∙ sym (append_assoc head (letter ∷ front) more)

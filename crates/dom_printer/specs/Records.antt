@@ -1,10 +1,12 @@
 -- Events and records of the code, seen as those of the specification.
-use Rattle.std.specs.Prelude.{ℕ, List, ◌++◌, codes, option_copied}
+use Rattle.std.specs.Prelude.{ℕ, List, ◌++◌, codes, map, option_copied}
+use Rattle.std.specs.Option.{option_map}
 use Rattle.std.specs.Fmt.{decimal}
 use Rattle.dom_base.specs.declared.NodeName.{NodeName}
 use Rattle.dom_base.specs.declared.Owner.{Owner}
 use Rattle.dom_model.specs.Output as model
 use Rattle.dom_text.specs.Text.{node_text, node_or_null}
+use Rattle.dom_printer.specs.Names.{name_view}
 use Rattle.dom_printer.specs.declared.records.Change.{Change}
 use Rattle.dom_printer.specs.declared.records.Change.TheVariants as changes
 use Rattle.dom_printer.specs.declared.records.Event.{Event}
@@ -38,6 +40,7 @@ shown_text viewer e = codes " related=" ++ node_or_null viewer e.related ++ code
 
 -- a change
 abbrev pub change_view : Change → model.Change NodeName
-change_view (changes.ChildList target added removed previous next) = model.child_list target added.now removed.now previous next
-change_view (changes.Attributes target name old) = model.attributes target name.now (option_copied old)
-change_view (changes.CharacterData target old) = model.character_data target (option_copied old)
+change_view (changes.ChildList target added removed previous next) = model.child_list (name_view target) (map name_view added.now) (map name_view removed.now)
+    (option_map name_view previous) (option_map name_view next)
+change_view (changes.Attributes target name old) = model.attributes (name_view target) name.now (option_copied old)
+change_view (changes.CharacterData target old) = model.character_data (name_view target) (option_copied old)

@@ -3,6 +3,7 @@
 #![tactic(auto)]
 
 mod buffers;
+mod named;
 mod names;
 mod pieces;
 mod records;
@@ -10,6 +11,7 @@ mod replies;
 mod strings;
 mod trees;
 
+pub use named::LentName;
 pub use names::{put_owner_word, put_path};
 pub use records::{Change, Event, put_event, put_micro, put_record};
 pub use replies::{Boundary, Value, put_node_reply, put_refusal, put_reply};

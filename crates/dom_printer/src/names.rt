@@ -1,14 +1,17 @@
 //! Numbers, owners and nodes.
-ghost use Rattle.std.specs.Prelude.{◌≡◌, ◌≤◌, ◌+◌, ◌++◌, ◌∷◌, [], take, IsOk, OnOk, OnErr};
+ghost use Rattle.std.specs.Prelude.{◌≡◌, ◌≤◌, ◌+◌, ◌++◌, ◌∷◌, [], codes, drop, length, map, take, IsOk, OnOk, OnErr};
 ghost use Rattle.std.specs.Vec.{vec_len, vec_capacity};
 ghost use Rattle.std.specs.Fmt.{decimal};
 ghost use Rattle.std.specs.List.{flat_map};
+ghost use Rattle.std.specs.Option.{option_map};
 ghost use Rattle.dom_base.specs.declared.Owner.TheVariants.{Component};
-ghost use Rattle.dom_text.specs.Text.{node_text, node_or_null, next_node_text, list_text};
+ghost use Rattle.dom_text.specs.Text.{node_text_of, node_or_null, next_node_text, list_text};
 ghost use Rattle.dom_text.specs.Words.{next_number_text, component_word, owner_word};
 ghost use Rattle.dom_printer.specs.Keeping.{Keeps};
+ghost use Rattle.dom_printer.specs.Names.{name_view};
 
 use crate::buffers::cut_if_refused;
+use crate::named::{LentName, Named};
 use dom_base::{NodeName, Owner, OwnerPath};
 use itoa::{Buffer, write_digits};
 use std::alloc::AllocError;
@@ -44,27 +47,46 @@ fn put_digits(out: &mut Vec<u8>, number: usize) -> Result<(), AllocError>
     out.extend_from_slice(buffer.format(number).as_bytes())
 }
 
-/// Puts a letter and a number's digits, and the line's end where one byte is wanted behind them. So many bytes are copied from the letter
-/// on, whatever the number, that they are copied at once; those that are too many are then cut off.
+/// Puts a letter and a number's digits, a comma where one byte is wanted before them, and the line's end where one is wanted behind them.
+/// So many bytes are copied, whatever the number, that they are copied at once; those that are too many are then cut off.
 #[inline(always)]
 pub(crate) fn put_lettered(
     out: &mut Vec<u8>,
+    before: usize,
     letter: u8,
     number: u32,
     behind: usize,
 ) -> Result<(), AllocError>
-    requires { behind ≤ 1 }
-    ensures ok { OnOk result (out.new.items ≡ out.old.items ++ (letter ∷ decimal number) ++ take behind (10 ∷ [])) }
+    requires before { before ≤ 1 }
+    requires behind { behind ≤ 1 }
+    ensures ok { OnOk result (out.new.items
+        ≡ out.old.items ++ (take before (44 ∷ []) ++ letter ∷ decimal number) ++ take behind (10 ∷ [])) }
     ensures succeeds { vec_len out.old + 16 ≤ vec_capacity out.old → IsOk result }
     ensures err { OnErr result (out.new.items ≡ out.old.items) }
 {
-    let mut text = *b"00000000000\n                    ";
-    let start = write_digits(number as u64, &mut text, 11);
-    let first = start - 1;
-    text[first] = letter;
+    let mut text = *b"000000000000\n                   ";
+    let start = write_digits(number as u64, &mut text, 12);
+    let first = write_letter(&mut text, start, before, letter);
     out.extend_from_slice(&text[first..first + 16])?;
-    out.truncate(out.len() - (first + 5 - behind));
+    out.truncate(out.len() - (first + 4 - behind));
     Ok(())
+}
+
+/// Writes a letter in front of a place, and a comma in front of that where one byte is wanted before it. It returns where they start.
+#[inline(always)]
+fn write_letter(text: &mut [u8], start: usize, before: usize, letter: u8) -> usize
+    requires before { before ≤ 1 }
+    requires start { (2 ≤ start) × (start ≤ length text.old) }
+    ensures start { result + 1 + before ≡ start }
+    ensures written { drop result text.new ≡ take before (44 ∷ []) ++ letter ∷ drop start text.old }
+    ensures length { length text.new ≡ length text.old }
+{
+    text[start - 1] = letter;
+    if before == 0 {
+        return start - 1;
+    }
+    text[start - 2] = b',';
+    start - 2
 }
 
 /// Puts a letter and a number's digits, of which there is often one.
@@ -80,13 +102,28 @@ fn put_short(out: &mut Vec<u8>, letter: u8, number: u32) -> Result<(), AllocErro
     }
 }
 
+/// How many bytes a letter and a number's digits take at most while they are put.
+const LETTERED_ROOM: usize = 16;
+
 /// Puts a letter and a number's digits, as of one that has several. It is kept out of line, so that all nodes share it.
 #[inline(never)]
 fn put_long(out: &mut Vec<u8>, letter: u8, number: u32) -> Result<(), AllocError>
     ensures ok { OnOk result (out.new.items ≡ out.old.items ++ (letter ∷ decimal number)) }
     ensures err { OnErr result (out.new.items ≡ out.old.items) }
 {
-    put_lettered(out, letter, number, 0)
+    if out.capacity() - out.len() < LETTERED_ROOM {
+        return put_long_growing(out, letter, number);
+    }
+    put_lettered(out, 0, letter, number, 0)
+}
+
+/// Puts a letter and a number's digits, and makes the room for them.
+#[inline(never)]
+fn put_long_growing(out: &mut Vec<u8>, letter: u8, number: u32) -> Result<(), AllocError>
+    ensures ok { OnOk result (out.new.items ≡ out.old.items ++ (letter ∷ decimal number)) }
+    ensures err { OnErr result (out.new.items ≡ out.old.items) }
+{
+    put_lettered(out, 0, letter, number, 0)
 }
 
 /// Puts numbers, each behind a dot.
@@ -143,13 +180,18 @@ pub(crate) fn put_owner(out: &mut Vec<u8>, owner: &Owner) -> Result<(), AllocErr
 
 /// Puts a node as the viewer sees it: `nJ` of the page, `mJ` of the viewer's own, and with the word before `:mJ` of another component.
 #[inline(always)]
-pub(crate) fn put_node(out: &mut Vec<u8>, viewer: &Owner, node: &NodeName) -> Result<(), AllocError>
-    ensures ok { OnOk result (out.new.items ≡ out.old.items ++ node_text viewer.now node.now) }
+pub(crate) fn put_node(
+    out: &mut Vec<u8>,
+    viewer: &Owner,
+    owner: &Owner,
+    number: u32,
+) -> Result<(), AllocError>
+    ensures ok { OnOk result (out.new.items ≡ out.old.items ++ node_text_of viewer.now owner.now number) }
     ensures err { OnErr result (Keeps out.old.items out.new.items) }
 {
-    match &node.owner {
-        Owner::Page => put_short(out, b'n', node.number),
-        Owner::Component(component) => put_component_node(out, viewer, node, component),
+    match owner {
+        Owner::Page => put_short(out, b'n', number),
+        Owner::Component(component) => put_component_node(out, viewer, owner, component, number),
     }
 }
 
@@ -159,18 +201,19 @@ pub(crate) fn put_node(out: &mut Vec<u8>, viewer: &Owner, node: &NodeName) -> Re
 fn put_component_node(
     out: &mut Vec<u8>,
     viewer: &Owner,
-    node: &NodeName,
+    owner: &Owner,
     component: &OwnerPath,
+    number: u32,
 ) -> Result<(), AllocError>
-    requires { node.now.owner ≡ Component component.now }
-    ensures ok { OnOk result (out.new.items ≡ out.old.items ++ node_text viewer.now node.now) }
+    requires { owner.now ≡ Component component.now }
+    ensures ok { OnOk result (out.new.items ≡ out.old.items ++ node_text_of viewer.now owner.now number) }
     ensures err { OnErr result (Keeps out.old.items out.new.items) }
 {
-    if *viewer != node.owner {
+    if *viewer != *owner {
         put_component(out, component)?;
         out.extend_from_slice(b":")?;
     }
-    put_short(out, b'm', node.number)
+    put_short(out, b'm', number)
 }
 
 /// Puts a node, or `null` where there is none. It is kept out of line, so that its parts are copied at once.
@@ -178,14 +221,14 @@ fn put_component_node(
 pub(crate) fn put_node_or_null(
     out: &mut Vec<u8>,
     viewer: &Owner,
-    node: &Option<NodeName>,
+    node: &Option<LentName<'_>>,
 ) -> Result<(), AllocError>
-    ensures ok { OnOk result (out.new.items ≡ out.old.items ++ node_or_null viewer.now node.now) }
+    ensures ok { OnOk result (out.new.items ≡ out.old.items ++ node_or_null viewer.now (option_map name_view node.now)) }
     ensures err { OnErr result (Keeps out.old.items out.new.items) }
 {
     match node {
         None => put_text(out, *b"null"),
-        Some(node) => put_node(out, viewer, node),
+        Some(node) => put_node(out, viewer, node.owner, node.number),
     }
 }
 
@@ -204,19 +247,19 @@ pub fn put_path(out: &mut Vec<u8>, owner: &Owner, path: &[NodeName]) -> Result<(
 
 /// Puts nodes in brackets, with commas between them, as far as there is memory. It is kept out of line, so that its parts are copied at once.
 #[inline(never)]
-pub(crate) fn put_list(
+pub(crate) fn put_list<N: Named>(
     out: &mut Vec<u8>,
     viewer: &Owner,
-    nodes: &[NodeName],
+    nodes: &[N],
 ) -> Result<(), AllocError>
-    ensures ok { OnOk result (out.new.items ≡ out.old.items ++ list_text viewer.now nodes.now) }
+    ensures ok { OnOk result (out.new.items ≡ out.old.items ++ list_text viewer.now (map N.name nodes.now)) }
     ensures err { OnErr result (Keeps out.old.items out.new.items) }
 {
     match nodes {
         [] => put_text(out, *b"[]"),
         [first, others @ ..] => {
             out.push(b'[')?;
-            put_node(out, viewer, first)?;
+            put_node(out, viewer, first.owner(), first.number())?;
             put_others(out, viewer, others)?;
             Ok(out.push(b']')?)
         }
@@ -224,14 +267,44 @@ pub(crate) fn put_list(
 }
 
 /// Puts nodes, each behind a comma.
+#[inline(always)]
 #[tactic(auto, using(crate::proofs::KeepLaws::keeps_at))]
-fn put_others(out: &mut Vec<u8>, viewer: &Owner, nodes: &[NodeName]) -> Result<(), AllocError>
-    ensures ok { OnOk result (out.new.items ≡ out.old.items ++ flat_map (next_node_text viewer.now) nodes.now) }
+fn put_others<N: Named>(out: &mut Vec<u8>, viewer: &Owner, nodes: &[N]) -> Result<(), AllocError>
+    ensures ok { OnOk result (out.new.items ≡ out.old.items ++ flat_map (next_node_text viewer.now) (map N.name nodes.now)) }
     ensures err { OnErr result (Keeps out.old.items out.new.items) }
 {
     for node in nodes {
-        out.push(b',')?;
-        put_node(out, viewer, node)?;
+        put_next(out, viewer, node.owner(), node.number())?;
     }
     Ok(())
+}
+
+/// Puts a node behind a comma.
+#[inline(always)]
+fn put_next(out: &mut Vec<u8>, viewer: &Owner, owner: &Owner, number: u32) -> Result<(), AllocError>
+    ensures ok { OnOk result (out.new.items ≡ out.old.items ++ codes "," ++ node_text_of viewer.now owner.now number) }
+    ensures err { OnErr result (Keeps out.old.items out.new.items) }
+{
+    match owner {
+        Owner::Page => put_lettered(out, 1, b'n', number, 0),
+        Owner::Component(component) => put_next_of_component(out, viewer, owner, component, number),
+    }
+}
+
+/// Puts the node of this component behind a comma.
+#[inline(never)]
+#[tactic(auto, using(crate::proofs::KeepLaws::keeps_at))]
+fn put_next_of_component(
+    out: &mut Vec<u8>,
+    viewer: &Owner,
+    owner: &Owner,
+    component: &OwnerPath,
+    number: u32,
+) -> Result<(), AllocError>
+    requires { owner.now ≡ Component component.now }
+    ensures ok { OnOk result (out.new.items ≡ out.old.items ++ codes "," ++ node_text_of viewer.now owner.now number) }
+    ensures err { OnErr result (Keeps out.old.items out.new.items) }
+{
+    out.push(b',')?;
+    put_component_node(out, viewer, owner, component, number)
 }

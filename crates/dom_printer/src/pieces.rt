@@ -5,6 +5,7 @@ ghost use Rattle.dom_printer.specs.Lines.{line_text};
 ghost use Rattle.dom_printer.specs.Pieces.{piece_text, pieces_text};
 
 use crate::buffers::cut_if_refused;
+use crate::named::LentName;
 use crate::names::{put_list, put_node, put_number, put_owner};
 use crate::strings::put_units;
 use dom_base::{NodeName, Owner};
@@ -18,7 +19,7 @@ pub(crate) enum Piece<'a> {
     Number(&'a [u8], usize),
     Owner(&'a [u8], &'a Owner),
     Node(&'a [u8], &'a NodeName),
-    Nodes(&'a [u8], &'a [NodeName]),
+    Nodes(&'a [u8], &'a [LentName<'a>]),
     Units(&'a [u8], &'a [u16]),
 }
 
@@ -73,7 +74,7 @@ fn put_piece(out: &mut Vec<u8>, viewer: &Owner, piece: &Piece<'_>) -> Result<(),
         Piece::Bytes(_, bytes) => out.extend_from_slice(bytes),
         Piece::Number(_, number) => put_number(out, *number),
         Piece::Owner(_, owner) => put_owner(out, owner),
-        Piece::Node(_, node) => put_node(out, viewer, node),
+        Piece::Node(_, node) => put_node(out, viewer, &node.owner, node.number),
         Piece::Nodes(_, nodes) => put_list(out, viewer, nodes),
         Piece::Units(_, units) => put_units(out, units),
     }

@@ -1,12 +1,15 @@
 //! Calls of listeners, records of observers, and microtasks.
-ghost use Rattle.std.specs.Prelude.{◌≡◌, List, ◌++◌, ◌∷◌, [], OnOk, OnErr, codes, option_copied};
+ghost use Rattle.std.specs.Prelude.{◌≡◌, List, ◌++◌, ◌∷◌, [], OnOk, OnErr, codes, map, option_copied};
+ghost use Rattle.std.specs.Option.{option_map};
 ghost use Rattle.dom_model.specs.Output.{event_seen, micro_ran, recorded, says};
 ghost use Rattle.dom_text.specs.Text.{change_text, list_text, node_or_null, output_text, record_text, string_or_null};
 ghost use Rattle.dom_printer.specs.Lines.{line_text};
 ghost use Rattle.dom_printer.specs.Keeping.{Keeps};
+ghost use Rattle.dom_printer.specs.Names.{name_view};
 ghost use Rattle.dom_printer.specs.Records.{change_view, event_text, event_view, places_text, shown_text};
 
 use crate::buffers::cut_if_refused;
+use crate::named::LentName;
 use crate::names::{put_list, put_node, put_node_or_null, put_number, put_owner, put_text};
 use crate::pieces::{Piece, put_line};
 use crate::strings::put_units;
@@ -30,19 +33,19 @@ pub struct Event<'a> {
 #[derive(Clone, Copy)]
 pub enum Change<'a> {
     ChildList {
-        target: NodeName,
-        added: &'a [NodeName],
-        removed: &'a [NodeName],
-        previous: Option<NodeName>,
-        next: Option<NodeName>,
+        target: LentName<'a>,
+        added: &'a [LentName<'a>],
+        removed: &'a [LentName<'a>],
+        previous: Option<LentName<'a>>,
+        next: Option<LentName<'a>>,
     },
     Attributes {
-        target: NodeName,
+        target: LentName<'a>,
         name: &'a str,
         old: Option<&'a [u16]>,
     },
     CharacterData {
-        target: NodeName,
+        target: LentName<'a>,
         old: Option<&'a [u16]>,
     },
 }
@@ -97,9 +100,9 @@ fn put_places(out: &mut Vec<u8>, viewer: &Owner, call: &Event<'_>) -> Result<(),
     put_text(out, *b" phase=")?;
     put_number(out, call.phase as usize)?;
     put_text(out, *b" target=")?;
-    put_node(out, viewer, &call.target)?;
+    put_node(out, viewer, &call.target.owner, call.target.number)?;
     put_text(out, *b" current=")?;
-    put_node(out, viewer, &call.current)
+    put_node(out, viewer, &call.current.owner, call.current.number)
 }
 
 /// Puts what an event shows to a listener, as far as there is memory.
@@ -112,7 +115,7 @@ fn put_shown(out: &mut Vec<u8>, viewer: &Owner, call: &Event<'_>) -> Result<(), 
         None => put_text(out, *b" related=null path=")?,
         Some(related) => {
             put_text(out, *b" related=")?;
-            put_node(out, viewer, related)?;
+            put_node(out, viewer, &related.owner, related.number)?;
             put_text(out, *b" path=")?;
         }
     }
@@ -172,20 +175,20 @@ fn put_change(out: &mut Vec<u8>, viewer: &Owner, change: &Change<'_>) -> Result<
             next,
         } => {
             put_text(out, *b" childList ")?;
-            put_node(out, viewer, target)?;
+            put_node(out, viewer, target.owner, target.number)?;
             put_lists(out, viewer, added, removed)?;
             put_siblings(out, viewer, previous, next)
         }
         Change::Attributes { target, name, old } => {
             put_text(out, *b" attributes ")?;
-            put_node(out, viewer, target)?;
+            put_node(out, viewer, target.owner, target.number)?;
             put_text(out, *b" name=")?;
             out.extend_from_slice(name.as_bytes())?;
             put_old(out, *old)
         }
         Change::CharacterData { target, old } => {
             put_text(out, *b" characterData ")?;
-            put_node(out, viewer, target)?;
+            put_node(out, viewer, target.owner, target.number)?;
             put_old(out, *old)
         }
     }
@@ -196,11 +199,12 @@ fn put_change(out: &mut Vec<u8>, viewer: &Owner, change: &Change<'_>) -> Result<
 fn put_lists(
     out: &mut Vec<u8>,
     viewer: &Owner,
-    added: &[NodeName],
-    removed: &[NodeName],
+    added: &[LentName<'_>],
+    removed: &[LentName<'_>],
 ) -> Result<(), AllocError>
     ensures ok { OnOk result (out.new.items
-        ≡ out.old.items ++ codes " added=" ++ list_text viewer.now added.now ++ codes " removed=" ++ list_text viewer.now removed.now) }
+        ≡ out.old.items ++ codes " added=" ++ list_text viewer.now (map name_view added.now)
+        ++ codes " removed=" ++ list_text viewer.now (map name_view removed.now)) }
     ensures err { OnErr result (Keeps out.old.items out.new.items) }
 {
     put_text(out, *b" added=")?;
@@ -214,11 +218,12 @@ fn put_lists(
 fn put_siblings(
     out: &mut Vec<u8>,
     viewer: &Owner,
-    previous: &Option<NodeName>,
-    next: &Option<NodeName>,
+    previous: &Option<LentName<'_>>,
+    next: &Option<LentName<'_>>,
 ) -> Result<(), AllocError>
     ensures ok { OnOk result (out.new.items
-        ≡ out.old.items ++ codes " prev=" ++ node_or_null viewer.now previous.now ++ codes " next=" ++ node_or_null viewer.now next.now) }
+        ≡ out.old.items ++ codes " prev=" ++ node_or_null viewer.now (option_map name_view previous.now)
+        ++ codes " next=" ++ node_or_null viewer.now (option_map name_view next.now)) }
     ensures err { OnErr result (Keeps out.old.items out.new.items) }
 {
     put_text(out, *b" prev=")?;

@@ -11,6 +11,7 @@ ghost use Rattle.dom_printer.specs.Lines.{line_text};
 ghost use Rattle.dom_printer.specs.Replies.{boundary_view, value_view, refusal_output};
 
 use crate::buffers::cut_if_refused;
+use crate::named::LentName;
 use crate::names::{put_lettered, put_node, put_owner};
 use crate::pieces::{Piece, put_line};
 use dom_base::{NodeName, Owner, Refusal};
@@ -32,7 +33,7 @@ pub enum Value<'a> {
     Null,
     Node(NodeName),
     /// Nodes in brackets, with commas between them.
-    List(&'a [NodeName]),
+    List(&'a [LentName<'a>]),
     /// A component, by its owner's word.
     Component(Owner),
     /// The number of a range, behind `r`.
@@ -157,7 +158,7 @@ fn put_page_node_within(out: &mut Vec<u8>, number: u32) -> Result<(), AllocError
     ensures err { OnErr result (out.new.items ≡ out.old.items) }
 {
     out.extend_from_slice(b"p ok ")?;
-    put_lettered(out, b'n', number, 1)
+    put_lettered(out, 0, b'n', number, 1)
 }
 
 /// The digit of a component's word that is `c` and this digit.
@@ -215,7 +216,7 @@ fn put_found_parts(out: &mut Vec<u8>, owner: &Owner, node: &NodeName) -> Result<
 {
     put_owner(out, owner)?;
     out.extend_from_slice(b" ok ")?;
-    put_node(out, owner, node)?;
+    put_node(out, owner, &node.owner, node.number)?;
     Ok(out.push(b'\n')?)
 }
 

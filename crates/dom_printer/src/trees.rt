@@ -108,7 +108,7 @@ fn put_step(out: &mut Vec<u8>, viewer: &Owner, step: &TreeStep<'_>) -> Result<()
         TreeStep::Closes => out.extend_from_slice(b")"),
         TreeStep::Opens(opening) => {
             out.extend_from_slice(b" (")?;
-            put_node(out, viewer, &opening.name)?;
+            put_node(out, viewer, &opening.name.owner, opening.name.number)?;
             out.extend_from_slice(b" ")?;
             out.extend_from_slice(kind_name(opening.kind).as_bytes())?;
             put_own_parts(out, opening)

@@ -29,6 +29,8 @@ pub use Rattle.dom_laws.proofs.Laws.{after-in, before-in, by_times, filter-same,
 pub use Rattle.dom_laws.proofs.Laws.{times-more, times_count, times_in-none, above-parent, from_first, from_next, Has, parent-of_child}
 pub use Rattle.dom_model.specs.Selectors.{with_attribute}
 pub use Rattle.dom_mutation.specs.Definitions.{change_in, DocState, name_in, notice_in, notices_of, trees_in, with_tasks}
+pub use Rattle.dom_base.proofs.Std.{on_ok_weaker}
+pub use Rattle.dom_printer.specs.Names.{name_view}
 pub use Rattle.dom_printer.specs.Steps.{attribute_view, attributes_in, attributes_view, data_in, shown, shown_as, shown_steps, step_view, steps_view}
 pub use Rattle.dom_printer.specs.declared.trees.Attribute.{Attribute}
 pub use Rattle.dom_printer.specs.declared.trees.NodeContent.{NodeContent}

@@ -1,5 +1,4 @@
 -- Unmarked: own rules, about what the code holds and its contracts say.
 pub mod Recorded
-pub mod RecordNames
 pub mod Requests
 pub mod TreeText

@@ -1,11 +1,12 @@
 //! The commands that ask where nodes stand.
-ghost use Rattle.std.specs.Prelude.{◌≡◌, ◌++◌, ◌∷◌, [], OnOk, IfOk};
+ghost use Rattle.std.specs.Prelude.{◌≡◌, ◌++◌, ◌∷◌, [], OnOk, IfOk, map};
 ghost use Rattle.std.specs.Option.{option_map, ForSome};
 ghost use Rattle.dom_model.specs.Tree.{subtree, parent_of, children_of, is_inclusive_ancestor};
 ghost use Rattle.dom_model.specs.Command.{tree, parent, document_of, children, contains, connected};
 ghost use Rattle.dom_model.specs.Effects.{node_or_null};
-ghost use Rattle.dom_model.specs.Output.{says, replied, a_tree};
+ghost use Rattle.dom_model.specs.Output.{says, replied, a_list, a_tree};
 ghost use Rattle.dom_text.specs.Text.{output_text};
+ghost use Rattle.dom_printer.specs.Names.{name_view};
 ghost use Rattle.dom_printer.specs.Replies.{value_view};
 ghost use Rattle.dom_reader.specs.Views.{word_view};
 ghost use Rattle.dom_tree.specs.Forest.{IsNode, name_of};
@@ -14,9 +15,9 @@ ghost use Rattle.dom_mutation.specs.Doc.{HoldsNode, name_in, trees_in};
 
 use crate::things;
 use crate::tree_text::tree_steps;
-use dom_admission::{Operand, State};
-use dom_base::{Fault, NodeName, Owner};
-use dom_printer::{Value, put_tree};
+use dom_admission::{Operand, State, lent_name};
+use dom_base::{Fault, Owner};
+use dom_printer::{LentName, Value, put_reply, put_tree};
 use dom_reader::NodeWord;
 use dom_tree::Forest;
 use node_arena::Key;
@@ -77,8 +78,9 @@ pub fn children(
     ensures names { KeepsNames state.old.names state.new.names result }
 {
     let node = state.admit_one(owner, Operand::Any(node))?;
-    let children = children_of(state, node)?;
-    state.accept(&owner, &Value::List(&children), out)
+    reply_children(state, &owner, node, out)?;
+    state.open_turn(&owner);
+    Ok(())
 }
 
 /// `contains N N`: whether the first node is the second or stands above it.
@@ -139,12 +141,19 @@ fn parent_of(state: &State, node: Key) -> Option<Key>
     state.forest().parent(node)
 }
 
-/// The names of the children of a node.
-fn children_of(state: &State, node: Key) -> Result<Vec<NodeName>, AllocError>
+/// Puts the reply that has the children of a node.
+fn reply_children(
+    state: &State,
+    owner: &Owner,
+    node: Key,
+    out: &mut Vec<u8>,
+) -> Result<(), AllocError>
     requires { HoldsNode state.now node }
-    ensures { IfOk result (λ names. names.items ≡ children_of (trees_in state.now node) (name_in state.now node)) }
+    ensures { OnOk result (out.new.items ≡ out.old.items ++
+        output_text (says owner.now (replied (a_list (children_of (trees_in state.now node) (name_in state.now node)))) ∷ [])) }
 {
-    child_names(state.alloc, state.forest(), node)
+    let names = child_names(state.alloc, state.forest(), node)?;
+    put_reply(out, owner, &Value::List(&names))
 }
 
 /// Whether a node is another one or stands above it.
@@ -157,15 +166,15 @@ fn is_above(state: &State, above: Key, node: Key) -> bool
 }
 
 /// The names of the children of a node, along the links from sibling to sibling.
-fn child_names(alloc: Global, forest: &Forest, node: Key) -> Result<Vec<NodeName>, AllocError>
+fn child_names(alloc: Global, forest: &Forest, node: Key) -> Result<Vec<LentName<'_>>, AllocError>
     requires { IsNode forest.now node }
-    ensures { IfOk result (λ names. names.items ≡ children_of forest.now.trees (name_of forest.now node)) }
+    ensures { IfOk result (λ names. map name_view names.items ≡ children_of forest.now.trees (name_of forest.now node)) }
 {
     forest.law_nodes_stand_once();
     let mut names = Vec::with_capacity(alloc, FIRST_ROOM)?;
     let mut at = forest.first(node);
     while let Some(child) = at {
-        names.push(forest.name(child))?;
+        names.push(lent_name(forest, child))?;
         at = forest.next(child);
     }
     Ok(names)

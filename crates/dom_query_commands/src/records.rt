@@ -1,53 +1,19 @@
 //! Records of observers as lines.
-ghost use Rattle.std.specs.Prelude.{◌≡◌, ◌++◌, ◌∷◌, [], All, IfOk, OnOk, map};
+ghost use Rattle.std.specs.Prelude.{◌≡◌, ◌++◌, ◌∷◌, [], OnOk};
 ghost use Rattle.std.specs.List.{AllByRecursion};
 ghost use Rattle.std.specs.Option.{option_map, ForSome};
 ghost use Rattle.dom_text.specs.Text.{output_text};
-ghost use Rattle.dom_tree.specs.Forest.{IsNode, name_at, name_of};
+ghost use Rattle.dom_printer.specs.Names.{name_view};
+ghost use Rattle.dom_tree.specs.Forest.{IsNode, name_at};
 ghost use Rattle.dom_query_commands.specs.Recorded.{record_line, record_lines, notice_lines, IsRecord, IsNotice};
 
-use dom_admission::names_of;
-use dom_base::{NodeName, Owner};
+use dom_admission::{lent_name, names_of};
+use dom_base::Owner;
 use dom_observers::{Change as Changed, Record};
-use dom_printer::{Change, put_record};
+use dom_printer::{Change, LentName, put_record};
 use dom_tree::Forest;
 use node_arena::Key;
 use std::alloc::{AllocError, Global};
-
-/// The names of nodes, in their order. One or two take no memory.
-#[derive(Drop)]
-enum Names {
-    One([NodeName; 1]),
-    Two([NodeName; 2]),
-    Many(Vec<NodeName>),
-}
-
-impl Names {
-    ghost use Rattle.dom_query_commands.specs.RecordNames.{names_in};
-
-    /// The names of these nodes.
-    fn of(alloc: Global, forest: &Forest, keys: &[Key]) -> Result<Names, AllocError>
-        requires { All (IsNode forest.now) keys.now }
-        ensures { IfOk result (λ names. names_in names ≡ map (name_of forest.now) keys.now) }
-    {
-        match keys {
-            [node] => Ok(Names::One([forest.name(*node)])),
-            [first, second] => Ok(Names::Two([forest.name(*first), forest.name(*second)])),
-            _ => Ok(Names::Many(names_of(alloc, forest, keys)?)),
-        }
-    }
-
-    /// The names.
-    fn as_slice(&self) -> &[NodeName]
-        ensures { result.now ≡ names_in self.now }
-    {
-        match self {
-            Names::One(names) => names,
-            Names::Two(names) => names,
-            Names::Many(names) => names.as_slice(),
-        }
-    }
-}
 
 /// Puts the records of a notification, each observer's in order.
 pub(crate) fn put_notices(
@@ -105,10 +71,10 @@ fn put_change(
             previous,
             next,
         } => {
-            let plus = Names::of(alloc, forest, added.as_slice())?;
-            let minus = Names::of(alloc, forest, removed.as_slice())?;
+            let plus = names_of(alloc, forest, added.as_slice())?;
+            let minus = names_of(alloc, forest, removed.as_slice())?;
             let change = Change::ChildList {
-                target: forest.name(*target),
+                target: lent_name(forest, *target),
                 added: plus.as_slice(),
                 removed: minus.as_slice(),
                 previous: name_if(forest, *previous),
@@ -118,7 +84,7 @@ fn put_change(
         }
         Changed::Attributes { target, name, old } => {
             let change = Change::Attributes {
-                target: forest.name(*target),
+                target: lent_name(forest, *target),
                 name: name.as_str(),
                 old: units_if(old),
             };
@@ -126,7 +92,7 @@ fn put_change(
         }
         Changed::CharacterData { target, old } => {
             let change = Change::CharacterData {
-                target: forest.name(*target),
+                target: lent_name(forest, *target),
                 old: units_if(old),
             };
             put_record(out, owner, observer, &change)
@@ -135,12 +101,12 @@ fn put_change(
 }
 
 /// The name of a node, if there is one.
-fn name_if(forest: &Forest, key: Option<Key>) -> Option<NodeName>
+fn name_if(forest: &Forest, key: Option<Key>) -> Option<LentName<'_>>
     requires { ForSome key (IsNode forest.now) }
-    ensures { result ≡ option_map (name_at forest.now.names) key }
+    ensures { option_map name_view result ≡ option_map (name_at forest.now.names) key }
 {
     match key {
-        Some(node) => Some(forest.name(node)),
+        Some(node) => Some(lent_name(forest, node)),
         None => None,
     }
 }

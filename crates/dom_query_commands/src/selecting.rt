@@ -1,17 +1,19 @@
 //! The commands that select nodes.
-ghost use Rattle.std.specs.Prelude.{◌≡◌, ◌<◌, true, IfOk};
+ghost use Rattle.std.specs.Prelude.{◌≡◌, ◌<◌, ◌++◌, ◌∷◌, [], true, OnOk};
 ghost use Rattle.dom_model.specs.Tree.{has_node};
 ghost use Rattle.dom_model.specs.Command.{query, matches};
 ghost use Rattle.dom_model.specs.CommandNames.{named};
+ghost use Rattle.dom_model.specs.Output.{says, replied, a_list};
 ghost use Rattle.dom_model.specs.Selectors.{query_all, selector_matches};
 ghost use Rattle.dom_model.specs.World.{part_of};
+ghost use Rattle.dom_text.specs.Text.{output_text};
 ghost use Rattle.dom_reader.specs.Views.{word_view};
 ghost use Rattle.dom_selectors.specs.Views.{selector_view};
 ghost use Rattle.dom_admission.specs.Handled.{KeepsNames, IsHandled};
 
 use dom_admission::{Operand, State, names_of};
-use dom_base::{DomStr, Fault, NodeName, Owner};
-use dom_printer::Value;
+use dom_base::{DomStr, Fault, Owner};
+use dom_printer::{Value, put_reply};
 use dom_reader::NodeWord;
 use dom_selectors::Selector;
 use std::alloc::AllocError;
@@ -29,8 +31,9 @@ pub fn query(
 {
     state.admit(owner, &[Operand::Parent(node)])?;
     let selector = Selector::parse(state.alloc, &text)?;
-    let found = selected(state, owner, node, &selector)?;
-    state.accept(&owner, &Value::List(&found), out)
+    reply_selected(state, owner, node, &selector, out)?;
+    state.open_turn(&owner);
+    Ok(())
 }
 
 /// `matches E STR`: whether an element matches a selector.
@@ -50,21 +53,23 @@ pub fn matches(
     state.accept(&owner, &Value::Truth(truth), out)
 }
 
-/// The names of the nodes below a node that is there which match a selector.
-fn selected(
+/// Puts the reply that has the nodes below a node that is there which match a selector.
+fn reply_selected(
     state: &State,
     owner: Owner,
     node: NodeWord,
     selector: &Selector,
-) -> Result<Vec<NodeName>, AllocError>
+    out: &mut Vec<u8>,
+) -> Result<(), AllocError>
     requires { has_node (part_of state.now.world owner).trees (named (part_of state.now.world owner) (word_view node)) ≡ true }
-    ensures { IfOk result (λ names. names.items ≡ query_all (part_of state.now.world owner).trees (selector_view selector.now)
-        (named (part_of state.now.world owner) (word_view node))) }
+    ensures { OnOk result (out.new.items ≡ out.old.items ++ output_text (says owner (replied (a_list
+        (query_all (part_of state.now.world owner).trees (selector_view selector.now) (named (part_of state.now.world owner) (word_view node))))) ∷ [])) }
 {
     let key = state.key(owner, node);
     let forest = state.doc.forest();
     let keys = selector.query(state.alloc, forest, key)?;
-    names_of(state.alloc, forest, &keys)
+    let names = names_of(state.alloc, forest, &keys)?;
+    put_reply(out, &owner, &Value::List(&names))
 }
 
 /// Whether a node that is there matches a selector.

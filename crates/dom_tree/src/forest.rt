@@ -179,4 +179,15 @@ impl Forest {
     {
         self.arena.payload(key).name()
     }
+
+    /// The name of a node in its two parts, of which the owner is lent: no name is copied (own rule).
+    #[inline(always)]
+    pub fn lent_name(&self, key: Key) -> (&Owner, u32)
+        requires { IsNode self.now key }
+        ensures owner { result.0.now ≡ (name_of self.now key).owner }
+        ensures number { result.1 ≡ (name_of self.now key).number }
+    {
+        let stored = self.arena.payload(key);
+        (stored.owner(), stored.number())
+    }
 }

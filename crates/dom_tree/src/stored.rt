@@ -14,7 +14,7 @@ use crate::ids::id_code;
 use crate::own::Own;
 use crate::shared::{Kept, Shared, SharedTable};
 use dom_attributes::{SharedNames, Signs};
-use dom_base::{DomStr, Kind, NodeName};
+use dom_base::{DomStr, Kind, NodeName, Owner};
 use node_arena::Key;
 use std::alloc::{AllocError, Global};
 use std::marker::Model;
@@ -90,9 +90,25 @@ impl StoredNode {
         ensures { result ≡ self.now.name }
     {
         NodeName {
-            owner: self.shared.owner,
-            number: self.own.number(),
+            owner: *self.owner(),
+            number: self.number(),
         }
+    }
+
+    /// The owner in its name.
+    #[inline(always)]
+    pub(crate) fn owner(&self) -> &Owner
+        ensures { result.now ≡ self.now.name.owner }
+    {
+        &self.shared.owner
+    }
+
+    /// The number in its name.
+    #[inline(always)]
+    pub(crate) fn number(&self) -> u32
+        ensures { result ≡ self.now.name.number }
+    {
+        self.own.number()
     }
 
     /// Its kind.

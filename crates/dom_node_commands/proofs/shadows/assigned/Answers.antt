@@ -1,4 +1,4 @@
-use Rattle.dom_node_commands.proofs.Handlers.{◌∙◌, ◌∷◌, Slot, [], a_list, ap, asks, assigned_nodes, may_act, named, naming-assigned, opened-same}
+use Rattle.dom_node_commands.proofs.Handlers.{◌∙◌, ◌∷◌, Ok, Slot, [], a_list, ap, asks, assigned_nodes, may_act, named, naming-assigned, opened-same}
 use Rattle.dom_node_commands.proofs.Handlers.{part_of, refl, refused, sym, word_view}
 use Rattle.dom_node_commands.proofs.shadows.assigned.Goals as goal
 
@@ -12,5 +12,5 @@ returns-clause-handled c =
     let w = c.args.state.now.world in
     let opens = opened-same (λ u. assigned_nodes u (named (part_of u c.args.owner.now) (word_view c.args.slot))) w c.args.owner.now (λ t. refl) in
     asks (may_act _ _ _ (Slot c.args.slot ∷ []) (naming-assigned _ (sym c.is_page.ensures ∙ c.if-is_page.false) _) c.in_ok-slot.ensures.passed
-    refl) _ _ _ _ refl refl
-    (ap a_list (c.deref.ensures.value ∙ c.in_ok-nodes.ensures ∙ ap (assigned_nodes w) c.in_ok-slot.ensures.key.name ∙ opens)) c.accept.ensures.done
+    refl) _ _ _ (Ok tt) refl refl
+    (ap a_list (ap (assigned_nodes w) c.in_ok-slot.ensures.key.name ∙ opens)) (refl, c.open_turn.ensures.world, c.in_ok-reply_assigned.ensures)

@@ -1,6 +1,6 @@
 -- Each turn lists a child, until there is none.
 use Rattle.dom_query_commands.proofs.Cited.{◌++◌, ◌∷◌, [], length, sym, ap, ◌∙◌, arith, append_assoc, option_map, append-nil, NodeName, name_at}
-use Rattle.dom_query_commands.proofs.Cited.{from_sibling}
+use Rattle.dom_query_commands.proofs.Cited.{from_sibling, map, map-append, name_view}
 use Rattle.dom_query_commands.proofs.Siblings.{begins, goes_on}
 use Rattle.dom_query_commands.proofs.reads.child_names.Goals as goal
 
@@ -12,7 +12,7 @@ loop-at-init c =
     record {
       node = c.first-at.ensures.node;
       child = from.1;
-      so_far = ap (λ items. items ++ from_sibling f.trees (option_map (name_at f.names) c.first-at.result)) c.in_ok-names.ensures.items ∙ from.0;
+      so_far = ap (λ items. map name_view items ++ from_sibling f.trees (option_map (name_at f.names) c.first-at.result)) c.in_ok-names.ensures.items ∙ from.0;
     }
 
 pub loop-at-smaller : goal.loop-at-smaller
@@ -30,15 +30,19 @@ loop-at-preserved c =
     let from = goes_on f.names f.trees law.once law.only (name_at f.names c.args.node) (i.node c.in-Some.child c.in-Some.is)
     c.next-at.result c.in-Some.is c.next-at.ensures.value i.child in
     let rest = from_sibling f.trees (option_map (name_at f.names) c.next-at.result) in
+    let named = map name_view c.loop-at.names.items in
     record {
       node = c.next-at.ensures.node;
       child = from.1;
-      so_far = ap (λ items. items ++ rest) c.in_ok-push.ensures.items ∙ append_assoc c.loop-at.names.items (c.name.result ∷ []) rest
-          ∙ ap (λ (x : NodeName). c.loop-at.names.items ++ (x ∷ rest)) (sym c.name.ensures.at) ∙ ap (λ ys. c.loop-at.names.items ++ ys) (sym from.0) ∙ i.so_far;
+      so_far = ap (λ items. map name_view items ++ rest) c.in_ok-push.ensures.items
+          ∙ ap (λ ys. ys ++ rest) (map-append name_view c.loop-at.names.items (c.lent_name.result ∷ []))
+          ∙ append_assoc named (name_view c.lent_name.result ∷ []) rest
+          ∙ ap (λ (x : NodeName). named ++ (x ∷ rest)) c.lent_name.ensures ∙ ap (λ ys. named ++ ys) (sym from.0) ∙ i.so_far;
     }
 
 pub returns : goal.returns
 returns c =
     let f = c.args.forest.now in
-    sym (append-nil c.loop-at.names.items) ∙ ap (λ o. c.loop-at.names.items ++ from_sibling f.trees (option_map (name_at f.names) o))
+    let named = map name_view c.loop-at.names.items in
+    sym (append-nil named) ∙ ap (λ o. named ++ from_sibling f.trees (option_map (name_at f.names) o))
     (sym c.in_default.is) ∙ c.loop-at.invariant.so_far
