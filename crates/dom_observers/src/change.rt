@@ -4,28 +4,30 @@ ghost use Rattle.dom_model.specs.Observers.{target_of, without_old};
 ghost use Rattle.dom_observers.specs.Views.{change_of};
 
 use node_arena::Key;
+use smallvec::SmallVec;
 use std::alloc::{AllocError, Global};
 
 /// A change of a node (DOM Standard, interface MutationRecord): of its children, with the nodes added, the nodes removed
 /// and the siblings around them; of an attribute, with its old value where it had one; or of its data, with the old data.
-/// A change that is to be recorded has the old value; a record has it where it was asked for.
+/// A change that is to be recorded has the old value; a record has it where it was asked for. Up to two nodes that were added or removed
+/// stand in line, and so do up to eight code units of an old value.
 #[derive(Drop)]
 pub enum Change {
     ChildList {
         target: Key,
-        added: Vec<Key>,
-        removed: Vec<Key>,
+        added: SmallVec<Key, 2>,
+        removed: SmallVec<Key, 2>,
         previous: Option<Key>,
         next: Option<Key>,
     },
     Attributes {
         target: Key,
         name: String,
-        old: Option<Vec<u16>>,
+        old: Option<SmallVec<u16, 8>>,
     },
     CharacterData {
         target: Key,
-        old: Option<Vec<u16>>,
+        old: Option<SmallVec<u16, 8>>,
     },
 }
 
@@ -57,8 +59,8 @@ impl Change {
                 next,
             } => Ok(Change::ChildList {
                 target: *target,
-                added: Vec::from_slice(alloc, added.as_slice())?,
-                removed: Vec::from_slice(alloc, removed.as_slice())?,
+                added: SmallVec::from_slice(alloc, added.as_slice())?,
+                removed: SmallVec::from_slice(alloc, removed.as_slice())?,
                 previous: *previous,
                 next: *next,
             }),
@@ -96,13 +98,13 @@ impl Change {
 /// A copy of an old value, or none where it is not wanted.
 fn copied_value(
     alloc: Global,
-    old: &Option<Vec<u16>>,
+    old: &Option<SmallVec<u16, 8>>,
     with_old: bool,
-) -> Result<Option<Vec<u16>>, AllocError>
+) -> Result<Option<SmallVec<u16, 8>>, AllocError>
     ensures { IfOk result (λ o. option_map (λ s. s.items) o ≡ (if with_old then option_map (λ s. s.items) old.now else None)) }
 {
     match old {
-        Some(value) if with_old => Ok(Some(Vec::from_slice(alloc, value.as_slice())?)),
+        Some(value) if with_old => Ok(Some(SmallVec::from_slice(alloc, value.as_slice())?)),
         _ => Ok(None),
     }
 }

@@ -189,6 +189,7 @@ impl Table {
     }
 
     /// Puts a record behind those of an observer, which is then pending.
+    #[inline(always)]
     fn give(&mut self, observer: u32, entry: Record) -> Result<(), AllocError>
         ensures { OnOk result (table_of self.new ≡ given (change_of entry) (table_of self.old) observer) }
     {
@@ -198,6 +199,7 @@ impl Table {
     }
 
     /// Puts a record behind those of an observer.
+    #[inline(always)]
     fn append(&mut self, observer: u32, entry: Record) -> Result<(), AllocError>
         ensures { OnOk result (table_of self.new ≡ appended (change_of entry) (table_of self.old) observer) }
     {
@@ -243,6 +245,7 @@ impl Table {
 }
 
 /// Puts a record behind those of a queue. The first one takes memory for itself alone.
+#[inline(always)]
 fn push_record(queue: &mut Vec<Record>, entry: Record) -> Result<(), AllocError>
     ensures { OnOk result (queue.new.items ≡ queue.old.items ++ entry ∷ []) }
 {

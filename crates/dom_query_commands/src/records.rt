@@ -13,6 +13,7 @@ use dom_observers::{Change as Changed, Record};
 use dom_printer::{Change, LentName, put_record};
 use dom_tree::Forest;
 use node_arena::Key;
+use smallvec::SmallVec;
 use std::alloc::{AllocError, Global};
 
 /// Puts the records of a notification, each observer's in order.
@@ -112,7 +113,7 @@ fn name_if(forest: &Forest, key: Option<Key>) -> Option<LentName<'_>>
 }
 
 /// The code units of an old value, if there is one.
-fn units_if(old: &Option<Vec<u16>>) -> Option<&[u16]>
+fn units_if(old: &Option<SmallVec<u16, 8>>) -> Option<&[u16]>
     ensures { option_map (λ units. units.now) result ≡ option_map (λ units. units.items) old.now }
 {
     match old {

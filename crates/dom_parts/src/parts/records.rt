@@ -11,9 +11,9 @@ ghost use Rattle.dom_parts.specs.Doc.{name_in, owner_in, trees_in, change_in, Na
 
 use super::settling::give_up_observers;
 use crate::Parts;
-use dom_base::DomStr;
 use dom_observers::Change;
 use node_arena::Key;
+use smallvec::SmallVec;
 use std::alloc::AllocError;
 
 impl Parts {
@@ -66,8 +66,8 @@ impl Parts {
         let alloc = self.alloc;
         let change = Change::ChildList {
             target,
-            added: Vec::from_slice(alloc, added)?,
-            removed: Vec::from_slice(alloc, removed)?,
+            added: SmallVec::from_slice(alloc, added)?,
+            removed: SmallVec::from_slice(alloc, removed)?,
             previous: prev,
             next,
         };
@@ -106,7 +106,7 @@ impl Parts {
             return Ok(());
         }
         let alloc = self.alloc;
-        let old = Vec::from_slice(alloc, self.text(node))?;
+        let old = SmallVec::from_slice(alloc, self.text(node))?;
         let change = Change::CharacterData {
             target: node,
             old: Some(old),
@@ -115,12 +115,12 @@ impl Parts {
     }
 
     /// A copy of the value of an attribute, where there is one.
-    fn old_value(&self, node: Key, name: &str) -> Result<Option<DomStr>, AllocError>
+    fn old_value(&self, node: Key, name: &str) -> Result<Option<SmallVec<u16, 8>>, AllocError>
         requires { HoldsNode self.now node }
         ensures { IfOk result (λ old. option_map (λ s. s.items) old ≡ attribute_value (node_in (trees_in self.now node) (name_in self.now node)) name.now) }
     {
         match self.trees.forest.attr(node, name) {
-            Some(value) => Ok(Some(Vec::from_slice(self.alloc, value)?)),
+            Some(value) => Ok(Some(SmallVec::from_slice(self.alloc, value)?)),
             None => Ok(None),
         }
     }
@@ -137,6 +137,7 @@ impl Parts {
     /// The record of a change goes to the observers that are interested in it, and where there are some their owner's
     /// notification is queued (DOM Standard, queue a mutation record). Where memory is refused no owner has an observer, or
     /// the notification is not queued. A node from which what is below it is observed helps to find them sooner.
+    #[inline(always)]
     fn record(&mut self, top: Option<Key>, change: Change) -> Result<(), AllocError>
         requires { NamesNodes self.old change }
         ensures { OnOk result (self.new ≡ stepped (owner_in self.old (target_of (change_of change))) (queue_record (change_in self.old change)) self.old) }
@@ -158,6 +159,7 @@ impl Parts {
     }
 
     /// The record of a change goes to the observers that are interested in it, as `record` says.
+    #[inline(always)]
     fn tell(&mut self, change: Change) -> Result<(), AllocError>
         requires { NamesNodes self.old change }
         ensures { OnOk result (self.new ≡ stepped (owner_in self.old (target_of (change_of change))) (queue_record (change_in self.old change)) self.old) }
