@@ -56,18 +56,18 @@ impl ByOwner {
     }
 
     /// What is kept of an owner, if it has had a slot.
-    fn slots(&self, owner: Owner) -> Option<&OwnSlots>
-        ensures { option_map_or (λ own. own.now.numbers) result [] ≡ numbers_of self.now owner }
+    fn slots(&self, owner: &Owner) -> Option<&OwnSlots>
+        ensures { option_map_or (λ own. own.now.numbers) result [] ≡ numbers_of self.now owner.now }
     {
         match place_of(owner) {
             Some(place) => self.listed.get(place),
-            None => self.others.get(&owner),
+            None => self.others.get(owner),
         }
     }
 
     /// The numbers of an owner's slots.
-    pub(crate) fn numbers(&self, owner: Owner) -> &[u32]
-        ensures { result.now ≡ numbers_of self.now owner }
+    pub(crate) fn numbers(&self, owner: &Owner) -> &[u32]
+        ensures { result.now ≡ numbers_of self.now owner.now }
     {
         match self.slots(owner) {
             Some(own) => own.numbers.as_slice(),
@@ -76,11 +76,11 @@ impl ByOwner {
     }
 
     /// Whether a slot is among them.
-    pub(crate) fn has(&self, slot: NodeName) -> bool
-        ensures { result ≡ is_in nat_eq slot.number (numbers_of self.now slot.owner) }
+    pub(crate) fn has(&self, owner: &Owner, number: u32) -> bool
+        ensures { result ≡ is_in nat_eq number (numbers_of self.now owner.now) }
     {
-        match self.slots(slot.owner) {
-            Some(own) => own.numbers.has(slot.number),
+        match self.slots(owner) {
+            Some(own) => own.numbers.has(number),
             None => false,
         }
     }
@@ -102,7 +102,7 @@ impl ByOwner {
         ensures err { OnErr result ((o : Owners) → numbers_of self.new o ≡ numbers_of self.old o) }
     {
         self.prepare(slot.owner)?;
-        match place_of(slot.owner) {
+        match place_of(&slot.owner) {
             Some(place) => push_at(self.alloc, &mut self.listed, place, slot.number),
             None => push_other(self.alloc, &mut self.others, slot.owner, slot.number),
         }
@@ -114,7 +114,7 @@ impl ByOwner {
         ensures since { (o : Owners) → since_of self.new o ≡ since_of self.old o }
         ensures there { OnOk result (IsThere self.new owner) }
     {
-        if let Some(place) = place_of(owner) {
+        if let Some(place) = place_of(&owner) {
             return reach(self.alloc, &mut self.listed, place);
         }
         if self.others.contains_key(&owner) {
@@ -130,7 +130,7 @@ impl ByOwner {
         ensures numbers { (o : Owners) → numbers_of self.new o ≡ (if owner_eq owner o then [] else numbers_of self.old o) }
         ensures since { (o : Owners) → since_of self.new o ≡ (if owner_eq owner o then since else since_of self.old o) }
     {
-        match place_of(owner) {
+        match place_of(&owner) {
             Some(place) => empty_at(&mut self.listed, place, since),
             None => empty_other(&mut self.others, owner, since),
         }

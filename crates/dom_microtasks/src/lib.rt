@@ -85,7 +85,7 @@ impl Queue {
         ensures ok { OnOk result (self.new ≡ queued_notify owner self.old) }
         ensures err { OnErr result (self.new ≡ self.old) }
     {
-        if self.waiting.get(owner) != 0 {
+        if self.waiting.get(&owner) != 0 {
             return Ok(());
         }
         self.push_first_notify(owner)

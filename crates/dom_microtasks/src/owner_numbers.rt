@@ -33,12 +33,12 @@ impl OwnerNumbers {
 
     /// The number of an owner.
     #[inline(always)]
-    pub(crate) fn get(&self, owner: Owner) -> usize
-        ensures { result ≡ number_at self.now owner }
+    pub(crate) fn get(&self, owner: &Owner) -> usize
+        ensures { result ≡ number_at self.now owner.now }
     {
         match place_of(owner) {
             Some(place) => self.listed.get(place).copied().unwrap_or(0),
-            None => self.others.get(&owner).copied().unwrap_or(0),
+            None => self.others.get(owner).copied().unwrap_or(0),
         }
     }
 
@@ -47,7 +47,7 @@ impl OwnerNumbers {
         ensures ok { OnOk result ((o : Owners) → number_at self.new o ≡ (if owner_eq owner o then number else number_at self.old o)) }
         ensures err { OnErr result ((o : Owners) → number_at self.new o ≡ number_at self.old o) }
     {
-        match place_of(owner) {
+        match place_of(&owner) {
             Some(place) => put(&mut self.listed, place, number)?,
             None => {
                 let _ = self.others.insert(owner, number)?;
@@ -60,7 +60,7 @@ impl OwnerNumbers {
     pub(crate) fn clear(&mut self, owner: Owner)
         ensures { (o : Owners) → number_at self.new o ≡ (if owner_eq owner o then 0 else number_at self.old o) }
     {
-        match place_of(owner) {
+        match place_of(&owner) {
             Some(place) => put_zero(&mut self.listed, place),
             None => {
                 if let Some(number) = self.others.get_mut(&owner) {
@@ -73,8 +73,8 @@ impl OwnerNumbers {
 
 /// The place of the page or of a component of it in the list, none of another owner.
 #[tactic(auto, unfolding(crate::specs::OwnerNumbers::placed))]
-pub(crate) fn place_of(owner: Owner) -> Option<usize>
-    ensures value { result ≡ place_of owner }
+pub(crate) fn place_of(owner: &Owner) -> Option<usize>
+    ensures value { result ≡ place_of owner.now }
     ensures small { ForSome result (λ place. place < 65536) }
 {
     let Owner::Component(path) = owner else {

@@ -58,17 +58,20 @@ impl Signals {
         }
     }
 
-    /// Signals a slot: it comes behind the others, where it is not among them (DOM Standard, signal a slot change). It is found
-    /// without a search. Where memory is refused, they are as they were.
+    /// Signals a slot, given its owner and its number: it comes behind the others, where it is not among them (DOM Standard, signal a slot
+    /// change). It is found without a search. Where memory is refused, they are as they were.
     #[inline(always)]
-    pub fn add(&mut self, slot: NodeName) -> Result<(), AllocError>
-        ensures ok { OnOk result (self.new ≡ append_once name_eq self.old slot) }
+    pub fn add(&mut self, owner: &Owner, number: u32) -> Result<(), AllocError>
+        ensures ok { OnOk result (self.new ≡ append_once name_eq self.old (node_of owner.now number)) }
         ensures err { OnErr result (self.new ≡ self.old) }
     {
-        if self.own.has(slot) {
+        if self.own.has(owner, number) {
             return Ok(());
         }
-        self.add_new(slot)
+        self.add_new(NodeName {
+            owner: *owner,
+            number,
+        })
     }
 
     /// Puts a slot that is not among them behind the others, as `add` says.
@@ -89,7 +92,7 @@ impl Signals {
     pub fn of(&self, owner: Owner) -> &[u32]
         ensures { map (node_of owner) result.now ≡ filter (is_owned_by owner) self.now }
     {
-        self.own.numbers(owner)
+        self.own.numbers(&owner)
     }
 
     /// Takes the slots of an owner away (DOM Standard, notify mutation observers). It takes no memory, and
@@ -97,7 +100,7 @@ impl Signals {
     pub fn forget(&mut self, owner: Owner)
         ensures { self.new ≡ filter (λ s. not (is_owned_by owner s)) self.old }
     {
-        let count = self.own.numbers(owner).len();
+        let count = self.own.numbers(&owner).len();
         if count == 0 {
             return;
         }

@@ -181,7 +181,7 @@ fn signal(
     ensures signalled { OnOk result (signalled.new ≡ append_once name_eq signalled.old (name_of forest.now slot)) }
     ensures queue { OnOk result (queue.new ≡ queued_notify (name_of forest.now slot).owner queue.old) }
 {
-    let name = forest.name(slot);
-    signalled.add(name)?;
-    queue.push_notify(name.owner)
+    let (owner, number) = forest.lent_name(slot);
+    signalled.add(owner, number)?;
+    queue.push_notify(*owner)
 }
