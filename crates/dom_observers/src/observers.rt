@@ -65,7 +65,7 @@ impl Observers {
         ensures err { OnErr result (KeepsTables self.old self.new) }
     {
         self.tables.prepare(owner)?;
-        let Some(table) = self.tables.get_mut(owner) else {
+        let Some(table) = self.tables.get_mut(&owner) else {
             unreachable!()
         };
         table.make()
@@ -93,7 +93,7 @@ impl Observers {
         ensures err { OnErr result (KeepsTables self.old self.new) }
     {
         prove!(forest.name(node).owner == owner);
-        let Some(table) = self.tables.get_mut(owner) else {
+        let Some(table) = self.tables.get_mut(&owner) else {
             return Err(Fault::Refused(Refusal::Unknown));
         };
         table.observe(observer, node, options)
@@ -103,7 +103,7 @@ impl Observers {
     pub fn has(&self, owner: Owner, observer: u32) -> bool
         ensures { result ≡ is_some (slice_get (tables_of self.now owner).record_queues observer) }
     {
-        match self.tables.get(owner) {
+        match self.tables.get(&owner) {
             Some(table) => table.has(observer),
             None => false,
         }
@@ -114,14 +114,14 @@ impl Observers {
     pub fn is_watched(&self, owner: Owner) -> bool
         ensures { result ≡ not (is_empty (tables_of self.now owner).registrations) }
     {
-        let (watched, _) = self.watch(owner);
+        let (watched, _) = self.watch(&owner);
         watched
     }
 
     /// Whether an owner has registrations, as `is_watched` says, and the one node from which what is below it may be observed, where
     /// no other is known (own rule): the forest is to remember of it that it stands above a node of which a record is queued.
-    pub fn watch(&self, owner: Owner) -> (bool, Option<Key>)
-        ensures { result.0 ≡ not (is_empty (tables_of self.now owner).registrations) }
+    pub fn watch(&self, owner: &Owner) -> (bool, Option<Key>)
+        ensures { result.0 ≡ not (is_empty (tables_of self.now owner.now).registrations) }
     {
         match self.tables.get(owner) {
             Some(table) => (!table.has_no_registration(), table.only_above()),
@@ -135,7 +135,7 @@ impl Observers {
         ensures value { result ≡ nat_lt observer (length (tables_of self.old owner).record_queues) }
         ensures tables { ChangesTables owner (if result then disconnected observer (tables_of self.old owner) else tables_of self.old owner) self.old self.new }
     {
-        let Some(table) = self.tables.get_mut(owner) else {
+        let Some(table) = self.tables.get_mut(&owner) else {
             return false;
         };
         table.disconnect(observer)
@@ -147,7 +147,7 @@ impl Observers {
         ensures records { option_map (λ records. map change_of records.items) result ≡ slice_get (tables_of self.old owner).record_queues observer }
         ensures tables { ChangesTables owner (emptied observer (tables_of self.old owner)) self.old self.new }
     {
-        let Some(table) = self.tables.get_mut(owner) else {
+        let Some(table) = self.tables.get_mut(&owner) else {
             return None;
         };
         table.take(observer)
@@ -167,8 +167,7 @@ impl Observers {
             (told nat_eq (path_keys forest.now (target_of (change_of change))) (change_of change)
             (tables_of self.old (name_of forest.now (target_of (change_of change))).owner)) self.old self.new) }
     {
-        let target = change.target();
-        let owner = forest.name(target).owner;
+        let (owner, _) = forest.lent_name(change.target());
         let Some(table) = self.tables.get_mut(owner) else {
             return Ok(false);
         };
@@ -184,7 +183,7 @@ impl Observers {
         ensures { OnOk result (ChangesTables (name_of forest.now node).owner
             (left nat_eq node (path_keys forest.now parent) (tables_of self.old (name_of forest.now node).owner)) self.old self.new) }
     {
-        let owner = forest.name(node).owner;
+        let (owner, _) = forest.lent_name(node);
         let Some(table) = self.tables.get_mut(owner) else {
             return Ok(());
         };
@@ -199,7 +198,7 @@ impl Observers {
         ensures tables { OnOk result (ChangesTables owner (notified (tables_of self.old owner)) self.old self.new) }
     {
         let alloc = self.alloc;
-        let Some(table) = self.tables.get_mut(owner) else {
+        let Some(table) = self.tables.get_mut(&owner) else {
             return Ok(Vec::new(alloc));
         };
         table.notify()

@@ -34,8 +34,8 @@ impl ByOwner {
 
     /// An owner's tables, if it has some. Where no component has, there is no look-up.
     #[inline(always)]
-    pub(crate) fn get(&self, owner: Owner) -> Option<&OwnTables>
-        ensures { option_map (λ t. t.now) result ≡ table_at self.now owner }
+    pub(crate) fn get(&self, owner: &Owner) -> Option<&OwnTables>
+        ensures { option_map (λ t. t.now) result ≡ table_at self.now owner.now }
     {
         match owner {
             Owner::Page => Some(&self.page),
@@ -43,16 +43,16 @@ impl ByOwner {
                 if self.components.is_empty() {
                     return None;
                 }
-                self.components.get(&owner)
+                self.components.get(owner)
             }
         }
     }
 
     /// An owner's tables for a change of them, if it has some. Where no component has, there is no look-up.
     #[inline(always)]
-    pub(crate) fn get_mut(&mut self, owner: Owner) -> Option<&mut OwnTables>
-        ensures* lends { sem 𝓛 (lends_table self.entry owner result) }
-        ensures value { option_map (λ t. t.now) result ≡ table_at self.old owner }
+    pub(crate) fn get_mut(&mut self, owner: &Owner) -> Option<&mut OwnTables>
+        ensures* lends { sem 𝓛 (lends_table self.entry owner.now result) }
+        ensures value { option_map (λ t. t.now) result ≡ table_at self.old owner.now }
     {
         match owner {
             Owner::Page => Some(&mut self.page),
@@ -60,7 +60,7 @@ impl ByOwner {
                 if self.components.is_empty() {
                     return None;
                 }
-                self.components.get_mut(&owner)
+                self.components.get_mut(owner)
             }
         }
     }
@@ -71,7 +71,7 @@ impl ByOwner {
         ensures there { OnOk result (IsSome (table_at self.new owner)) }
         ensures none { OnErr result (cursors_in self.old owner ≡ no_keyed_tables) }
     {
-        if self.get(owner).is_some() {
+        if self.get(&owner).is_some() {
             return Ok(());
         }
         let _ = self.components.insert(owner, OwnTables::new(self.alloc))?;

@@ -56,7 +56,7 @@ impl Cursors {
     pub fn has_iter(&self, owner: Owner, number: u32) -> bool
         ensures { result ≡ is_some (slice_get (cursors_of self.now owner).iterators number) }
     {
-        match self.tables.get(owner) {
+        match self.tables.get(&owner) {
             Some(tables) => tables.has_iter(number),
             None => false,
         }
@@ -66,7 +66,7 @@ impl Cursors {
     pub fn has_walker(&self, owner: Owner, number: u32) -> bool
         ensures { result ≡ is_some (slice_get (cursors_of self.now owner).walkers number) }
     {
-        match self.tables.get(owner) {
+        match self.tables.get(&owner) {
             Some(tables) => tables.has_walker(number),
             None => false,
         }
@@ -84,7 +84,7 @@ impl Cursors {
         ensures err { OnErr result (cursors_of self.new ≡ cursors_of self.old) }
     {
         self.tables.prepare(owner)?;
-        let Some(tables) = self.tables.get_mut(owner) else {
+        let Some(tables) = self.tables.get_mut(&owner) else {
             unreachable!()
         };
         tables.add_iter(root, filter)
@@ -102,7 +102,7 @@ impl Cursors {
         ensures err { OnErr result (cursors_of self.new ≡ cursors_of self.old) }
     {
         self.tables.prepare(owner)?;
-        let Some(tables) = self.tables.get_mut(owner) else {
+        let Some(tables) = self.tables.get_mut(&owner) else {
             unreachable!()
         };
         tables.add_walker(root, filter)
@@ -110,12 +110,12 @@ impl Cursors {
 
     /// Lets each iterator of an owner leave the tree of a node that is about to be removed (DOM Standard, NodeIterator
     /// pre-remove steps). Where no component has had a cursor there is no look-up.
-    pub fn leave(&mut self, owner: Owner, forest: &Forest, node: Key)
+    pub fn leave(&mut self, owner: &Owner, forest: &Forest, node: Key)
         requires node_is_node { IsNode forest.now node }
-        requires iterators { EachItem (IsIteratorOf forest.now) (cursors_of self.old owner).iterators }
-        ensures iterators { AreLeft forest.now node (cursors_of self.old owner).iterators (cursors_of self.new owner).iterators }
-        ensures others { cursors_of self.new ≡ with_cursors (cursors_of self.old) owner (record (cursors_of self.old owner)
-            { iterators = (cursors_of self.new owner).iterators }) }
+        requires iterators { EachItem (IsIteratorOf forest.now) (cursors_of self.old owner.now).iterators }
+        ensures iterators { AreLeft forest.now node (cursors_of self.old owner.now).iterators (cursors_of self.new owner.now).iterators }
+        ensures others { cursors_of self.new ≡ with_cursors (cursors_of self.old) owner.now (record (cursors_of self.old owner.now)
+            { iterators = (cursors_of self.new owner.now).iterators }) }
     {
         let Some(tables) = self.tables.get_mut(owner) else {
             return;
@@ -169,7 +169,7 @@ impl Cursors {
         ensures kept { ForSome (slice_get (cursors_of self.old owner).iterators number)
             (λ i. IsIteratorOf forest.now (iterator_at i (stands_before direction) result)) }
     {
-        let Some(tables) = self.tables.get_mut(owner) else {
+        let Some(tables) = self.tables.get_mut(&owner) else {
             unreachable!()
         };
         tables.traverse(forest, number, direction)
@@ -181,7 +181,7 @@ impl Cursors {
         requires { is_some (slice_get (cursors_of self.now owner).iterators number) ≡ true }
         ensures { ForSome (slice_get (cursors_of self.now owner).iterators number) (λ i. result ≡ (i.reference, i.before)) }
     {
-        let Some(tables) = self.tables.get(owner) else {
+        let Some(tables) = self.tables.get(&owner) else {
             unreachable!()
         };
         tables.iter_at(number)
@@ -199,7 +199,7 @@ impl Cursors {
             { walkers = slice_set (cursors_of self.old owner).walkers number (walker_at w result) })) }
         ensures kept { ForSome (slice_get (cursors_of self.old owner).walkers number) (λ w. IsWalkerOf forest.now (walker_at w result)) }
     {
-        let Some(tables) = self.tables.get_mut(owner) else {
+        let Some(tables) = self.tables.get_mut(&owner) else {
             unreachable!()
         };
         tables.walk(forest, number, step)
@@ -210,7 +210,7 @@ impl Cursors {
         requires { is_some (slice_get (cursors_of self.now owner).walkers number) ≡ true }
         ensures { ForSome (slice_get (cursors_of self.now owner).walkers number) (λ w. result ≡ w.current) }
     {
-        let Some(tables) = self.tables.get(owner) else {
+        let Some(tables) = self.tables.get(&owner) else {
             unreachable!()
         };
         tables.walker_at(number)
@@ -221,7 +221,7 @@ impl Cursors {
         requires { is_some (slice_get (cursors_of self.now owner).walkers number) ≡ true }
         ensures { ForSome (slice_get (cursors_of self.now owner).walkers number) (λ w. result ≡ (w.root, w.current)) }
     {
-        let Some(tables) = self.tables.get(owner) else {
+        let Some(tables) = self.tables.get(&owner) else {
             unreachable!()
         };
         tables.walker_ends(number)
@@ -234,7 +234,7 @@ impl Cursors {
             (λ w. cursors_of self.new ≡ with_cursors (cursors_of self.old) owner (record (cursors_of self.old owner)
             { walkers = slice_set (cursors_of self.old owner).walkers number (record w { current = current }) })) }
     {
-        let Some(tables) = self.tables.get_mut(owner) else {
+        let Some(tables) = self.tables.get_mut(&owner) else {
             unreachable!()
         };
         tables.set_walker(number, current);

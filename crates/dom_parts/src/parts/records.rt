@@ -131,7 +131,8 @@ impl Parts {
         requires { HoldsNode self.now node }
         ensures { result.0 ≡ false → (c : ChangeOf NodeName) → self.now ≡ stepped (owner_in self.now node) (queue_record c) self.now }
     {
-        self.observers.watch(self.trees.forest.name(node).owner)
+        let (owner, _) = self.trees.forest.lent_name(node);
+        self.observers.watch(owner)
     }
 
     /// The record of a change goes to the observers that are interested in it, and where there are some their owner's
@@ -165,9 +166,9 @@ impl Parts {
         ensures { OnOk result (self.new ≡ stepped (owner_in self.old (target_of (change_of change))) (queue_record (change_in self.old change)) self.old) }
     {
         self.trees.forest.law_nodes_stand_once();
-        let owner = self.trees.forest.name(change.target()).owner;
+        let (owner, _) = self.trees.forest.lent_name(change.target());
         match self.observers.queue_record(&self.trees.forest, change) {
-            Ok(true) => self.trees.queue.push_notify(owner),
+            Ok(true) => self.trees.queue.push_notify(*owner),
             Ok(false) => Ok(()),
             Err(error) => {
                 give_up_observers(&mut self.observers, self.alloc);

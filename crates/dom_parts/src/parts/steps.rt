@@ -85,7 +85,7 @@ impl Parts {
             give_up_observers(&mut self.observers, self.alloc);
             return Err(error);
         }
-        let owner = self.trees.forest.name(node).owner;
+        let (owner, _) = self.trees.forest.lent_name(node);
         self.cursors.leave(owner, &self.trees.forest, node);
         self.ranges.on_remove(&self.trees.forest, node);
         let done = self.trees.unlink(node);

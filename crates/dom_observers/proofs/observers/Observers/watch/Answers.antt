@@ -8,8 +8,8 @@ pub returns-in-Some : goal.returns-in-Some
 returns-in-Some c =
     ap not c.has_no_registration.ensures
     ∙ ap (λ (t : TablesOf ℕ). not (is_empty t.registrations))
-    (sym (had c.self.inside c.self.view_is c.args.owner c.in-Some.table.now c.in-Some.ensures))
+    (sym (had c.self.inside c.self.view_is c.args.owner.now c.in-Some.table.now c.in-Some.ensures))
 
 pub returns-in-None : goal.returns-in-None
 returns-in-None c =
-    ap (λ (t : TablesOf ℕ). not (is_empty t.registrations)) (sym (had-none c.self.inside c.self.view_is c.args.owner c.in-None.ensures))
+    ap (λ (t : TablesOf ℕ). not (is_empty t.registrations)) (sym (had-none c.self.inside c.self.view_is c.args.owner.now c.in-None.ensures))

@@ -1,4 +1,4 @@
-use Rattle.dom_parts.proofs.Cited.{◌≡◌, true, true≢false, Result, Ok, Err, option_map, refl, sym, ap, subst, ◌∙◌, is_some, OnOk, parent_of, take_out, NodeName}
+use Rattle.dom_parts.proofs.Cited.{◌≡◌, true, true≢false, Result, Ok, Err, option_map, refl, sym, ap, subst, ◌∙◌, is_some, OnOk, parent_of, take_out}
 use Rattle.dom_parts.proofs.Cited.{Owner, name_at, cursors_of, with_cursors, KeyedTables, AreLeft, tables_with_trees, name_in, owner_in, trees_in, stepped}
 use Rattle.dom_observers.specs.Definitions.{tables_of as observers_of}
 use Rattle.dom_parts.proofs.Observing.{none_held}
@@ -27,7 +27,7 @@ invariant_of-self c =
 
 pub leave-requires-clause-iterators : goal.leave-requires-clause-iterators
 leave-requires-clause-iterators c k i e =
-    ((c.self.invariant.own c.name-owner.result.owner).iterators k i e).stands
+    ((c.self.invariant.own c.lent_name.result.0.now).iterators k i e).stands
 
 pub on_remove-requires-clause-ends : goal.on_remove-requires-clause-ends
 on_remove-requires-clause-ends c = own_at_nodes c.self.inside.trees.forest.names c.self.inside.ranges c.self.invariant.ranges.own
@@ -40,7 +40,7 @@ after c =
     let f = c.self.inside.trees.forest in
     let each = cursors_of c.self.inside.cursors in
     let o = (name_at f.names c.args.node).owner in
-    let is : o ≡ c.name-owner.result.owner = ap (λ (x : NodeName). x.owner) c.name-owner.ensures.at in
+    let is : o ≡ c.lent_name.result.0.now = sym c.lent_name.ensures.owner in
     let u : KeyedTables = record (each o) { iterators = (cursors_of c.leave.new.self o).iterators } in
     removal_step f c.self.invariant c.self.view_is c.args.node c.requires.node_is_node c.law_iterators_stay.ensures c.law_nodes_stand_once.ensures.once
     c.law_nodes_stand_once.ensures.only c.law_nodes_stand_once.ensures.distinct

@@ -9,7 +9,6 @@ none_there (x ∷ xs) e = cc
 pub returns : goal.returns
 returns c off change =
     let f = c.self.inside.trees.forest in
-    let owner = ap (λ n. n.owner) c.name.ensures.at in
     untold f c.self.invariant c.self.view_is c.args.node c.requires
     (none_there (tables_of c.self.inside.observers (name_at f.names c.args.node).owner).registrations
-    (ap (λ o. not (is_empty (tables_of c.self.inside.observers o).registrations)) owner ∙ sym c.watch.ensures ∙ off)) change
+    (ap (λ o. not (is_empty (tables_of c.self.inside.observers o).registrations)) (sym c.lent_name.ensures.owner) ∙ sym c.watch.ensures ∙ off)) change
