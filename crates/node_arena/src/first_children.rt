@@ -12,7 +12,7 @@ use std::alloc::Global;
 use std::mem;
 
 /// After so many changes of the children at which no place was asked for they are given up.
-const MOST_UNASKED: u32 = 16;
+const MOST_UNASKED: u32 = 64;
 
 /// The keys of the first children of a node, in order. They may be fewer than the node has, or none.
 #[derive(Drop)]

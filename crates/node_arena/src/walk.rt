@@ -89,6 +89,16 @@ impl<'a, T> Walk<'a, T> {
         self.to(Link::Next)
     }
 
+    /// The sibling just before the node, if there is one.
+    #[inline(always)]
+    pub(crate) fn prev(&self) -> Option<Walk<'a, T>>
+        ensures value { key_in result ≡ prev_of self.now.whole.children self.now.key }
+        ensures same { ForSome result (λ w. w.whole ≡ self.now.whole) }
+        ensures node { ForSome (key_in result) (λ k. k < length self.now.whole.payloads) }
+    {
+        self.to(Link::Prev)
+    }
+
     /// The node's key.
     #[inline(always)]
     pub fn key(&self) -> Key
