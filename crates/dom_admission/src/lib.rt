@@ -9,5 +9,5 @@ mod state;
 mod turns;
 
 pub use admission::Operand;
-pub use names::{lent_name, names_of, put_names};
+pub use names::{NodeNames, lent_name, names_of, put_names};
 pub use state::State;

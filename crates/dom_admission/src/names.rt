@@ -4,7 +4,7 @@ ghost use Rattle.dom_printer.specs.Names.{name_view};
 ghost use Rattle.dom_tree.specs.Forest.{IsNode, name_of};
 
 use dom_base::NodeName;
-use dom_printer::LentName;
+use dom_printer::{LentName, Names};
 use dom_tree::Forest;
 use node_arena::Key;
 use smallvec::SmallVec;
@@ -18,6 +18,23 @@ pub fn lent_name(forest: &Forest, key: Key) -> LentName<'_>
 {
     let (owner, number) = forest.lent_name(key);
     LentName { owner, number }
+}
+
+/// A forest as what tells the names of its nodes, which are given by their keys.
+#[derive(Clone, Copy)]
+pub struct NodeNames<'a> {
+    pub forest: &'a Forest,
+}
+
+impl Names<Key> for NodeNames<'_> {
+    ghost name = { λ names key. name_of names.forest.now key };
+
+    ghost knows = { λ names key. IsNode names.forest.now key };
+
+    #[inline(always)]
+    fn lent<'a>(&'a self, node: &'a Key) -> LentName<'a> {
+        lent_name(self.forest, *node)
+    }
 }
 
 /// The names of nodes, in their order, with their owners lent. One or two take no memory. The only error is memory refused (own rule).

@@ -20,6 +20,7 @@ ghost use Rattle.dom_mutation.specs.Doc.{HoldsNode, name_in, trees_in};
 use dom_base::{Kind, NodeName, Owner};
 use dom_mutation::Doc;
 use dom_reader::NodeWord;
+use dom_selectors::ParsedTexts;
 use dom_slots::Slots;
 use dom_tree::Forest;
 use node_arena::Key;
@@ -32,6 +33,8 @@ pub struct State {
     /// The document trees, with what is kept beside them.
     pub doc: Doc,
     pub(crate) turn: Option<Owner>,
+    /// The selectors that were asked for last, which say nothing of the documents.
+    pub selectors: ParsedTexts,
     /// Where memory is taken from.
     pub alloc: Global,
 }
@@ -58,6 +61,7 @@ impl State {
         Ok(State {
             doc,
             turn: None,
+            selectors: ParsedTexts::new(alloc),
             alloc,
         })
     }

@@ -9,9 +9,9 @@ ghost use Rattle.dom_mutation.specs.Doc.{HoldsNode, name_in};
 ghost use Rattle.dom_reader.specs.Views.{word_view};
 ghost use Rattle.dom_admission.specs.Handled.{KeepsNames, IsHandled};
 
-use dom_admission::{Operand, State, names_of};
+use dom_admission::{NodeNames, Operand, State};
 use dom_base::{Fault, Owner, Refusal};
-use dom_printer::{Value, put_reply};
+use dom_printer::{Value, put_list_reply};
 use dom_reader::NodeWord;
 use dom_slots::law_slots_are_of_worlds;
 use node_arena::Key;
@@ -95,8 +95,7 @@ fn reply_assigned(
     law_slots_are_of_worlds();
     let (forest, slots) = state.forest_and_slots();
     let nodes = slots.assigned(forest, slot)?;
-    let names = names_of(state.alloc, forest, &nodes)?;
-    put_reply(out, owner, &Value::List(&names))
+    put_list_reply(out, owner, &NodeNames { forest }, &nodes)
 }
 
 /// Whether an owner is the page.

@@ -1,10 +1,9 @@
 -- Replies and refusals of the code, seen as those of the specification.
-use Rattle.std.specs.Prelude.{Option, Some, None, map}
+use Rattle.std.specs.Prelude.{Option, Some, None}
 use Rattle.dom_base.specs.declared.Owner.{Owner}
 use Rattle.dom_base.specs.declared.NodeName.{NodeName}
 use Rattle.dom_base.specs.declared.Refusal.{Refusal}
 use Rattle.dom_model.specs.Output as model
-use Rattle.dom_printer.specs.Names.{name_view}
 use Rattle.dom_printer.specs.declared.replies.Boundary.{Boundary}
 use Rattle.dom_printer.specs.declared.replies.Value.{Value}
 use Rattle.dom_printer.specs.declared.replies.Value.TheVariants as values
@@ -13,12 +12,11 @@ use Rattle.dom_printer.specs.declared.replies.Value.TheVariants as values
 abbrev pub boundary_view : Boundary → model.Boundary NodeName
 boundary_view b = record { node = b.node; offset = b.offset }
 
--- a value: any but a tree
+-- a value: any but a list of nodes and a tree
 abbrev pub value_view : Value → model.Value
 value_view values.Nothing = model.nothing
 value_view values.Null = model.null
 value_view (values.Node node) = model.a_node node
-value_view (values.List nodes) = model.a_list (map name_view nodes.now)
 value_view (values.Component owner) = model.a_component owner
 value_view (values.Range number) = model.a_range number
 value_view (values.Iterator number) = model.an_iterator number

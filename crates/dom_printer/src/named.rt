@@ -25,43 +25,43 @@ impl Default for LentName<'_> {
     }
 }
 
-/// What tells a node's name.
-pub(crate) trait Named {
-    ghost name: { Self → Name };
+/// What tells the names of nodes (`name`), each given by its name or by what its name is found with, such as its key. It tells those of
+/// the nodes that it knows (`knows`), and of no others.
+pub trait Names<T> {
+    ghost name: { Self → T → Name };
 
-    /// The owner of the node.
-    fn owner(&self) -> &Owner
-        ensures { result.now ≡ (name self.now).owner };
+    ghost knows: { Self → T → Type 0 };
 
-    /// The node's number among its owner's nodes.
-    fn number(&self) -> u32
-        ensures { result ≡ (name self.now).number };
+    /// The name of a node that it knows.
+    fn lent<'a>(&'a self, node: &'a T) -> LentName<'a>
+        requires { knows self.now node.now }
+        ensures { name_view result ≡ name self.now node.now };
 }
 
-impl Named for NodeName {
-    ghost name = { λ node. node };
+/// Names that tell themselves.
+pub(crate) struct Themselves;
+
+impl Names<NodeName> for Themselves {
+    ghost name = { λ _ node. node };
+
+    ghost knows = { λ _ _. Unit {0} };
 
     #[inline(always)]
-    fn owner(&self) -> &Owner {
-        &self.owner
-    }
-
-    #[inline(always)]
-    fn number(&self) -> u32 {
-        self.number
+    fn lent<'a>(&'a self, node: &'a NodeName) -> LentName<'a> {
+        LentName {
+            owner: &node.owner,
+            number: node.number,
+        }
     }
 }
 
-impl Named for LentName<'_> {
-    ghost name = { name_view };
+impl Names<LentName<'_>> for Themselves {
+    ghost name = { λ _ node. name_view node };
+
+    ghost knows = { λ _ _. Unit {0} };
 
     #[inline(always)]
-    fn owner(&self) -> &Owner {
-        self.owner
-    }
-
-    #[inline(always)]
-    fn number(&self) -> u32 {
-        self.number
+    fn lent<'a>(&'a self, node: &'a LentName<'_>) -> LentName<'a> {
+        *node
     }
 }

@@ -2,7 +2,7 @@
 ghost use Rattle.std.specs.Prelude.{◌≡◌, ◌≤◌, ◌+◌, ◌++◌, ◌∷◌, [], codes, drop, length, map, take, IsOk, OnOk, OnErr};
 ghost use Rattle.std.specs.Vec.{vec_len, vec_capacity};
 ghost use Rattle.std.specs.Fmt.{decimal};
-ghost use Rattle.std.specs.List.{flat_map};
+ghost use Rattle.std.specs.List.{flat_map, All};
 ghost use Rattle.std.specs.Option.{option_map};
 ghost use Rattle.dom_base.specs.declared.Owner.TheVariants.{Component};
 ghost use Rattle.dom_text.specs.Text.{node_text_of, node_or_null, next_node_text, list_text};
@@ -11,7 +11,7 @@ ghost use Rattle.dom_printer.specs.Keeping.{Keeps};
 ghost use Rattle.dom_printer.specs.Names.{name_view};
 
 use crate::buffers::cut_if_refused;
-use crate::named::{LentName, Named};
+use crate::named::{LentName, Names, Themselves};
 use dom_base::{NodeName, Owner, OwnerPath};
 use itoa::{Buffer, write_digits};
 use std::alloc::AllocError;
@@ -112,18 +112,19 @@ fn put_long(out: &mut Vec<u8>, letter: u8, number: u32) -> Result<(), AllocError
     ensures err { OnErr result (out.new.items ≡ out.old.items) }
 {
     if out.capacity() - out.len() < LETTERED_ROOM {
-        return put_long_growing(out, letter, number);
+        return put_growing(out, 0, letter, number);
     }
     put_lettered(out, 0, letter, number, 0)
 }
 
-/// Puts a letter and a number's digits, and makes the room for them.
+/// Puts a letter and a number's digits, a comma where one byte is wanted before them, and makes the room for them.
 #[inline(never)]
-fn put_long_growing(out: &mut Vec<u8>, letter: u8, number: u32) -> Result<(), AllocError>
-    ensures ok { OnOk result (out.new.items ≡ out.old.items ++ (letter ∷ decimal number)) }
+fn put_growing(out: &mut Vec<u8>, before: usize, letter: u8, number: u32) -> Result<(), AllocError>
+    requires { before ≤ 1 }
+    ensures ok { OnOk result (out.new.items ≡ out.old.items ++ take before (44 ∷ []) ++ letter ∷ decimal number) }
     ensures err { OnErr result (out.new.items ≡ out.old.items) }
 {
-    put_lettered(out, 0, letter, number, 0)
+    put_lettered(out, before, letter, number, 0)
 }
 
 /// Puts numbers, each behind a dot.
@@ -241,26 +242,30 @@ pub fn put_path(out: &mut Vec<u8>, owner: &Owner, path: &[NodeName]) -> Result<(
     ensures err { OnErr result (out.new.items ≡ out.old.items) }
 {
     let length = out.len();
-    let put = put_list(out, owner, path);
+    let put = put_list(out, owner, &Themselves, path);
     cut_if_refused(out, length, put)
 }
 
 /// Puts nodes in brackets, with commas between them, as far as there is memory. It is kept out of line, so that its parts are copied at once.
 #[inline(never)]
-pub(crate) fn put_list<N: Named>(
+#[tactic(auto, using(crate::proofs::KeepLaws::keeps_at))]
+pub(crate) fn put_list<T, N: Names<T>>(
     out: &mut Vec<u8>,
     viewer: &Owner,
-    nodes: &[N],
+    names: &N,
+    nodes: &[T],
 ) -> Result<(), AllocError>
-    ensures ok { OnOk result (out.new.items ≡ out.old.items ++ list_text viewer.now (map N.name nodes.now)) }
+    requires { All (N.knows names.now) nodes.now }
+    ensures ok { OnOk result (out.new.items ≡ out.old.items ++ list_text viewer.now (map (N.name names.now) nodes.now)) }
     ensures err { OnErr result (Keeps out.old.items out.new.items) }
 {
     match nodes {
         [] => put_text(out, *b"[]"),
         [first, others @ ..] => {
             out.push(b'[')?;
-            put_node(out, viewer, first.owner(), first.number())?;
-            put_others(out, viewer, others)?;
+            let first = names.lent(first);
+            put_node(out, viewer, first.owner, first.number)?;
+            put_others(out, viewer, names, others)?;
             Ok(out.push(b']')?)
         }
     }
@@ -269,12 +274,19 @@ pub(crate) fn put_list<N: Named>(
 /// Puts nodes, each behind a comma.
 #[inline(always)]
 #[tactic(auto, using(crate::proofs::KeepLaws::keeps_at))]
-fn put_others<N: Named>(out: &mut Vec<u8>, viewer: &Owner, nodes: &[N]) -> Result<(), AllocError>
-    ensures ok { OnOk result (out.new.items ≡ out.old.items ++ flat_map (next_node_text viewer.now) (map N.name nodes.now)) }
+fn put_others<T, N: Names<T>>(
+    out: &mut Vec<u8>,
+    viewer: &Owner,
+    names: &N,
+    nodes: &[T],
+) -> Result<(), AllocError>
+    requires { All (N.knows names.now) nodes.now }
+    ensures ok { OnOk result (out.new.items ≡ out.old.items ++ flat_map (next_node_text viewer.now) (map (N.name names.now) nodes.now)) }
     ensures err { OnErr result (Keeps out.old.items out.new.items) }
 {
     for node in nodes {
-        put_next(out, viewer, node.owner(), node.number())?;
+        let name = names.lent(node);
+        put_next(out, viewer, name.owner, name.number)?;
     }
     Ok(())
 }
@@ -286,9 +298,21 @@ fn put_next(out: &mut Vec<u8>, viewer: &Owner, owner: &Owner, number: u32) -> Re
     ensures err { OnErr result (Keeps out.old.items out.new.items) }
 {
     match owner {
-        Owner::Page => put_lettered(out, 1, b'n', number, 0),
+        Owner::Page => put_next_of_page(out, number),
         Owner::Component(component) => put_next_of_component(out, viewer, owner, component, number),
     }
+}
+
+/// Puts a node of the page behind a comma.
+#[inline(always)]
+fn put_next_of_page(out: &mut Vec<u8>, number: u32) -> Result<(), AllocError>
+    ensures ok { OnOk result (out.new.items ≡ out.old.items ++ codes "," ++ codes "n" ++ decimal number) }
+    ensures err { OnErr result (out.new.items ≡ out.old.items) }
+{
+    if out.capacity() - out.len() < LETTERED_ROOM {
+        return put_growing(out, 1, b'n', number);
+    }
+    put_lettered(out, 1, b'n', number, 0)
 }
 
 /// Puts the node of this component behind a comma.

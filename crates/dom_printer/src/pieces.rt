@@ -5,8 +5,7 @@ ghost use Rattle.dom_printer.specs.Lines.{line_text};
 ghost use Rattle.dom_printer.specs.Pieces.{piece_text, pieces_text};
 
 use crate::buffers::cut_if_refused;
-use crate::named::LentName;
-use crate::names::{put_list, put_node, put_number, put_owner};
+use crate::names::{put_node, put_number, put_owner};
 use crate::strings::put_units;
 use dom_base::{NodeName, Owner};
 use std::alloc::AllocError;
@@ -19,7 +18,6 @@ pub(crate) enum Piece<'a> {
     Number(&'a [u8], usize),
     Owner(&'a [u8], &'a Owner),
     Node(&'a [u8], &'a NodeName),
-    Nodes(&'a [u8], &'a [LentName<'a>]),
     Units(&'a [u8], &'a [u16]),
 }
 
@@ -75,7 +73,6 @@ fn put_piece(out: &mut Vec<u8>, viewer: &Owner, piece: &Piece<'_>) -> Result<(),
         Piece::Number(_, number) => put_number(out, *number),
         Piece::Owner(_, owner) => put_owner(out, owner),
         Piece::Node(_, node) => put_node(out, viewer, &node.owner, node.number),
-        Piece::Nodes(_, nodes) => put_list(out, viewer, nodes),
         Piece::Units(_, units) => put_units(out, units),
     }
 }
@@ -93,7 +90,6 @@ impl Piece<'_> {
             | Piece::Number(text, _)
             | Piece::Owner(text, _)
             | Piece::Node(text, _)
-            | Piece::Nodes(text, _)
             | Piece::Units(text, _) => text,
         }
     }

@@ -9,7 +9,7 @@ ghost use Rattle.dom_printer.specs.Names.{name_view};
 ghost use Rattle.dom_printer.specs.Records.{change_view, event_text, event_view, places_text, shown_text};
 
 use crate::buffers::cut_if_refused;
-use crate::named::LentName;
+use crate::named::{LentName, Themselves};
 use crate::names::{put_list, put_node, put_node_or_null, put_number, put_owner, put_text};
 use crate::pieces::{Piece, put_line};
 use crate::strings::put_units;
@@ -208,9 +208,9 @@ fn put_lists(
     ensures err { OnErr result (Keeps out.old.items out.new.items) }
 {
     put_text(out, *b" added=")?;
-    put_list(out, viewer, added)?;
+    put_list(out, viewer, &Themselves, added)?;
     put_text(out, *b" removed=")?;
-    put_list(out, viewer, removed)
+    put_list(out, viewer, &Themselves, removed)
 }
 
 /// Puts the siblings between which a change was, as far as there is memory.

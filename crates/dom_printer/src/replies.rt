@@ -1,18 +1,19 @@
 //! Replies and refusals.
-ghost use Rattle.std.specs.Prelude.{◌≡◌, ◌≤◌, ◌+◌, ◌++◌, ◌∷◌, [], IfSome, OnOk, OnErr, codes};
+ghost use Rattle.std.specs.Prelude.{◌≡◌, ◌≤◌, ◌+◌, ◌++◌, ◌∷◌, [], IfSome, OnOk, OnErr, codes, map};
+ghost use Rattle.std.specs.List.{All};
 ghost use Rattle.std.specs.Vec.{vec_len, vec_capacity};
 ghost use Rattle.std.specs.Fmt.{decimal};
 ghost use Rattle.dom_base.specs.declared.Owner.TheVariants.{Page};
-ghost use Rattle.dom_model.specs.Output.{a_node, boundaries, nothing, reference, replied, says};
-ghost use Rattle.dom_text.specs.Text.{node_text, output_text};
+ghost use Rattle.dom_model.specs.Output.{a_list, a_node, boundaries, nothing, reference, replied, says};
+ghost use Rattle.dom_text.specs.Text.{list_text, node_text, output_text};
 ghost use Rattle.dom_text.specs.Words.{owner_word};
 ghost use Rattle.dom_printer.specs.Keeping.{Keeps};
 ghost use Rattle.dom_printer.specs.Lines.{line_text};
 ghost use Rattle.dom_printer.specs.Replies.{boundary_view, value_view, refusal_output};
 
 use crate::buffers::cut_if_refused;
-use crate::named::LentName;
-use crate::names::{put_lettered, put_node, put_owner};
+use crate::named::Names;
+use crate::names::{put_lettered, put_list, put_node, put_owner};
 use crate::pieces::{Piece, put_line};
 use dom_base::{NodeName, Owner, Refusal};
 use std::alloc::AllocError;
@@ -24,7 +25,7 @@ pub struct Boundary {
     pub offset: usize,
 }
 
-/// What stands behind `ok` in a reply: anything but a tree, which `put_tree` prints.
+/// What stands behind `ok` in a reply: anything but a list of nodes, which `put_list_reply` prints, and a tree, which `put_tree` does.
 #[derive(Clone, Copy)]
 pub enum Value<'a> {
     /// `ok` alone.
@@ -32,8 +33,6 @@ pub enum Value<'a> {
     /// `null`: no node, or no string.
     Null,
     Node(NodeName),
-    /// Nodes in brackets, with commas between them.
-    List(&'a [LentName<'a>]),
     /// A component, by its owner's word.
     Component(Owner),
     /// The number of a range, behind `r`.
@@ -220,6 +219,45 @@ fn put_found_parts(out: &mut Vec<u8>, owner: &Owner, node: &NodeName) -> Result<
     Ok(out.push(b'\n')?)
 }
 
+/// Puts the reply that has nodes in brackets, with commas between them, and its end; the nodes stand in this order, as this owner sees
+/// them. Where memory is refused, the buffer is as before.
+///
+/// Own rule.
+pub fn put_list_reply<T, N: Names<T>>(
+    out: &mut Vec<u8>,
+    owner: &Owner,
+    names: &N,
+    nodes: &[T],
+) -> Result<(), AllocError>
+    requires { All (N.knows names.now) nodes.now }
+    ensures ok { OnOk result (out.new.items
+        ≡ out.old.items ++ output_text (says owner.now (replied (a_list (map (N.name names.now) nodes.now))) ∷ [])) }
+    ensures err { OnErr result (out.new.items ≡ out.old.items) }
+{
+    let length = out.len();
+    let put = put_list_parts(out, owner, names, nodes);
+    cut_if_refused(out, length, put)
+}
+
+/// Puts that reply, as far as there is memory.
+#[tactic(auto, using(crate::proofs::KeepLaws::keeps_at))]
+fn put_list_parts<T, N: Names<T>>(
+    out: &mut Vec<u8>,
+    owner: &Owner,
+    names: &N,
+    nodes: &[T],
+) -> Result<(), AllocError>
+    requires { All (N.knows names.now) nodes.now }
+    ensures ok { OnOk result (out.new.items
+        ≡ out.old.items ++ line_text owner.now (codes "ok " ++ list_text owner.now (map (N.name names.now) nodes.now))) }
+    ensures err { OnErr result (Keeps out.old.items out.new.items) }
+{
+    put_owner(out, owner)?;
+    out.extend_from_slice(b" ok ")?;
+    put_list(out, owner, names, nodes)?;
+    Ok(out.push(b'\n')?)
+}
+
 /// Puts a reply with its end, whatever its value.
 fn put_value(out: &mut Vec<u8>, owner: &Owner, value: &Value<'_>) -> Result<(), AllocError>
     ensures ok { OnOk result (out.new.items
@@ -230,7 +268,6 @@ fn put_value(out: &mut Vec<u8>, owner: &Owner, value: &Value<'_>) -> Result<(), 
         Value::Nothing => return put_done(out, owner),
         Value::Node(node) => return put_found(out, owner, node),
         Value::Null => Piece::Text(b"ok null"),
-        Value::List(nodes) => Piece::Nodes(b"ok ", nodes),
         Value::Component(component) => Piece::Owner(b"ok ", component),
         Value::Range(number) => Piece::Number(b"ok r", *number as usize),
         Value::Iterator(number) => Piece::Number(b"ok i", *number as usize),

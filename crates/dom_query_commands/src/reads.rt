@@ -1,12 +1,11 @@
 //! The commands that ask where nodes stand.
-ghost use Rattle.std.specs.Prelude.{◌≡◌, ◌++◌, ◌∷◌, [], OnOk, IfOk, map};
+ghost use Rattle.std.specs.Prelude.{◌≡◌, ◌++◌, ◌∷◌, [], OnOk, IfOk, map, All};
 ghost use Rattle.std.specs.Option.{option_map, ForSome};
 ghost use Rattle.dom_model.specs.Tree.{subtree, parent_of, children_of, is_inclusive_ancestor};
 ghost use Rattle.dom_model.specs.Command.{tree, parent, document_of, children, contains, connected};
 ghost use Rattle.dom_model.specs.Effects.{node_or_null};
 ghost use Rattle.dom_model.specs.Output.{says, replied, a_list, a_tree};
 ghost use Rattle.dom_text.specs.Text.{output_text};
-ghost use Rattle.dom_printer.specs.Names.{name_view};
 ghost use Rattle.dom_printer.specs.Replies.{value_view};
 ghost use Rattle.dom_reader.specs.Views.{word_view};
 ghost use Rattle.dom_tree.specs.Forest.{IsNode, name_of};
@@ -15,15 +14,15 @@ ghost use Rattle.dom_mutation.specs.Doc.{HoldsNode, name_in, trees_in};
 
 use crate::things;
 use crate::tree_text::tree_steps;
-use dom_admission::{Operand, State, lent_name};
+use dom_admission::{NodeNames, Operand, State};
 use dom_base::{Fault, Owner};
-use dom_printer::{LentName, Value, put_reply, put_tree};
+use dom_printer::{Value, put_list_reply, put_tree};
 use dom_reader::NodeWord;
 use dom_tree::Forest;
 use node_arena::Key;
 use std::alloc::{AllocError, Global};
 
-/// For how many names a list of children has room at first, so that a short list is one piece of memory.
+/// For how many nodes a list of children has room at first, so that a short list is one piece of memory.
 const FIRST_ROOM: usize = 16;
 
 /// `tree N`: the text of a node's tree.
@@ -152,8 +151,9 @@ fn reply_children(
     ensures { OnOk result (out.new.items ≡ out.old.items ++
         output_text (says owner.now (replied (a_list (children_of (trees_in state.now node) (name_in state.now node)))) ∷ [])) }
 {
-    let names = child_names(state.alloc, state.forest(), node)?;
-    put_reply(out, owner, &Value::List(&names))
+    let forest = state.forest();
+    let children = children_of(state.alloc, forest, node)?;
+    put_list_reply(out, owner, &NodeNames { forest }, &children)
 }
 
 /// Whether a node is another one or stands above it.
@@ -165,17 +165,18 @@ fn is_above(state: &State, above: Key, node: Key) -> bool
     state.forest().is_inclusive_ancestor(above, node)
 }
 
-/// The names of the children of a node, along the links from sibling to sibling.
-fn child_names(alloc: Global, forest: &Forest, node: Key) -> Result<Vec<LentName<'_>>, AllocError>
+/// The children of a node, along the links from sibling to sibling.
+fn children_of(alloc: Global, forest: &Forest, node: Key) -> Result<Vec<Key>, AllocError>
     requires { IsNode forest.now node }
-    ensures { IfOk result (λ names. map name_view names.items ≡ children_of forest.now.trees (name_of forest.now node)) }
+    ensures names { IfOk result (λ keys. map (name_of forest.now) keys.items ≡ children_of forest.now.trees (name_of forest.now node)) }
+    ensures nodes { IfOk result (λ keys. All (IsNode forest.now) keys.items) }
 {
     forest.law_nodes_stand_once();
-    let mut names = Vec::with_capacity(alloc, FIRST_ROOM)?;
+    let mut children = Vec::with_capacity(alloc, FIRST_ROOM)?;
     let mut at = forest.first(node);
     while let Some(child) = at {
-        names.push(lent_name(forest, child))?;
+        children.push(child)?;
         at = forest.next(child);
     }
-    Ok(names)
+    Ok(children)
 }

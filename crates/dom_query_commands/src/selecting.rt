@@ -11,9 +11,9 @@ ghost use Rattle.dom_reader.specs.Views.{word_view};
 ghost use Rattle.dom_selectors.specs.Views.{selector_view};
 ghost use Rattle.dom_admission.specs.Handled.{KeepsNames, IsHandled};
 
-use dom_admission::{Operand, State, names_of};
+use dom_admission::{NodeNames, Operand, State};
 use dom_base::{DomStr, Fault, Owner};
-use dom_printer::{Value, put_reply};
+use dom_printer::{Value, put_list_reply};
 use dom_reader::NodeWord;
 use dom_selectors::Selector;
 use std::alloc::AllocError;
@@ -30,8 +30,9 @@ pub fn query(
     ensures names { KeepsNames state.old.names state.new.names result }
 {
     state.admit(owner, &[Operand::Parent(node)])?;
-    let selector = Selector::parse(state.alloc, &text)?;
-    reply_selected(state, owner, node, &selector, out)?;
+    let place = state.selectors.parse(text)?;
+    let selector = state.selectors.at(place);
+    reply_selected(state, owner, node, selector, out)?;
     state.open_turn(&owner);
     Ok(())
 }
@@ -48,8 +49,9 @@ pub fn matches(
     ensures names { KeepsNames state.old.names state.new.names result }
 {
     state.admit(owner, &[Operand::Element(element)])?;
-    let selector = Selector::parse(state.alloc, &text)?;
-    let truth = is_selected(state, owner, element, &selector);
+    let place = state.selectors.parse(text)?;
+    let selector = state.selectors.at(place);
+    let truth = is_selected(state, owner, element, selector);
     state.accept(&owner, &Value::Truth(truth), out)
 }
 
@@ -68,8 +70,7 @@ fn reply_selected(
     let key = state.key(owner, node);
     let forest = state.doc.forest();
     let keys = selector.query(state.alloc, forest, key)?;
-    let names = names_of(state.alloc, forest, &keys)?;
-    put_reply(out, &owner, &Value::List(&names))
+    put_list_reply(out, &owner, &NodeNames { forest }, &keys)
 }
 
 /// Whether a node that is there matches a selector.

@@ -7,6 +7,7 @@ mod FoundCompounds
 mod Anywhere
 mod ValueLaws
 mod Beside
+mod ParsedLaws
 mod Passing
 mod JoinedLaws
 mod Earlier

@@ -1,7 +1,10 @@
 -- Words of strings, and fronts of strings.
 use Rattle.dom_selectors.proofs.Cited.{◌≡◌, ℕ, ◌<◌, Bool, true, false, List, [], ◌∷◌, ◌++◌, length, drop, zero, suc, ◌≤◌, refl, ap, sym, ◌∙◌, arith, not}
 use Rattle.dom_selectors.proofs.Cited.{◌&&◌, ◌||◌, ◌==◌, nat_eq, Option, Some, None, if◌then◌else◌, starts_with, list_any, none-some, DomString, text_eq}
+use Rattle.dom_selectors.proofs.Cited.{and_parts, cases_Bool, eqb-true, has_word, is_empty, or_cases, true≢false, value_passes}
 use Rattle.dom_selectors.proofs.Cited.{is_space, words_from, begins_with_word, behind_space, is_among}
+use Rattle.dom_base.proofs.Std.{and_right, inl, inr, not-true}
+use Rattle.dom_model.specs.Selectors.{has_space}
 
 -- a front of two parts stands where the first does and the second behind it
 pub behind_front : (front more text : List ℕ) →
@@ -129,3 +132,48 @@ module _ (word : DomString) where
 
   pub none_behind : (cs : DomString) → length cs ≤ length word → is_among word (behind_space cs) ≡ false
   none_behind cs l = no_room (length cs) cs (omega arith) l
+
+-- a word that stands in front of a string has no white space
+front_plain : (word text : DomString) → begins_with_word word text ≡ true → has_space word ≡ false
+front_plain [] text h = refl
+front_plain (x ∷ xs) [] h = absurd (true≢false (sym h))
+front_plain (x ∷ xs) (c ∷ cs) h =
+    let parts = and_parts (not (is_space c) && (x == c)) (begins_with_word xs cs) h in
+    let first = and_parts (not (is_space c)) (x == c) parts.0 in
+    ap (λ (unit : ℕ). is_space unit || has_space xs) (eqb-true x c first.1) ∙ ap (λ b. b || has_space xs) (not-true (is_space c) first.0)
+    ∙ front_plain xs cs parts.1
+
+module _ (word : DomString) where
+  -- nor has one that stands among the words of a string, where those behind the first white space have been seen to
+  plain_from : (cs : DomString) → ((r : DomString) → Some r ≡ behind_space cs → list_any (text_eq word) (words_from [] r) ≡ true → has_space word ≡ false) →
+      list_any (text_eq word) (words_from [] cs) ≡ true → has_space word ≡ false
+  plain_from cs less h = elim (or_cases _ _ (sym (among_words word [] cs) ∙ h)) [
+    | inl front ↦ front_plain word cs front
+    | inr behind_it ↦ behind (behind_space cs) refl behind_it
+  ]
+    where
+      behind : (o : Option DomString) → o ≡ behind_space cs → is_among word o ≡ true → has_space word ≡ false
+      behind None e m = absurd (true≢false (sym m))
+      behind (Some r) e m = less r e m
+
+  among_plain : (n : ℕ) (cs : DomString) → length cs ≤ n → list_any (text_eq word) (words_from [] cs) ≡ true → has_space word ≡ false
+  among_plain zero cs l h = plain_from cs (λ r e m. absurd (omega (arith, behind-less cs r e, l))) h
+  among_plain (suc n) cs l h = plain_from cs (λ r e m. among_plain n r (omega (arith, behind-less cs r e, l)) m) h
+
+  -- so whether it has some need not be asked
+  pub is_word : (text : DomString) → (not (is_empty word) && list_any (text_eq word) (words_from [] text)) ≡ value_passes has_word word text
+  is_word text = elim (cases_Bool (list_any (text_eq word) (words_from [] text))) [
+    | inl stands ↦ among stands
+    | inr other ↦ apart other
+  ]
+    where
+      among : list_any (text_eq word) (words_from [] text) ≡ true →
+          (not (is_empty word) && list_any (text_eq word) (words_from [] text)) ≡ value_passes has_word word text
+      among h =
+          ap (λ b. not b && list_any (text_eq word) (words_from [] text))
+          (elim (is_empty word) as (λ b. b ≡ (b || false)) [ true ↦ refl | false ↦ refl ])
+          ∙ ap (λ b. not (is_empty word || b) && list_any (text_eq word) (words_from [] text)) (sym (among_plain (length text) text (omega arith) h))
+
+      apart : list_any (text_eq word) (words_from [] text) ≡ false →
+          (not (is_empty word) && list_any (text_eq word) (words_from [] text)) ≡ value_passes has_word word text
+      apart h = and_right _ _ h ∙ sym (and_right _ _ h)

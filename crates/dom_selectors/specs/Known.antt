@@ -85,6 +85,11 @@ abbrev pub has_asked : Trees → NodeName → Asked → Bool
 has_asked ts x Nothing = true
 has_asked ts x (Name name) = text_eq (node_in ts x).element name.now
 
+-- what is asked for is a local name (own rule)
+abbrev pub is_named : Asked → Bool
+is_named Nothing = false
+is_named (Name name) = true
+
 -- each node that matches a compound has it (own rule)
 abbrev pub CompoundAsks : List model.CompoundPart → Asked → Type 0
 CompoundAsks parts asked = (ts : Trees) (x : NodeName) → model.compound_matches ts parts x ≡ true → has_asked ts x asked ≡ true

@@ -2,6 +2,7 @@
 pub mod Views
 pub mod Search
 pub mod Reads
+pub mod Parsed
 pub mod Texts
 pub mod Words
 pub mod Grammar

@@ -11,7 +11,7 @@ ghost use Rattle.dom_tree.specs.Within.{StandsIn};
 ghost use Rattle.dom_attributes.specs.Signs.{HasBits};
 ghost use Rattle.dom_selectors.specs.Signs.{SelectorShows, Shows};
 ghost use Rattle.dom_selectors.specs.Known.{has_asked as spec_has_asked, nodes_behind, nodes_from, AreUnasked, CompoundAsks, IsFirstUnasked};
-ghost use Rattle.dom_selectors.specs.Known.{IsNoChild, SelectorAsks};
+ghost use Rattle.dom_selectors.specs.Known.{is_named, IsNoChild, SelectorAsks};
 ghost use Rattle.dom_selectors.specs.Views.{complex_view, compound_view, part_view, selector_view, simple_view};
 
 use crate::joined::last_of_complex;
@@ -25,6 +25,19 @@ use node_arena::Key;
 pub(crate) enum Asked<'a> {
     Nothing,
     Name(&'a str),
+}
+
+/// What is asked for, where it is known whether that is a local name. So a walk is made for each kind of thing, which does not tell them apart.
+#[inline(always)]
+pub(crate) fn of_kind<'a, const NAMED: bool>(asked: Asked<'a>) -> Asked<'a>
+    requires { is_named asked ≡ NAMED }
+    ensures { result ≡ asked.entry }
+{
+    match asked {
+        Asked::Name(name) if NAMED => Asked::Name(name),
+        Asked::Nothing if !NAMED => Asked::Nothing,
+        _ => unreachable!(),
+    }
 }
 
 /// Whether a node has what is asked for.

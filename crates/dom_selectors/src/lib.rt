@@ -12,6 +12,7 @@ mod compounds;
 mod grammar;
 mod joined;
 mod matching;
+mod parsed;
 mod query;
 mod selector;
 mod siblings;
@@ -20,4 +21,5 @@ mod tokens;
 mod values;
 
 pub use grammar::law_texts_say_one_selector;
+pub use parsed::ParsedTexts;
 pub use selector::Selector;

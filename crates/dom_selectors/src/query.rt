@@ -4,16 +4,19 @@ ghost use Rattle.dom_model.specs.Selectors.{selector_matches, query_all as spec_
 ghost use Rattle.dom_base.specs.declared.NodeName.{NodeName};
 ghost use Rattle.dom_tree.specs.Forest.{IsNode, NamedTrees, name_of};
 ghost use Rattle.dom_tree.specs.Spots.{name_here};
-ghost use Rattle.dom_selectors.specs.Known.{IsFirstLeft, IsKnownOfFirst, IsLeftOfFirst, IsNoChild, SelectorAsks};
+ghost use Rattle.dom_selectors.specs.Known.{is_named, IsFirstLeft, IsKnownOfFirst, IsLeftOfFirst, IsNoChild, SelectorAsks};
 ghost use Rattle.dom_selectors.specs.Views.{complex_view, selector_view};
 
 use crate::above::{Known, Left, left_of, matches_knowing};
-use crate::asking::{Asked, first_unasked, next_with};
+use crate::asking::{Asked, first_unasked, next_with, of_kind};
 use crate::joined::{last_of_complex, links_match};
 use crate::selector::{Complex, CompoundPart, Selector};
 use dom_tree::{Forest, NodeAt};
 use node_arena::Key;
 use std::alloc::{AllocError, Global};
+
+/// For how many nodes those found have room at first, so that few are one piece of memory.
+const FIRST_ROOM: usize = 128;
 
 /// Whether a node matches some of these complex selectors.
 #[inline(never)]
@@ -72,14 +75,15 @@ fn first_left(complexes: &[Complex]) -> Option<Left<'_>>
     }
 }
 
-/// A node none of whose children matches some of these complex selectors, where that is remembered of one.
+/// A node none of whose children matches some of these complex selectors, where that is remembered of one. It is of none where nothing is
+/// left of the last combinator.
 #[inline(always)]
-fn failing_below(complexes: &[Complex], known: &Known) -> Option<Key>
+fn failing_below<const LEFT: bool>(complexes: &[Complex], known: &Known) -> Option<Key>
     ensures { (f : NamedTrees) → IsKnownOfFirst f complexes.now known.now → (x : NodeName) →
         selector_matches f.trees (map complex_view complexes.now) x ≡ true → IsNoChild f result x }
 {
     match complexes {
-        [_] => known.failing,
+        [_] if LEFT => known.failing,
         _ => None,
     }
 }
@@ -131,15 +135,14 @@ impl Selector {
         ensures nodes { IfOk result (λ keys. All (IsNode forest.now) keys.items) }
     {
         match self.asked() {
-            Asked::Nothing => self.query_asking(alloc, forest, top, Asked::Nothing),
-            Asked::Name(name) => self.query_asking(alloc, forest, top, Asked::Name(name)),
+            Asked::Nothing => self.query_asking::<false>(alloc, forest, top, Asked::Nothing),
+            Asked::Name(name) => self.query_asking::<true>(alloc, forest, top, Asked::Name(name)),
         }
     }
 
-    /// What `query_all` says, where each node that matches has what is asked for. It is in line, so that what kind of thing is asked for is
-    /// told once for all nodes; and so whether something is left of the last combinator.
-    #[inline(always)]
-    fn query_asking(
+    /// What `query_all` says, where each node that matches has what is asked for, and whether that is a local name is known. There is one of
+    /// its own for each kind of thing that is asked for.
+    fn query_asking<const NAMED: bool>(
         &self,
         alloc: Global,
         forest: &Forest,
@@ -147,21 +150,21 @@ impl Selector {
         asked: Asked,
     ) -> Result<Vec<Key>, AllocError>
         requires node { IsNode forest.now top }
+        requires named { is_named asked ≡ NAMED }
         requires asks { SelectorAsks (selector_view self.now) asked }
         ensures found { IfOk result (λ keys. map (name_of forest.now) keys.items ≡ spec_query_all forest.now.trees (selector_view self.now)
             (name_of forest.now top)) }
         ensures nodes { IfOk result (λ keys. All (IsNode forest.now) keys.items) }
     {
-        let left = first_left(self.complexes.as_slice());
-        match left {
-            Some(_) => self.query_knowing(alloc, forest, top, asked, &left),
-            None => self.query_knowing(alloc, forest, top, asked, &None),
+        match first_left(self.complexes.as_slice()) {
+            Some(left) => self.query_knowing::<NAMED, true>(alloc, forest, top, asked, &Some(left)),
+            None => self.query_knowing::<NAMED, false>(alloc, forest, top, asked, &None),
         }
     }
 
-    /// What `query_all` says, where what is left of the last combinator of the first complex selector is given too.
-    #[inline(always)]
-    fn query_knowing(
+    /// What `query_all` says, where what is left of the last combinator of the first complex selector is given too, and whether there is
+    /// something is known.
+    fn query_knowing<const NAMED: bool, const LEFT: bool>(
         &self,
         alloc: Global,
         forest: &Forest,
@@ -170,6 +173,7 @@ impl Selector {
         left: &Option<Left>,
     ) -> Result<Vec<Key>, AllocError>
         requires node { IsNode forest.now top }
+        requires named { is_named asked ≡ NAMED }
         requires asks { SelectorAsks (selector_view self.now) asked }
         requires left { IsLeftOfFirst self.now.complexes.items left.now }
         ensures found { IfOk result (λ keys. map (name_of forest.now) keys.items ≡ spec_query_all forest.now.trees (selector_view self.now)
@@ -179,16 +183,17 @@ impl Selector {
         forest.law_nodes_stand_once();
         let complexes = self.complexes.as_slice();
         let signs = self.signs();
-        let unasked = first_unasked(complexes, asked);
+        let asks = of_kind::<NAMED>(asked);
+        let unasked = first_unasked(complexes, asks);
         let mut known = Known::nothing();
-        let mut found = Vec::new(alloc);
-        let mut at = next_with(forest, top, forest.at(top), signs, asked, &None);
+        let mut found = Vec::with_capacity(alloc, FIRST_ROOM)?;
+        let mut at = next_with(forest, top, forest.at(top), signs, asks, &None);
         while let Some(node) = at {
             if some_matches(&node, complexes, unasked, left, &mut known) {
                 take(&mut found, node.key())?;
             }
-            let failing = failing_below(complexes, &known);
-            at = next_with(forest, top, node, signs, asked, &failing);
+            let failing = failing_below::<LEFT>(complexes, &known);
+            at = next_with(forest, top, node, signs, asks, &failing);
         }
         Ok(found)
     }

@@ -3,20 +3,13 @@ ghost use Rattle.std.specs.Prelude.{◌≡◌, ◌<◌, [], length, nat_eq, IfSo
 ghost use Rattle.std.specs.List.{list_any, starts_with};
 ghost use Rattle.std.specs.Option.{option_map};
 ghost use Rattle.dom_model.specs.Names.{text_eq};
-ghost use Rattle.dom_model.specs.Selectors.{words_from, has_space as spec_has_space, holds_text as spec_holds_text};
+ghost use Rattle.dom_model.specs.Selectors.{words_from, holds_text as spec_holds_text};
 ghost use Rattle.dom_model.specs.Selectors.{value_passes as spec_value_passes};
 ghost use Rattle.dom_selectors.specs.Views.{test_view};
 ghost use Rattle.dom_selectors.specs.Words.{begins_with_word as spec_begins_with_word, behind_space as spec_behind_space, is_among as spec_is_among};
 
 use crate::selector::AttributeTest;
 use dom_attributes::{is_same_string, is_space};
-
-/// Whether white space is in a string.
-fn has_space(text: &[u16]) -> bool
-    ensures { result ≡ spec_has_space text.now }
-{
-    text.iter().any(|unit| is_space(*unit))
-}
 
 /// Whether a string begins with a word, behind which is white space or nothing. They are compared in place.
 #[inline(always)]
@@ -119,13 +112,12 @@ fn begins_with_dash(text: &[u16], value: &[u16]) -> bool
     text.split_at(value.len()).1.starts_with(&[45])
 }
 
-/// Whether a word is among those into which white space parts an attribute's value. Most values have it not, so that it is a word is
-/// seen last.
+/// Whether a word is among those into which white space parts an attribute's value. What stands among them has no white space.
 #[inline(always)]
 pub(crate) fn is_among_words(word: &[u16], text: &[u16]) -> bool
     ensures { result ≡ spec_value_passes (test_view AttributeTest.HasWord) word.now text.now }
 {
-    !word.is_empty() && has_word(text, word) && !has_space(word)
+    !word.is_empty() && has_word(text, word)
 }
 
 /// Whether an attribute's value is as a test with a value of the selector asks.

@@ -4,4 +4,4 @@ use Rattle.dom_text.specs.Definitions.{next_node_text}
 use Rattle.dom_printer.proofs.names.put_others.Given as goal
 
 abbrev pub invariant-loop-node : goal.invariant-loop-node
-invariant-loop-node g l = l.out.items ≡ l.fn.out.items ++ flat_map (next_node_text l.viewer) (map g.N.Named.name (take l.node-index l.nodes))
+invariant-loop-node g l = l.out.items ≡ l.fn.out.items ++ flat_map (next_node_text l.viewer) (map (g.N.Names.name l.names) (take l.node-index l.nodes))

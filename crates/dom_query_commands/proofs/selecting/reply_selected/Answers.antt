@@ -1,4 +1,4 @@
-use Rattle.dom_query_commands.proofs.Cited.{◌∙◌, ◌∷◌, ◌++◌, [], List, DocState, NodeName, a_list, ap, map, named, name_at, name_view, on_ok_weaker, output_text}
+use Rattle.dom_query_commands.proofs.Cited.{◌∙◌, ◌∷◌, ◌++◌, [], List, DocState, NodeName, a_list, ap, map, named, name_at, on_ok_weaker, output_text}
 use Rattle.dom_query_commands.proofs.Cited.{part_of, query_all, read_at, read_by_key, replied, says, selector_view, word_view}
 use Rattle.dom_query_commands.proofs.SelectorLaws.{query_own}
 use Rattle.dom_query_commands.proofs.selecting.reply_selected.Goals as goal
@@ -12,10 +12,10 @@ returns c =
     let shown = c.forest-forest.ensures in
     let at = read_by_key _ c.state.inside.doc _ c.state.view_is _ _ _ c.key-key.ensures.name _ shown.names shown.owned shown.trees in
     let own = query_own f.trees shown.owned c.args.owner s x at.mine in
-    let told = ap (map name_view) c.deref-2.ensures ∙ c.in_ok-names.ensures ∙ ap (map (name_at f.names)) c.deref.ensures.value
+    let told = ap (map (name_at f.names)) c.deref.ensures.value
     ∙ c.in_ok-keys.ensures.found ∙ read_at (λ ts y. query_all ts s y) f.trees at.here at.trees own
     ∙ ap (λ (d : DocState). query_all (part_of d.world c.args.owner).trees s (named (part_of d.world c.args.owner) (word_view c.args.node)))
     c.state.view_is in
-    on_ok_weaker c.put_reply.result (λ put.
+    on_ok_weaker c.put_list_reply.result (λ put.
     put ∙ ap (λ (nodes : List NodeName). c.args.out.now.items ++ output_text (says c.args.owner (replied (a_list nodes)) ∷ [])) told)
-    c.put_reply.ensures.ok
+    c.put_list_reply.ensures.ok

@@ -4,10 +4,10 @@ use Rattle.dom_selectors.proofs.Cited.{has_asked, IsKnownOfFirst, key_in, nodes_
 use Rattle.dom_selectors.proofs.selector.Selector.query_knowing.Given as goal
 
 abbrev pub invariant-loop-at : goal.invariant-loop-at
-invariant-loop-at l = record {
+invariant-loop-at g l = record {
   same : ForSome l.at (λ n. n.whole ≡ l.forest);
   stands : ForSome (key_in l.at) (StandsIn l.forest l.top);
-  has : ForSome (key_in l.at) (λ k. has_asked l.forest.trees (name_at l.forest.names k) l.asked ≡ true);
+  has : ForSome (key_in l.at) (λ k. has_asked l.forest.trees (name_at l.forest.names k) l.asks ≡ true);
   known : IsKnownOfFirst l.forest l.self.complexes.items l.known;
   nodes : All (λ k. k < length l.forest.names) l.found.items;
   all : map (name_at l.forest.names) l.found.items ++ filter (selector_matches l.forest.trees (selector_view l.self)) (nodes_from l.forest l.top l.at) ≡
@@ -15,4 +15,4 @@ invariant-loop-at l = record {
 }
 
 abbrev pub decreases-loop-at : goal.decreases-loop-at
-decreases-loop-at l = length (nodes_from l.forest l.top l.at)
+decreases-loop-at g l = length (nodes_from l.forest l.top l.at)
