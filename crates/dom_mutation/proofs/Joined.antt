@@ -1,16 +1,17 @@
 -- Normalization: the Texts directly after a Text, their data, and the Texts below a node.
 use Rattle.dom_mutation.proofs.Cited.{◌≡◌, ℕ, suc, ◌<◌, ◌≤◌, inl, inr, Bool, true, false, List, [], ◌∷◌, ◌++◌, drop, length, map, Option, Some, None}
-use Rattle.dom_mutation.proofs.Cited.{option_map, refl, sym, ap, subst, ◌∙◌, arith, ◌==◌, filter, flat_map, take_while, if◌then◌else◌, AllByRecursion}
+use Rattle.dom_mutation.proofs.Cited.{option_map, refl, sym, ap, subst, ◌∙◌, arith, ◌==◌, ◌||◌, filter, flat_map, take_while, if◌then◌else◌, AllByRecursion}
 use Rattle.dom_mutation.proofs.Cited.{ForSome, option_map_or, cases_Bool, cond-true, cond-false, or_left, map-append, append-nil, append_assoc}
-use Rattle.dom_mutation.proofs.Cited.{drop-append-le, filter-append, none-some, take_while-cons, NodeName, Owner, DomString, name_eq, first_of}
+use Rattle.dom_mutation.proofs.Cited.{drop-append-le, filter-append, none-some, same_Some, take_while-cons, NodeName, Owner, DomString, name_eq, first_of}
 use Rattle.dom_mutation.proofs.Cited.{is_empty, is_in}
 use Rattle.dom_mutation.proofs.Cited.{Step, items_before, items_after, Trees, kind_of, is_text, node_in, length_of, siblings, parent_of}
 use Rattle.dom_mutation.proofs.Cited.{from_next, from_sibling, next_sibling, has_node, has_node-times, is_inclusive_ancestor, inclusive_ancestors}
 use Rattle.dom_mutation.proofs.Cited.{observed, remove_plan, contiguous_texts_after, joining, normalizing_text, name_eq-same, name_at, DocState}
 use Rattle.dom_mutation.proofs.Cited.{planned, name_in, owner_in, trees_in, IsOwnNode, Once, once_subtree, first_inside, self-above}
-use Rattle.dom_mutation.proofs.Cited.{◌&&◌, not, is_some, by_cases, needs_normalizing, inclusive_descendants, part_of, subtree, world_after, NoTwice}
+use Rattle.dom_mutation.proofs.Cited.{◌&&◌, not, by_cases, needs_normalizing, inclusive_descendants, part_of, subtree, world_after, NoTwice}
 use Rattle.dom_mutation.proofs.Cited.{names_once, walked, StandsIn, left, Walks, walks}
 use Rattle.dom_tree.proofs.Owned.{read_own, stays_own}
+use Rattle.dom_parts.proofs.OwnNodes.{next_near}
 use Rattle.dom_tree.specs.Definitions.{AreOwned, NamedTrees, trees_of_owner}
 use Rattle.dom_mutation.proofs.Placed.{Counted, once_in}
 use Rattle.dom_mutation.proofs.Listing.{all_push}
@@ -82,12 +83,27 @@ pub text_next : (ts : Trees) (x y : NodeName) (b : Bool) → next_sibling ts x �
 text_next ts x y b next kind = sym (first_while (λ y. is_text (kind_of ts y)) (items_after name_eq x (siblings ts x)) y next ∙
     ap (λ t. if t then Some y else None) kind)
 
--- one is found where there is one
-pub some_first : (f : ℕ → NodeName) (o : Option ℕ) (zs : List NodeName) → option_map f o ≡ first_of zs → is_some o ≡ not (is_empty zs)
-some_first f None [] e = refl
-some_first f None (z ∷ zs) e = absurd (none-some z e)
-some_first f (Some k) [] e = absurd (none-some (f k) (sym e))
-some_first f (Some k) (z ∷ zs) e = refl
+-- whether there are some is what the first of the names before them tells
+pub some_while : (p : NodeName → Bool) (zs : List NodeName) (y : NodeName) → first_of zs ≡ Some y → p y ≡ not (is_empty (take_while p zs))
+some_while p [] y e = absurd (none-some y e)
+some_while p (z ∷ zs) y e = ap p (sym same) ∙ by (p z) refl
+  where
+    same : z ≡ y
+    same = same_Some z y e
+
+    by : (b : Bool) → p z ≡ b → p z ≡ not (is_empty (take_while p (z ∷ zs)))
+    by true h = h ∙ ap (λ (ys : List NodeName). not (is_empty ys)) (sym (take_while-cons p z zs ∙ cond-true (p z) (z ∷ take_while p zs) [] h))
+    by false h = h ∙ ap (λ (ys : List NodeName). not (is_empty ys)) (sym (take_while-cons p z zs ∙ cond-false (p z) (z ∷ take_while p zs) [] h))
+
+pub none_while : (p : NodeName → Bool) (zs : List NodeName) → first_of zs ≡ None → false ≡ not (is_empty (take_while p zs))
+none_while p [] e = refl
+none_while p (z ∷ zs) e = absurd (none-some z (sym e))
+
+-- two tests that agree of that name tell the same
+same_while : (p q : NodeName → Bool) (zs : List NodeName) → ((y : NodeName) → first_of zs ≡ Some y → p y ≡ q y) →
+    not (is_empty (take_while p zs)) ≡ not (is_empty (take_while q zs))
+same_while p q [] same = refl
+same_while p q (z ∷ zs) same = sym (some_while p (z ∷ zs) z refl) ∙ (same z refl ∙ some_while q (z ∷ zs) z refl)
 
 -- how far the loop has come that lists them
 pub record Follows (d : DocState) (node : ℕ) (keys : List ℕ) (at : Option ℕ) : Type 0 where
@@ -214,6 +230,32 @@ module _ (d : DocState) (f : NamedTrees) (names : f.names ≡ d.names) (trees : 
   text_own k =
       ap (λ ns. is_text (kind_of f.trees (name_at ns k))) names ∙
       ap (λ n. is_text n.kind) ((read_own f.trees owned (owner_in d k) (name_in d k) refl).node ∙ ap (λ ts. node_in ts (name_in d k)) (trees (owner_in d k)))
+
+  -- ---- what a Text of an owner needs
+
+  module _ (k : ℕ) where
+    abbrev the_text : NodeName
+    the_text = name_in d k
+
+    abbrev its_trees : Trees
+    its_trees = trees_of_owner (owner_in d k) f.trees
+
+    same_next : (y : NodeName) → next_sibling f.trees the_text ≡ Some y → is_text (kind_of f.trees y) ≡ is_text (kind_of its_trees y)
+    same_next y e =
+        ap (λ n. is_text n.kind) (read_own f.trees owned (owner_in d k) y (next_near f.trees owned (owner_in d k) the_text y refl e)).node
+
+    same_nexts : not (is_empty (contiguous_texts_after f.trees the_text)) ≡ not (is_empty (contiguous_texts_after its_trees the_text))
+    same_nexts =
+        same_while (λ y. is_text (kind_of f.trees y)) (λ y. is_text (kind_of its_trees y)) (items_after name_eq the_text (siblings f.trees the_text)) same_next
+        ∙ ap (λ zs. not (is_empty (take_while (λ y. is_text (kind_of its_trees y)) (items_after name_eq the_text zs))))
+        (read_own f.trees owned (owner_in d k) the_text refl).sibling_list
+
+    -- it is the same in the trees of all and in the owner's
+    pub needs_own : needs_normalizing f.trees (name_at f.names k) ≡ needs_normalizing (trees_in d k) (name_in d k)
+    needs_own =
+        ap (λ ns. needs_normalizing f.trees (name_at ns k)) names
+        ∙ (ap (λ n. (length n.text == 0) || not (is_empty (contiguous_texts_after f.trees the_text))) (read_own f.trees owned (owner_in d k) the_text refl).node
+        ∙ (ap (λ b. (length (node_in its_trees the_text).text == 0) || b) same_nexts ∙ ap (λ ts. needs_normalizing ts the_text) (trees (owner_in d k))))
 
 -- how far the loop has come that lists them
 pub record Gathers (d : DocState) (top : ℕ) (keys : List ℕ) (at : Option ℕ) : Type 0 where

@@ -192,7 +192,7 @@ fn texts_in(parts: &Parts, forest: &Forest, top: Key) -> Result<SmallVec<Key, 8>
     let mut at = forest.at(top).following(top);
     while let Some(node) = at {
         if is_text_at(&node) {
-            list_needed(parts, &mut keys, node.key())?;
+            list_needed(&mut keys, &node)?;
         }
         at = node.following(top);
     }
@@ -201,27 +201,28 @@ fn texts_in(parts: &Parts, forest: &Forest, top: Key) -> Result<SmallVec<Key, 8>
 
 /// A Text is listed where normalization changes it.
 #[inline(always)]
-fn list_needed(parts: &Parts, keys: &mut SmallVec<Key, 8>, text: Key) -> Result<(), AllocError>
-    requires { HoldsNode parts.now text }
+fn list_needed(keys: &mut SmallVec<Key, 8>, text: &NodeAt) -> Result<(), AllocError>
     ensures { OnOk result (keys.new.items ≡ keys.old.items ++
-        (if needs_normalizing (trees_in parts.now text) (name_in parts.now text) then text ∷ [] else [])) }
+        (if needs_normalizing text.now.whole.trees (name_here text.now) then text.now.key ∷ [] else [])) }
 {
-    if needs_normalizing(parts, text) {
-        keys.push(text)?;
+    if needs_normalizing(text) {
+        keys.push(text.key())?;
     }
     Ok(())
 }
 
 /// Whether a Text has no data, or a Text directly behind it.
 #[inline(always)]
-fn needs_normalizing(parts: &Parts, text: Key) -> bool
-    requires { HoldsNode parts.now text }
-    ensures { result ≡ needs_normalizing (trees_in parts.now text) (name_in parts.now text) }
+fn needs_normalizing(text: &NodeAt) -> bool
+    ensures { result ≡ needs_normalizing text.now.whole.trees (name_here text.now) }
 {
-    if parts.text(text).is_empty() {
+    if text.text().is_empty() {
         return true;
     }
-    text_after(parts, text).is_some()
+    match text.next() {
+        Some(next) => is_text_at(&next),
+        None => false,
+    }
 }
 
 /// Whether a node is a Text, where it lies.

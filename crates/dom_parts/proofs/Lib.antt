@@ -20,7 +20,7 @@ mod Numbers
 mod Observed
 mod Observing
 mod Own
-mod OwnNodes
+pub mod OwnNodes
 pub mod OwnParts
 pub mod OwnPlans
 mod OwnSteps

@@ -3,7 +3,6 @@ mod Cited
 mod OneTree
 mod OwnTexts
 mod Parting
-mod ChildWalks
 mod InsertedRanges
 mod InsertedPlans
 mod InsertedParts

@@ -17,7 +17,6 @@ ghost use Rattle.dom_range_ops.specs.Texts.{range_at_points};
 ghost use Rattle.dom_tree.specs.Forest.{err_of};
 ghost use Rattle.dom_parts.specs.Doc.{HoldsNode};
 
-use crate::points::child_at;
 use dom_base::{Fault, Kind, Owner, Refusal};
 use dom_mutation::Doc;
 use dom_ranges::Points;
@@ -86,9 +85,7 @@ fn nth_child(doc: &Doc, node: Key, index: usize) -> Option<Key>
     ensures child { ForSome result (IsChild doc.now node) }
 {
     doc.laws();
-    let forest = doc.forest();
-    forest.law_nodes_stand_once();
-    child_at(forest, node, index)
+    doc.forest().child(node, index)
 }
 
 /// The parent into which a node is to go: that of the reference, or the node of the start.

@@ -8,20 +8,13 @@ ghost use Rattle.dom_tree.specs.Forest.{IsNode, name_of};
 use dom_tree::Forest;
 use node_arena::Key;
 
-/// The child of a node at an index, where there are so many.
+/// The child of a node at an index, where there are so many, as the first of those from there on.
 pub(crate) fn child_at(forest: &Forest, node: Key, index: usize) -> Option<Key>
     requires { IsNode forest.now node }
     ensures value { option_map (name_of forest.now) result ≡ first_of (drop index (children_of forest.now.trees (name_of forest.now node))) }
     ensures node { ForSome result (IsNode forest.now) }
 {
-    forest.law_nodes_stand_once();
-    let mut at = forest.first(node)?;
-    let mut left = index;
-    while left > 0 {
-        at = forest.next(at)?;
-        left -= 1;
-    }
-    Some(at)
+    forest.child(node, index)
 }
 
 /// Whether a node is the one found.

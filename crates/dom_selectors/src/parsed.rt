@@ -1,5 +1,5 @@
 //! The texts that were parsed last.
-ghost use Rattle.std.specs.Prelude.{◌≡◌, ◌<◌, [], length, slice_get, IfOk, IfErr, IfSome, None, Some};
+ghost use Rattle.std.specs.Prelude.{◌≡◌, ◌<◌, [], length, slice_get, IfOk, IfErr, IfSome, OnErr, None, Some};
 ghost use Rattle.dom_model.specs.SelectorText.{parse_selectors};
 ghost use Rattle.dom_selectors.specs.Parsed.{selectors_in, HasText};
 ghost use Rattle.dom_selectors.specs.Reads.{IsRefusalWhere};
@@ -69,11 +69,12 @@ impl ParsedTexts {
     }
 
     /// The place of the list of selectors that a text is (CSS Selectors Level 4, selector list, in this project's part). It is parsed if it
-    /// is not among the last sixteen. It is refused as `Selector::parse` refuses it.
+    /// is not among the last sixteen. It is refused as `Selector::parse` refuses it, and then those that are kept stay.
     pub fn parse(&mut self, text: DomStr) -> Result<usize, Fault>
         ensures within { IfOk result (λ place. place < length (selectors_in self.new)) }
         ensures read { IfOk result (λ place. slice_get (selectors_in self.new) place ≡ parse_selectors text.items) }
         ensures unread { IfErr result (IsRefusalWhere (parse_selectors text.items ≡ None)) }
+        ensures err { OnErr result (self.new ≡ self.old) }
     {
         match place_of(&self.kept, &text) {
             Some(place) => Ok(place),
@@ -86,6 +87,7 @@ impl ParsedTexts {
         ensures within { IfOk result (λ place. place < length (selectors_in self.new)) }
         ensures read { IfOk result (λ place. slice_get (selectors_in self.new) place ≡ parse_selectors text.items) }
         ensures unread { IfErr result (IsRefusalWhere (parse_selectors text.items ≡ None)) }
+        ensures err { OnErr result (self.new ≡ self.old) }
     {
         let selector = Selector::parse(self.alloc, &text)?;
         let parsed = Parsed { text, selector };

@@ -13,6 +13,8 @@ mod own;
 mod owners;
 mod page_keys;
 mod shared;
+mod short_text;
+mod splicing;
 mod stored;
 mod table;
 

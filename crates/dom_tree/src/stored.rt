@@ -21,12 +21,11 @@ use std::marker::Model;
 use std::rc::Rc;
 
 /// A node under its name. What it shares with others and its attributes stand elsewhere, since elements are many and
-/// attributes few. Its data stands here: `Forest::set_data` asks for no memory, so it can make no box.
+/// attributes few. Its data stand here: `Forest::set_data` asks for no memory, so it can make no box.
 #[derive(Drop)]
 pub(crate) struct StoredNode {
     shared: Rc<Shared>,
     own: Own,
-    text: DomStr,
     /// The node document, if the node has one.
     document: Key,
     signs: Signs,
@@ -36,7 +35,7 @@ impl Model for StoredNode {
     ghost use Rattle.std.specs.Rc.{rc_str_bytes};
     ghost use Rattle.dom_tree.specs.Contents.{Stored, stored_code};
     ghost use Rattle.dom_attributes.specs.Signs.{Cover};
-    ghost use Rattle.dom_tree.specs.Own.{kind_in, number_in, attributes_in, document_in};
+    ghost use Rattle.dom_tree.specs.Own.{kind_in, number_in, attributes_in, document_in, text_in};
 
     ghost Value = { Stored };
 
@@ -48,7 +47,7 @@ impl Model for StoredNode {
         kind = kind_in s.own;
         element = rc_str_bytes s.shared.value.element;
         attributes = attributes_in s.own;
-        text = s.text.items;
+        text = text_in s.own;
         document = document_in s.own s.document;
       };
     } };
@@ -78,8 +77,7 @@ impl StoredNode {
         let has_document = document.is_some();
         Ok(StoredNode {
             shared,
-            own: Own::of(alloc, kind, has_document, name.number, attributes)?,
-            text,
+            own: Own::of(alloc, kind, has_document, name.number, attributes, text)?,
             document: document.unwrap_or_default(),
             signs,
         })
@@ -128,10 +126,11 @@ impl StoredNode {
     }
 
     /// Its data.
+    #[inline(always)]
     pub(crate) fn text(&self) -> &[u16]
         ensures { result.now ≡ self.now.node.text }
     {
-        self.text.as_slice()
+        self.own.text()
     }
 
     /// Its node document.
@@ -200,13 +199,14 @@ impl StoredNode {
     pub(crate) fn set_text(&mut self, text: DomStr)
         ensures { self.new ≡ stored_from self.old.name (record self.old.node { text = text.items }) }
     {
-        self.text = text;
+        self.own.set_text(text);
     }
 
     /// From an offset on, so many code units of its data, or as many as there are, give way to others, in place. All of them
     /// give way without taking memory. Where memory is refused, the node is as it was.
     pub(crate) fn replace_text(
         &mut self,
+        alloc: Global,
         offset: usize,
         count: usize,
         units: DomStr,
@@ -216,11 +216,11 @@ impl StoredNode {
         ensures whole { offset ≡ 0 → length self.old.node.text ≤ count → IsOk result }
         ensures err { OnErr result (self.new ≡ self.old) }
     {
-        if offset == 0 && self.text.len() <= count {
-            self.text = units;
+        if offset == 0 && self.text().len() <= count {
+            self.own.set_text(units);
             return Ok(());
         }
-        splice(&mut self.text, offset, count, units)
+        self.own.replace_text(alloc, offset, count, units)
     }
 
     /// Sets an attribute. Where memory is refused, the node is as it was.
@@ -250,25 +250,4 @@ impl StoredNode {
     {
         self.own.remove_attribute(name)
     }
-}
-
-/// From an offset on, so many code units, or as many as there are, give way to others. Where memory is refused, all is as it was.
-fn splice(text: &mut DomStr, offset: usize, count: usize, units: DomStr) -> Result<(), AllocError>
-    ensures ok { OnOk result (text.new.items ≡ replaced offset count units.items text.old.items) }
-    ensures err { OnErr result (text.new.items ≡ text.old.items) }
-{
-    let start = offset.min(text.len());
-    let cut = count.min(text.len() - start);
-    if start + cut == text.len() {
-        text.reserve(units.len().saturating_sub(cut))?;
-        text.truncate(start);
-        return text.extend_from_slice(units.as_slice());
-    }
-    if cut == units.len() {
-        text.slice_mut(start..start + cut)
-            .copy_from_slice(units.as_slice());
-        return Ok(());
-    }
-    text.splice(start..start + cut, units)?;
-    Ok(())
 }

@@ -1,6 +1,7 @@
 -- Places in lists of children.
-use Rattle.std.proofs.Common.{◌≡◌, ◌⊎◌, inl, inr, ℕ, suc, ◌<◌, true, false, eqb, List}
+use Rattle.std.proofs.Common.{◌≡◌, ◌⊎◌, inl, inr, ℕ, zero, suc, ◌<◌, true, false, eqb, List}
 use Rattle.std.proofs.Common.{[], ◌∷◌, length, Option, Some, None, refl, sym, ap, ◌∙◌, arith, true≢false}
+use Rattle.std.specs.Prelude.{slice_get}
 use Rattle.std.specs.Option.{option_eq}
 use Rattle.std.proofs.lemmas.Bool.{eq-eqb, eqb-true, cases_Bool, or_left, or_right, both_ways, false_from_ne_true}
 use Rattle.std.proofs.lemmas.Option.{same_Some, none-some}
@@ -13,6 +14,12 @@ place_in-within (x ∷ xs) k found = elim (cases_Bool (eqb x k)) [
   | inl e ↦ rw e (omega arith)
   | inr e ↦ rw e (omega (arith, place_in-within xs k (rw e at found)))
 ]
+
+-- what stands at a place is in the list
+pub get-contains : (xs : List ℕ) (i k : ℕ) → slice_get xs i ≡ Some k → contains xs k ≡ true
+get-contains [] i k e = absurd (none-some k e)
+get-contains (x ∷ xs) zero k e = or_left (eqb x k) _ (eq-eqb x k (same_Some x k e))
+get-contains (x ∷ xs) (suc i) k e = or_right (eqb x k) _ (get-contains xs i k e)
 
 -- what stands just before k has the place before
 pub prev_place : (before : Option ℕ) (xs : List ℕ) (k : ℕ) {s : ℕ} → IsOnce xs → contains xs k ≡ true → prev_from before xs k ≡ Some s

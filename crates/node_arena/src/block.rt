@@ -1,5 +1,6 @@
 //! A few keys in order, which are looked through one by one.
-ghost use Rattle.std.specs.Prelude.{◌≡◌, ◌<◌, ◌≤◌, ◌++◌, ◌∷◌, [], length, take, drop, true, false, is_ok, if◌then◌else◌, IfOk, OnErr, OnOk, None};
+ghost use Rattle.std.specs.Prelude.{◌≡◌, ◌≢◌, ℕ, ◌<◌, ◌≤◌, ◌++◌, ◌∷◌, [], length, take, drop, slice_get, true, false, is_ok, if◌then◌else◌, IfOk, OnErr, OnOk};
+ghost use Rattle.std.specs.Prelude.{Some, None};
 ghost use Rattle.std.specs.List.{insert, remove};
 ghost use Rattle.std.specs.Option.{ForSome};
 ghost use Rattle.node_arena.specs.Nodes.{contains, last_of, place_in, IsOnce};
@@ -8,6 +9,9 @@ use crate::Key;
 use std::alloc::{AllocError, Global};
 use std::cell::Cell;
 use std::marker::Model;
+
+/// A key is sought first from so many places before the one that was found last.
+const NEAR: usize = 4;
 
 /// Keys of one block of a longer list.
 #[derive(Drop)]
@@ -79,19 +83,21 @@ impl Block {
         }
     }
 
-    /// The place of a key, where the block has it, sought from the front.
+    /// The place of a key, where the block has it, sought from a little before the place that was found last, and then from the front.
     fn seek(&self, key: Key) -> Option<usize>
+        requires once { IsOnce self.now }
         ensures found { ForSome result (λ i. (contains self.now key ≡ true) × (i ≡ place_in self.now key)) }
         ensures within { ForSome result (λ i. i < length self.now) }
         ensures absent { result ≡ None → contains self.now key ≡ false }
     {
-        for place in 0..self.keys.len() {
-            if self.keys[place] == key {
-                self.found.set(place);
-                return Some(place);
-            }
-        }
-        None
+        let keys = self.keys();
+        let near = self.found.get().saturating_sub(NEAR).min(keys.len());
+        let place = match place_among(keys, near, keys.len(), key) {
+            Some(place) => place,
+            None => place_among(keys, 0, near, key)?,
+        };
+        self.found.set(place);
+        Some(place)
     }
 
     /// Puts a key behind all others.
@@ -129,4 +135,19 @@ impl Block {
         let keys = self.keys.split_off(place)?;
         Ok(Block::with(keys))
     }
+}
+
+/// The place of a key among those from one place to before another.
+#[inline(always)]
+fn place_among(keys: &[Key], from: usize, to: usize, key: Key) -> Option<usize>
+    requires { to ≤ length keys.now }
+    ensures found { ForSome result (λ i. slice_get keys.now i ≡ Some key) }
+    ensures absent { result ≡ None → (i : ℕ) → from ≤ i → i < to → slice_get keys.now i ≢ Some key }
+{
+    for place in from..to {
+        if keys[place] == key {
+            return Some(place);
+        }
+    }
+    None
 }

@@ -79,6 +79,13 @@ impl OrderedKeys {
         Some(count_before(self.blocks.as_slice(), number) + place)
     }
 
+    /// The key at a place, if there are so many.
+    pub(crate) fn get(&self, place: usize) -> Option<Key>
+        ensures { result ≡ slice_get self.now place }
+    {
+        key_at(self.blocks.as_slice(), place)
+    }
+
     /// Puts a key that is not there behind all others. Where memory is refused, nothing changes.
     pub(crate) fn push(&mut self, key: Key) -> Result<(), AllocError>
         requires { contains self.old key ≡ false }
@@ -147,6 +154,21 @@ fn count_before(blocks: &[Block], number: usize) -> usize
         count += blocks[before].len();
     }
     count
+}
+
+/// The key at a place in the blocks, if there are so many.
+fn key_at(blocks: &[Block], place: usize) -> Option<Key>
+    ensures { result ≡ slice_get (concat blocks.now) place }
+{
+    let mut left = place;
+    for number in 0..blocks.len() {
+        let keys = blocks[number].keys();
+        if let Some(key) = keys.get(left) {
+            return Some(*key);
+        }
+        left -= keys.len();
+    }
+    None
 }
 
 /// Makes the numbers reach as far as a key.

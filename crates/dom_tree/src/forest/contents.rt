@@ -100,9 +100,10 @@ impl Forest {
         ensures held { (k : ℕ) → IsNode self.old k → k ≢ key →
             node_in self.new.trees (name_of self.old k) ≡ node_in self.old.trees (name_of self.old k) }
     {
+        let alloc = self.alloc;
         self.arena
             .payload_mut(key)
-            .replace_text(offset, count, units)?;
+            .replace_text(alloc, offset, count, units)?;
         Ok(())
     }
 

@@ -1,5 +1,5 @@
 //! How nodes stand in their trees, and how a tree is put into another one or taken out.
-ghost use Rattle.std.specs.Prelude.{◌≡◌, ◌≢◌, ℕ, ◌++◌, ◌∷◌, [], true, false, Some, None};
+ghost use Rattle.std.specs.Prelude.{◌≡◌, ◌≢◌, ℕ, ◌++◌, ◌∷◌, [], true, false, Some, None, slice_get};
 ghost use Rattle.std.specs.Option.{option_map, ForSome};
 ghost use Rattle.dom_model.specs.Names.{first_of, last_of};
 ghost use Rattle.dom_model.specs.Tree.{parent_of, children_of, next_sibling, previous_sibling, inclusive_ancestors, is_inclusive_ancestor, root_of};
@@ -40,6 +40,17 @@ impl Forest {
         ensures child { ForSome result (λ k. parent_of self.now.trees (name_of self.now k) ≡ Some (name_of self.now key)) }
     {
         self.arena.last(key)
+    }
+
+    /// The child of a node at an index, if it has so many (DOM Standard, concepts: child, index). Children that are remembered are
+    /// not walked over, and those behind them are walked over one by one.
+    pub fn child(&self, key: Key, index: usize) -> Option<Key>
+        requires { IsNode self.now key }
+        ensures value { option_map (name_of self.now) result ≡ slice_get (children_of self.now.trees (name_of self.now key)) index }
+        ensures node { ForSome result (IsNode self.now) }
+        ensures child { ForSome result (λ k. parent_of self.now.trees (name_of self.now k) ≡ Some (name_of self.now key)) }
+    {
+        self.arena.child(key, index)
     }
 
     /// The next sibling of a node, if it has one (DOM Standard, concept: next sibling).

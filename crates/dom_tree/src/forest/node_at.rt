@@ -2,7 +2,7 @@
 ghost use Rattle.std.specs.Prelude.{◌≡◌, true, false};
 ghost use Rattle.std.specs.Option.{option_map, ForSome};
 ghost use Rattle.dom_model.specs.Names.{first_of, items_after, name_eq};
-ghost use Rattle.dom_model.specs.Tree.{attribute_value, inclusive_descendants, is_inclusive_ancestor, kind_of, node_in, parent_of};
+ghost use Rattle.dom_model.specs.Tree.{attribute_value, inclusive_descendants, is_inclusive_ancestor, kind_of, next_sibling, node_in, parent_of};
 ghost use Rattle.node_arena.specs.Spots.{key_in};
 ghost use Rattle.dom_attributes.specs.Signs.{MustHave};
 ghost use Rattle.dom_tree.specs.Forest.{IsNode, name_of};
@@ -83,6 +83,14 @@ impl<'a> NodeAt<'a> {
         self.walk.payload().element()
     }
 
+    /// The data of a Text or a Comment, in code units (DOM Standard, concept: data).
+    #[inline(always)]
+    pub fn text(&self) -> &'a [u16]
+        ensures { result.now ≡ (node_in self.now.whole.trees (name_here self.now)).text }
+    {
+        self.walk.payload().text()
+    }
+
     /// Whether it may have the local name, the attributes, the classes and the ID that these are signs of (own rule). It takes no look at
     /// what the node holds.
     #[inline(always)]
@@ -102,6 +110,20 @@ impl<'a> NodeAt<'a> {
     {
         let forest = self.forest;
         match self.walk.parent() {
+            Some(walk) => Some(NodeAt { forest, walk }),
+            None => None,
+        }
+    }
+
+    /// Its next sibling, if it has one (DOM Standard, concept: next sibling).
+    #[inline(always)]
+    pub fn next(&self) -> Option<NodeAt<'a>>
+        ensures value { option_map (name_of self.now.whole) (key_in result) ≡ next_sibling self.now.whole.trees (name_here self.now) }
+        ensures same { ForSome result (λ n. n.whole ≡ self.now.whole) }
+        ensures node { ForSome (key_in result) (IsNode self.now.whole) }
+    {
+        let forest = self.forest;
+        match self.walk.next() {
             Some(walk) => Some(NodeAt { forest, walk }),
             None => None,
         }

@@ -1,8 +1,8 @@
-use Rattle.dom_mutation.proofs.Cited.{List, ℕ, [], ◌∷◌, ◌++◌, if◌then◌else◌, needs_normalizing, name_in, trees_in, subst, sym, ap, ◌∙◌, is_text}
+use Rattle.dom_mutation.proofs.Cited.{List, ℕ, [], ◌∷◌, ◌++◌, if◌then◌else◌, needs_normalizing, subst, sym, ap, ◌∙◌, is_text}
 use Rattle.dom_mutation.proofs.Cited.{kind_of, name_at}
 use Rattle.dom_tree.specs.Definitions.{NamedTrees}
 use Rattle.node_arena.specs.Spots.{key_in}
-use Rattle.dom_mutation.proofs.Joined.{Gathers, found_own, gathers_first, gathers_fewer, gathers_other, gathers_text, near_own, stands_own, text_own}
+use Rattle.dom_mutation.proofs.Joined.{Gathers, found_own, gathers_first, gathers_fewer, gathers_other, gathers_text, near_own, needs_own, stands_own, text_own}
 use Rattle.dom_mutation.proofs.normalizing.texts_in.Goals.{then-is_text_at+in_ok-list_needed, else-is_text_at}
 use Rattle.dom_mutation.proofs.normalizing.texts_in.Goals as goal
 
@@ -64,7 +64,8 @@ loop-at-preserved c =
             gathers_text d c.laws.ensures.once c.args.top c.loop-at.keys.items (key_in c.loop-at.at) next k
             (ap key_in c.in-Some.is) c.loop-at.invariant.gathers found near (sym w.if-is_text_at.true ∙ kind)
             (ap (λ v. v.items) w.keys-is ∙ w.in_ok-list_needed.ensures ∙
-            ap (λ (j : ℕ). c.loop-at.keys.items ++ (if needs_normalizing (trees_in d j) (name_in d j) then j ∷ [] else [])) w.key.ensures.value)
+            ap (λ (g : NamedTrees). c.loop-at.keys.items ++ (if needs_normalizing g.trees (name_at g.names k) then k ∷ [] else [])) same ∙
+            ap (λ b. c.loop-at.keys.items ++ (if b then k ∷ [] else [])) (needs_own d f c.requires.names c.requires.trees c.requires.owned c.args.top k))
         | else-is_text_at w ↦
             subst (λ (ks : List ℕ). Gathers d c.args.top ks next) (sym (ap (λ v. v.items) w.keys-is))
             (gathers_other d c.laws.ensures.once c.args.top c.loop-at.keys.items (key_in c.loop-at.at) next k

@@ -4,7 +4,7 @@ use Rattle.std.proofs.lemmas.Iterator.Adapters.{YieldsList-from_vec}
 use Rattle.std.proofs.lemmas.List.{drop-drop}
 use Rattle.std.specs.List.{splice}
 use Rattle.std.specs.Vec.Iter.{into_iter_steps}
-use Rattle.dom_tree.proofs.stored.splice.Goals as goal
+use Rattle.dom_tree.proofs.splicing.splice.Goals as goal
 
 pub returns-clause-ok : goal.returns-clause-ok
 returns-clause-ok c =

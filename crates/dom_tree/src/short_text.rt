@@ -1,0 +1,67 @@
+//! Data of a few code units.
+ghost use Rattle.std.specs.Prelude.{◌≡◌, ◌≤◌, ◌+◌, ◌++◌, length, take, IfSome};
+
+use std::marker::Model;
+
+/// The most code units of short data.
+const MOST: usize = 15;
+
+/// Data of at most fifteen code units, which stand where they are kept, and ask for no memory of their own.
+#[derive(Drop)]
+pub(crate) struct ShortText {
+    units: [u16; MOST],
+    len: u8,
+}
+
+impl Model for ShortText {
+    ghost use Rattle.std.specs.Prelude.{ℕ, List, ◌≤◌, ◌≡◌, take, length};
+
+    ghost Value = { List ℕ };
+
+    ghost view = { λ t. take t.len t.units };
+
+    ghost invariant = { λ t. (t.len ≤ 15) × (length t.units ≡ 15) };
+}
+
+impl ShortText {
+    /// Three parts, one behind another, if they are short together.
+    #[inline(always)]
+    pub(crate) fn joined(head: &[u16], middle: &[u16], tail: &[u16]) -> Option<ShortText>
+        ensures { IfSome result (λ text. text ≡ head.now ++ middle.now ++ tail.now) }
+    {
+        let mut units = [0; MOST];
+        let middle_at = put(&mut units, 0, head)?;
+        let tail_at = put(&mut units, middle_at, middle)?;
+        let len = put(&mut units, tail_at, tail)?;
+        Some(ShortText {
+            units,
+            len: len as u8,
+        })
+    }
+
+    /// The code units.
+    #[inline(always)]
+    pub(crate) fn as_slice(&self) -> &[u16]
+        ensures { result.now ≡ self.now }
+    {
+        &self.units[..self.len as usize]
+    }
+}
+
+/// Writes a part over the code units from a place on, where there are so many, and gives the place behind it.
+#[inline(always)]
+fn put(units: &mut [u16; MOST], at: usize, part: &[u16]) -> Option<usize>
+    requires { at ≤ 15 }
+    ensures place { IfSome result (λ end. (end ≡ at + length part.now) × (end ≤ 15)) }
+    ensures units { IfSome result (λ end. take end units.new ≡ take at units.old ++ part.now) }
+{
+    if part.is_empty() {
+        return Some(at);
+    }
+    let end = at.checked_add(part.len())?;
+    if end > MOST {
+        return None;
+    }
+    units[at..end].copy_from_slice(part);
+    Some(end)
+}
