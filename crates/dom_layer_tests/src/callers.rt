@@ -35,7 +35,7 @@ fn node(alloc: Global, kind: Kind) -> Result<NodeData, AllocError>
 }
 
 // The key of a node of the page.
-fn key_of(rt: &impl Abort, forest: &Forest, number: u32) -> Key
+pub(crate) fn key_of(rt: &impl Abort, forest: &Forest, number: u32) -> Key
     ensures { IsNode forest.now result }
 {
     let name = NodeName {

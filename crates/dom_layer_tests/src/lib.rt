@@ -7,6 +7,8 @@ mod arena;
 #[cfg(test)]
 mod callers;
 #[cfg(test)]
+mod joined;
+#[cfg(test)]
 mod paths;
 #[cfg(test)]
 mod refusals;

@@ -19,6 +19,7 @@ pub mod ReadyPlans
 mod ReadyRoots
 mod ReadyTables
 mod ReadyWorlds
+mod Recorded
 mod Replaced
 mod StillCalls
 mod StillEffects

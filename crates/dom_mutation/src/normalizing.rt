@@ -5,7 +5,7 @@ ghost use Rattle.std.specs.Option.{option_map, ForSome};
 ghost use Rattle.dom_model.specs.Names.{first_of};
 ghost use Rattle.dom_model.specs.Tree.{kind_of, is_text, node_in, parent_of, length_of, descendants};
 ghost use Rattle.dom_model.specs.Changes.{in_turn, observed, remove_plan};
-ghost use Rattle.dom_model.specs.TextChanges.{contiguous_texts_after, joining, normalizing_text};
+ghost use Rattle.dom_model.specs.TextChanges.{contiguous_texts_after, joining, normalizing_text, replacing_data};
 ghost use Rattle.dom_model.specs.World.{part_of};
 ghost use Rattle.dom_worlds.specs.Bounds.{HasBounds};
 ghost use Rattle.dom_worlds.specs.Texts.{needs_normalizing};
@@ -14,7 +14,7 @@ ghost use Rattle.dom_tree.specs.Owners.{trees_of_owner, AreOwned};
 ghost use Rattle.dom_tree.specs.Spots.{name_here};
 ghost use Rattle.dom_parts.specs.Doc.{planned, name_in, owner_in, trees_in, IsOwnNode, HoldsNode};
 
-use crate::character_data::replacing_data;
+use crate::character_data::{appending_data, replacing_data};
 use crate::inserting::take_each;
 use crate::removing::{SuppressObserversFlag, removing};
 use dom_base::{DomStr, Kind};
@@ -102,15 +102,30 @@ fn joining(parts: &mut Parts, node: Key, parent: Key, nexts: &[Key]) -> Result<(
 {
     parts.laws();
     let size = parts.length(node);
-    let units = data_of(parts, node, nexts)?;
-    let change = DataChange {
-        offset: size,
-        count: 0,
-        units,
-    };
-    replacing_data(parts, node, change)?;
+    gather(parts, node, nexts)?;
     parts.join_each(node, size, nexts, parent);
     take_each(parts, SuppressObserversFlag::Observed, node, nexts)
+}
+
+/// A Text gets the data of others behind its own. Those of one other are not copied into a string.
+fn gather(parts: &mut Parts, node: Key, nexts: &[Key]) -> Result<(), AllocError>
+    requires node_is_node { HoldsNode parts.old node }
+    requires nexts_are_nodes { AllByRecursion (IsOwnNode parts.old node) nexts.now }
+    requires is_text { is_text (kind_of (trees_in parts.old node) (name_in parts.old node)) ≡ true }
+    requires bounds { HasBounds (part_of parts.old.world (owner_in parts.old node)) }
+    ensures { OnOk result (parts.new ≡ planned (owner_in parts.old node) (replacing_data (name_in parts.old node)
+        (length_of (trees_in parts.old node) (name_in parts.old node)) 0
+        (flat_map (λ y. (node_in (trees_in parts.old node) y).text) (map (name_in parts.old) nexts.now))) parts.old) }
+{
+    if let [only] = nexts {
+        return appending_data(parts, node, *only);
+    }
+    let change = DataChange {
+        offset: parts.length(node),
+        count: 0,
+        units: data_of(parts, node, nexts)?,
+    };
+    replacing_data(parts, node, change)
 }
 
 /// The data of some Texts, one behind another; `top` is a node of their owner.
@@ -118,9 +133,6 @@ fn data_of(parts: &Parts, top: Key, texts: &[Key]) -> Result<DomStr, AllocError>
     requires { AllByRecursion (IsOwnNode parts.now top) texts.now }
     ensures { IfOk result (λ units. units.items ≡ flat_map (λ y. (node_in (trees_in parts.now top) y).text) (map (name_in parts.now) texts.now)) }
 {
-    if let [only] = texts {
-        return Vec::from_slice(parts.alloc(), parts.text(*only));
-    }
     let mut units = Vec::new(parts.alloc());
     for text in texts {
         units.extend_from_slice(parts.text(*text))?;

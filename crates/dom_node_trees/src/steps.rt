@@ -95,8 +95,24 @@ impl NodeTrees {
         self.end(change)
     }
 
-    /// The step that was begun ends, and its slots are signalled.
+    /// The step that was begun ends, and its slots are signalled. Where there are no hosts this is one look, in line.
+    #[inline(always)]
     fn end(&mut self, change: SlotChange) -> Result<(), AllocError>
+        requires step { (was : TreesOf) × IsEndOf was self.old.forest self.old.slots change }
+        requires nodes { AreNames self.old.forest.names self.old.signalled }
+        ensures { (was : TreesOf) → IsEndOf was self.old.forest self.old.slots change →
+            OnOk result (HasStepped change.step self.old.forest.trees (with_trees was self.old) self.new) }
+    {
+        if self.slots.is_hostless() {
+            self.slots.law_hostless(&self.forest, change);
+            return Ok(());
+        }
+        self.end_among_hosts(change)
+    }
+
+    /// The step that was begun ends, as `end` says. It is out of line, since most pages have no hosts.
+    #[inline(never)]
+    fn end_among_hosts(&mut self, change: SlotChange) -> Result<(), AllocError>
         requires step { (was : TreesOf) × IsEndOf was self.old.forest self.old.slots change }
         requires nodes { AreNames self.old.forest.names self.old.signalled }
         ensures { (was : TreesOf) → IsEndOf was self.old.forest self.old.slots change →

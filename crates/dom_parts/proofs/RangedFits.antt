@@ -4,9 +4,11 @@ use Rattle.dom_parts.proofs.Cited.{◌≡◌, ℕ, zero, suc, ◌+◌, ◌-◌, 
 use Rattle.dom_parts.proofs.Cited.{Option, Some, refl, sym, ap, subst, ◌∙◌, inl, inr, arith, slice_get, nat_eq, option_map, AllByRecursion, cases_Bool}
 use Rattle.dom_parts.proofs.Cited.{and_parts, eqb-true, same_Some, NodeName, Owner, owner_eq, Boundary, Range, at, boundary_eq, after_insert, after_removal}
 use Rattle.dom_parts.proofs.Cited.{after_replace_data, after_split, after_join, length_of, owner_eq-true, owner_eq-false, EndsWithin, HasBounds, Fits}
-use Rattle.dom_parts.proofs.Cited.{named_range, named_ranges, RangeList, RangeLists, EachRange, BothEnds, ranges_of, EachRange-weaker, fits-split, name_at}
+use Rattle.dom_parts.proofs.Cited.{named_range, named_ranges, RangeList, RangeLists, EachRange, BothEnds, ends_by}
+use Rattle.dom_parts.proofs.Cited.{ranges_of, EachRange-weaker, fits-split, name_at}
 use Rattle.dom_parts.proofs.Cited.{Contents, part_in, IsOwnPoint, AreRangesOf}
-use Rattle.dom_parts.proofs.RangedLists.{each_both}
+use Rattle.std.proofs.lemmas.Bool.{le-leb}
+use Rattle.dom_parts.proofs.RangedLists.{each_both, stay_where}
 
 -- what holds of all ranges by names holds of those over keys
 each_named : (P : Option (Range NodeName) → Type 0) (names : List NodeName) (rs : RangeList) → AllByRecursion P (named_ranges names rs) →
@@ -111,6 +113,21 @@ module _ (c : Contents) (t : RangeLists) (ranges : AreRangesOf c t) (o : Owner) 
               (cond (nat_le b.offset (offset + count)) (at x offset) (at x (b.offset + size - count))) (λ f. h.0)
               (fits_if (nat_le b.offset (offset + count)) (at x offset) (at x (b.offset + size - count)) (λ f. before) (omega (arith, within, less)))
           | inr e ↦ rw e h.0
+        ]
+
+    -- data that come behind all of the node's move no point
+    pub behind_stay : (size : ℕ) (q : Owner) →
+        ends_by (after_replace_data nat_eq x (length_of (part_in c o).trees (name_at c.names x)) 0 size) (ranges_of t q) ≡ ranges_of t q
+    behind_stay size q =
+        let most = length_of (part_in c o).trees (name_at c.names x) in
+        stay_where (after_replace_data nat_eq x most 0 size) (ranges_of t q)
+        (EachRange-weaker (IsUpTo x most) (λ b. after_replace_data nat_eq x most 0 size b ≡ b) stays (ranges_of t q) (up_to x most own (bounded bounds x) q))
+      where
+        stays : (b : Boundary ℕ) → IsUpTo x (length_of (part_in c o).trees (name_at c.names x)) b →
+            after_replace_data nat_eq x (length_of (part_in c o).trees (name_at c.names x)) 0 size b ≡ b
+        stays b h = elim (cases_Bool (eqb b.node x)) [
+          | inl e ↦ rw (e, le-leb b.offset (length_of (part_in c o).trees (name_at c.names x)) (h.1 e)) refl
+          | inr e ↦ rw e refl
         ]
 
     -- the node's data come behind those of the Text before it

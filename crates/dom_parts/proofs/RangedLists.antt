@@ -16,6 +16,15 @@ each_both P Q rs h g k r e = let p = h k r e in let q = g k r e in ((p.0, q.0), 
 pub own_at_nodes : (names : List NodeName) (t : RangeLists) → AreOwnRanges names t → (o : Owner) → StandAtNodes names (ranges_of t o)
 own_at_nodes names t own o = EachRange-weaker (IsOwnPoint names o) (IsAtNode names) (λ b h. h.node) (ranges_of t o) (own o)
 
+-- a rule that leaves each end leaves the ranges
+pub stay_where : (f : Boundary ℕ → Boundary ℕ) (rs : RangeList) → EachRange (BothEnds (λ b. f b ≡ b)) rs → ends_by f rs ≡ rs
+stay_where f [] same = refl
+stay_where f (None ∷ rs) same = ap (λ zs. None ∷ zs) (stay_where f rs (λ k r e. same (suc k) r e))
+stay_where f (Some r ∷ rs) same =
+    let here = same 0 r refl in
+    cons_same (Some (map_ends f r)) (Some r) (ends_by f rs) rs
+    (ap (λ b. Some (from_to b (f r.end))) here.0 ∙ ap (λ b. Some (from_to r.start b)) here.1) (stay_where f rs (λ k s e. same (suc k) s e))
+
 -- ranges whose ends a rule leaves are left
 unmoved : (names : List NodeName) {o : Owner} (q : Owner) → q ≢ o → {g : Boundary NodeName → Boundary NodeName} → IsRuleOf o g → (rs : RangeList) →
     EachRange (BothEnds (IsOwnPoint names q)) rs

@@ -1,5 +1,6 @@
 -- Steps of a `Doc` that move boundary points: what they ask for, what holds after them, and the state then.
-use Rattle.dom_parts.proofs.Cited.{◌≡◌, ℕ, ◌+◌, ◌-◌, ◌<◌, ◌≤◌, ◌^◌, ◌⊎◌, inl, inr, false, List, [], ◌∷◌, map, length, Some, None, refl, sym, ap, subst, ◌∙◌}
+use Rattle.dom_parts.proofs.Cited.{◌≡◌, ℕ, ◌+◌, ◌-◌, ◌<◌, ◌≤◌, ◌^◌, ◌⊎◌, inl, inr, true, false, List, [], ◌∷◌, map, length, Some, None, refl, sym, ap, subst}
+use Rattle.dom_parts.proofs.Cited.{◌∙◌}
 use Rattle.dom_parts.proofs.Cited.{arith, nat_eq, AllByRecursion, cases_Bool, cond-true, eq-or-lt_of_le, NodeName, Owner, DomString, name_eq, Part}
 use Rattle.dom_parts.proofs.Cited.{after_insert, after_replace_data, after_join, Boundary, Step, replace_data, join_at, part_step, Trees, node_in, kind_of}
 use Rattle.dom_parts.proofs.Cited.{has_data, children_of, parent_of, index_of, length_of, change_node, with_data_replaced, replaced, part_of, is_there}
@@ -11,7 +12,7 @@ use Rattle.dom_parts.proofs.Cited.{IsChild, IsOwnNode, MayCome, AllTables, with_
 use Rattle.dom_parts.proofs.BoundedPlans.{length_few}
 use Rattle.dom_parts.proofs.DocInvariant.{are_hosts, held_changed, held_live}
 use Rattle.dom_parts.proofs.OwnParts.{own_part}
-use Rattle.dom_parts.proofs.RangedFits.{EachFits, room_fits, data_fits, data_fits_shorter, join_fits}
+use Rattle.dom_parts.proofs.RangedFits.{EachFits, room_fits, data_fits, data_fits_shorter, join_fits, behind_stay}
 use Rattle.dom_parts.proofs.HostedSteps.{IsPlain, plain_step}
 use Rattle.dom_parts.proofs.RangeRules.{replace_data_rule, join_rule}
 use Rattle.dom_parts.proofs.RangedSteps.{Holds, ruled, same_part}
@@ -142,6 +143,28 @@ module _ (f : NamedTrees) {tables : AllTables} (held : IsDoc f.names f.trees tab
           let all = length_few here (part_held o) (name_at f.names parent) plain in
           let limited = held.limited o in
           room_fits (contents f.names f.trees tables) tables.ranges held.ranges o bounded parent refl index count (omega (arith, all, limited, few))
+
+    -- ---- data that come behind all others
+
+    module _ (node : ℕ) (node< : node < length d.names) (bounds : HasBounds (part_of d.world (owner_in d node)))
+        (holds_data : has_data (kind_of (trees_in d node) (name_in d node)) ≡ true)
+        (same : (node_in f.trees (name_at f.names node)).text ≡ (node_in (trees_in d node) (name_in d node)).text) where
+      -- they move no point of anyone
+      pub data_behind : (size : ℕ) (q : Owner) → ranges_of tables.ranges q ≡ ends_by
+          (after_replace_data nat_eq node (length (node_in f.trees (name_at f.names node)).text) 0 size) (ranges_of tables.ranges q)
+      data_behind size q =
+          let x : NodeName = name_at f.names node in
+          let here : Part = part_in (contents f.names f.trees tables) x.owner in
+          let is_data : has_data (kind_of here.trees x) ≡ true =
+          part_known (λ p ns. has_data (kind_of p.trees (name_at ns node)) ≡ true) node node< holds_data in
+          let text : (node_in here.trees x).text ≡ (node_in f.trees x).text =
+          part_known (λ p ns. (node_in p.trees (name_at ns node)).text ≡ (node_in f.trees x).text) node node< (sym same) in
+          let size_is : length_of here.trees x ≡ length (node_in f.trees x).text =
+          cond-true (has_data (kind_of here.trees x)) (length (node_in here.trees x).text) (length (children_of here.trees x)) is_data
+          ∙ ap (length {A = ℕ}) text in
+          sym (subst (λ n. ends_by (after_replace_data nat_eq node n 0 size) (ranges_of tables.ranges q) ≡ ranges_of tables.ranges q) size_is
+          (behind_stay (contents f.names f.trees tables) tables.ranges held.ranges x.owner (part_known (λ p ns. HasBounds p) node node< bounds)
+          node refl size q))
 
     -- ---- data that come
 

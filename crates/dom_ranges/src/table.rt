@@ -321,6 +321,7 @@ impl RangeTable {
 
     /// Tells the table that from `offset` on, `count` code units of a node give way to `length` others (DOM Standard,
     /// concept: replace data): a boundary point among them goes to `offset`, and one behind them moves with what follows.
+    #[inline(always)]
     pub fn on_replace_data(&mut self, node: Key, offset: usize, count: usize, length: usize)
         requires { (o : Owners) → EachRange (BothEnds (λ b. Fits (after_replace_data nat_eq node offset count length b))) (ranges_of self.old o) }
         ensures { (o : Owners) → ranges_of self.new o ≡ ends_by (after_replace_data nat_eq node offset count length) (ranges_of self.old o) }

@@ -1,10 +1,11 @@
 -- Where there are no hosts, nothing is assigned and no slot is signalled.
-use Rattle.dom_base.proofs.Std.{◌≡◌, Bool, false, ◌&&◌, List, [], ◌∷◌, ◌++◌, Option, None, Some, filter, refl, sym, ap, ◌∙◌, ℕ, if◌then◌else◌, is_some}
+use Rattle.dom_base.proofs.Std.{◌≡◌, Bool, false, ◌&&◌, List, [], ◌∷◌, ◌++◌, Option, None, Some, filter, refl, sym, ap, subst, ◌∙◌, ℕ, if◌then◌else◌, is_some}
 use Rattle.dom_base.proofs.Std.{option_to_list, option_map_or, none-some}
 use Rattle.dom_tree.specs.Definitions.{NamedTrees, name_at}
-use Rattle.dom_model.proofs.Model.{NodeName, name_eq, distinct, is_empty, is_slot_element, slots_among, Trees, node_in, root_of, subtree}
+use Rattle.dom_model.proofs.Model.{NodeName, name_eq, distinct, is_empty, is_slot_element, slot_in, slots_among, Trees, node_in, parent_of, root_of, subtree}
 use Rattle.dom_slots.specs.Definitions.{ShadowTrees, shadow_trees, slot_at, assigned_at, is_changed_at, is_bare_at, signals_at, step_node, around_of, is_move}
-use Rattle.dom_slots.specs.Definitions.{step_signals, SlotsNow, AreSlotsOf, host_of_root}
+use Rattle.dom_slots.specs.Definitions.{step_signals, SlotsNow, AreSlotsOf, host_of_root, ShadowHost, root_named}
+use Rattle.std.specs.Option.{option_and_then}
 use Rattle.dom_slots.specs.declared.step.Step.{Step}
 use Rattle.dom_slots.proofs.Choices.{third-fails}
 
@@ -56,3 +57,11 @@ hostless-slots {was} {f} {s} none slots = record {
   };
   parked = λ p is. absurd ((slots.parked p is).hosted none);
 }
+
+-- no node has a slot
+pub hostless-slot : (f : NamedTrees) {hosts : List ShadowHost} → hosts ≡ [] → (x : NodeName) → None ≡ slot_at (shadow_trees f.names f.trees hosts) x
+hostless-slot f none x = subst (λ hs. None ≡ slot_at (shadow_trees f.names f.trees hs) x) (sym none) (by (parent_of f.trees x))
+  where
+    by : (o : Option NodeName) → None ≡ option_and_then (λ r. slot_in (subtree f.trees r) (node_in f.trees x)) (option_and_then (root_named f.names []) o)
+    by None = refl
+    by (Some p) = refl

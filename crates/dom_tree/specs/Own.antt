@@ -4,6 +4,8 @@ use Rattle.dom_base.specs.declared.Kind.{Kind}
 use Rattle.dom_model.specs.Tree.{Attribute}
 use Rattle.dom_tree.specs.declared.own.Own.{Own}
 use Rattle.dom_tree.specs.declared.own.Own.TheVariants.{Short, Long, Attributed}
+use Rattle.dom_tree.specs.declared.short_text.Units.{Units}
+use Rattle.dom_tree.specs.declared.short_text.Units.TheVariants as units
 
 -- the kind
 abbrev pub kind_in : Own → Kind
@@ -38,3 +40,8 @@ abbrev pub text_in : Own → List ℕ
 text_in (Short kind has_document number text) = text
 text_in (Long kind has_document number text) = text.items
 text_in (Attributed kind has_document number text b) = text.items
+
+-- the code units, copied
+abbrev pub units_in : Units → List ℕ
+units_in (units.Short text) = text
+units_in (units.Long text) = text.items

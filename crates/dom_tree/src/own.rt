@@ -1,5 +1,5 @@
 //! What a stored node has of its own.
-ghost use Rattle.std.specs.Prelude.{◌≡◌, [], IfOk, OnOk, OnErr};
+ghost use Rattle.std.specs.Prelude.{◌≡◌, ◌++◌, [], IfOk, OnOk, OnErr};
 ghost use Rattle.std.specs.Option.{option_map, option_map_or};
 ghost use Rattle.dom_model.specs.TreeChanges.{attributes_with, attributes_without, replaced};
 ghost use Rattle.dom_attributes.specs.Attributes.{HaveOwnNames, attributes_from, value_among};
@@ -261,6 +261,31 @@ impl Own {
         }
         let mut text = Vec::from_slice(alloc, self.text())?;
         splice(&mut text, offset, count, units)?;
+        self.set_text(text);
+        Ok(())
+    }
+
+    /// Code units come behind the data. Short data stay where they are as long as they are short. Where memory is refused, all is as
+    /// it was.
+    pub(crate) fn append_text(&mut self, alloc: Global, units: &[u16]) -> Result<(), AllocError>
+        ensures kind { kind_in self.new ≡ kind_in self.old }
+        ensures has_document { has_document_in self.new ≡ has_document_in self.old }
+        ensures number { number_in self.new ≡ number_in self.old }
+        ensures attributes { attributes_in self.new ≡ attributes_in self.old }
+        ensures ok { OnOk result (text_in self.new ≡ text_in self.old ++ units.now) }
+        ensures err { OnErr result (text_in self.new ≡ text_in self.old) }
+    {
+        match self {
+            Own::Long { text, .. } => return text.extend_from_slice(units),
+            Own::Attributed { text, .. } => return text.extend_from_slice(units),
+            Own::Short { text, .. } => {
+                if text.append(units) {
+                    return Ok(());
+                }
+            }
+        }
+        let mut text = Vec::from_slice(alloc, self.text())?;
+        text.extend_from_slice(units)?;
         self.set_text(text);
         Ok(())
     }

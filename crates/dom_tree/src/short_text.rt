@@ -1,6 +1,9 @@
 //! Data of a few code units.
-ghost use Rattle.std.specs.Prelude.{◌≡◌, ◌≤◌, ◌+◌, ◌++◌, length, take, IfSome};
+ghost use Rattle.std.specs.Prelude.{◌≡◌, ◌≤◌, ◌+◌, ◌++◌, true, false, length, take, None, IfSome, IfOk};
+ghost use Rattle.dom_tree.specs.Own.{units_in};
 
+use dom_base::DomStr;
+use std::alloc::{AllocError, Global};
 use std::marker::Model;
 
 /// The most code units of short data.
@@ -39,6 +42,21 @@ impl ShortText {
         })
     }
 
+    /// Whether code units, which come behind these then, are short together with them. Where they are not, nothing is changed.
+    #[inline(always)]
+    pub(crate) fn append(&mut self, units: &[u16]) -> bool
+        ensures appended { result ≡ true → self.new ≡ self.old ++ units.now }
+        ensures left { result ≡ false → self.new ≡ self.old }
+    {
+        match put(&mut self.units, self.len as usize, units) {
+            Some(len) => {
+                self.len = len as u8;
+                true
+            }
+            None => false,
+        }
+    }
+
     /// The code units.
     #[inline(always)]
     pub(crate) fn as_slice(&self) -> &[u16]
@@ -48,12 +66,55 @@ impl ShortText {
     }
 }
 
+/// Code units of a node, copied so that the node is not borrowed: short ones without a string.
+pub(crate) enum Units {
+    Short(ShortText),
+    Long(DomStr),
+}
+
+impl Drop for Units {
+    // Written out, so that a function that has some cites it, and does not tell the two apart at its end.
+    #[inline(always)]
+    fn drop(self) {
+        match self {
+            Units::Short(short) => drop(short),
+            Units::Long(units) => drop(units),
+        }
+    }
+}
+
+impl Units {
+    /// These code units.
+    #[inline(always)]
+    pub(crate) fn of(alloc: Global, units: &[u16]) -> Result<Units, AllocError>
+        ensures { IfOk result (λ copied. units_in copied ≡ units.now) }
+    {
+        match ShortText::joined(units, &[], &[]) {
+            Some(short) => Ok(Units::Short(short)),
+            None => Ok(Units::Long(Vec::from_slice(alloc, units)?)),
+        }
+    }
+
+    /// The code units.
+    #[inline(always)]
+    pub(crate) fn as_slice(&self) -> &[u16]
+        ensures { result.now ≡ units_in self.now }
+    {
+        match self {
+            Units::Short(short) => short.as_slice(),
+            Units::Long(units) => units.as_slice(),
+        }
+    }
+}
+
 /// Writes a part over the code units from a place on, where there are so many, and gives the place behind it.
 #[inline(always)]
 fn put(units: &mut [u16; MOST], at: usize, part: &[u16]) -> Option<usize>
     requires { at ≤ 15 }
     ensures place { IfSome result (λ end. (end ≡ at + length part.now) × (end ≤ 15)) }
     ensures units { IfSome result (λ end. take end units.new ≡ take at units.old ++ part.now) }
+    ensures left { result ≡ None → units.new ≡ units.old }
+    ensures size { length units.new ≡ 15 }
 {
     if part.is_empty() {
         return Some(at);

@@ -1,5 +1,5 @@
 //! A node as the arena keeps it.
-ghost use Rattle.std.specs.Prelude.{◌≡◌, ◌≤◌, false, length, slice_get, IfOk, IsOk, OnOk, OnErr};
+ghost use Rattle.std.specs.Prelude.{◌≡◌, ◌≤◌, ◌++◌, false, length, slice_get, IfOk, IsOk, OnOk, OnErr};
 ghost use Rattle.std.specs.Option.{option_map};
 ghost use Rattle.std.specs.Rc.{rc_str_bytes};
 ghost use Rattle.dom_model.specs.TreeChanges.{attributes_with, attributes_without, replaced};
@@ -221,6 +221,14 @@ impl StoredNode {
             return Ok(());
         }
         self.own.replace_text(alloc, offset, count, units)
+    }
+
+    /// Code units come behind its data. Where memory is refused, the node is as it was.
+    pub(crate) fn append_text(&mut self, alloc: Global, units: &[u16]) -> Result<(), AllocError>
+        ensures ok { OnOk result (self.new ≡ stored_from self.old.name (record self.old.node { text = self.old.node.text ++ units.now })) }
+        ensures err { OnErr result (self.new ≡ self.old) }
+    {
+        self.own.append_text(alloc, units)
     }
 
     /// Sets an attribute. Where memory is refused, the node is as it was.

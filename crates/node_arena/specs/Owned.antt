@@ -56,6 +56,11 @@ module _ {V : Type 0} where
   set_at [] p w = []
   set_at (n ∷ ns) p w = if same_ptr n.at p then placed n.at w ∷ ns else n ∷ set_at ns p w
 
+  -- own rule: the cells with the value in the one at p turned by f
+  abbrev pub turned_at : List (Placed V) → Ptr → (V → V) → List (Placed V)
+  turned_at [] p f = []
+  turned_at (n ∷ ns) p f = if same_ptr n.at p then placed n.at (f n.value) ∷ ns else n ∷ turned_at ns p f
+
   -- own rule: the cells without the one at p
   abbrev pub without_at : List (Placed V) → Ptr → List (Placed V)
   without_at [] p = []

@@ -94,6 +94,7 @@ impl FirstChildren {
 
     /// Tells that a child came into the list of a parent, just before the one given or last. Where memory is refused, what
     /// was kept is given up.
+    #[inline(always)]
     pub(crate) fn on_link(&mut self, parent: Key, child: Key, before: Option<Key>)
         requires other { contains self.old.keys child ≡ false }
         ensures parent { self.new.parent ≡ self.old.parent }
@@ -114,6 +115,7 @@ impl FirstChildren {
     }
 
     /// Tells that a child left the list of a parent.
+    #[inline(always)]
     pub(crate) fn on_unlink(&mut self, parent: Key, child: Key)
         ensures parent { self.new.parent ≡ self.old.parent }
         ensures there { parent ≡ self.old.parent → (siblings : List ℕ) → AreFirst self.old.keys siblings →

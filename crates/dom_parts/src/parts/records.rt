@@ -96,6 +96,7 @@ impl Parts {
     }
 
     /// Queues a mutation record of data, before they change (DOM Standard, queue a mutation record).
+    #[inline(always)]
     pub fn queue_data_record(&mut self, node: Key) -> Result<(), AllocError>
         requires { HoldsNode self.old node }
         ensures { OnOk result (self.new ≡ stepped (owner_in self.old node)

@@ -2,7 +2,7 @@
 ghost use Rattle.std.specs.Prelude.{◌≡◌, ◌<◌, ◌≤◌, ◌+◌, ◌-◌, length, true, false, is_some, map, IsOk, OnOk, OnErr, Some, None};
 ghost use Rattle.std.specs.Option.{option_map, ForSome};
 ghost use Rattle.std.specs.List.{AllByRecursion};
-ghost use Rattle.dom_model.specs.Tree.{parent_of, is_inclusive_ancestor, index_of, node_in, length_of};
+ghost use Rattle.dom_model.specs.Tree.{parent_of, is_inclusive_ancestor, index_of, node_in, kind_of, has_data, length_of};
 ghost use Rattle.dom_model.specs.Steps.{make_room, place, take_out, set_attribute, replace_data, split_at, join_at};
 ghost use Rattle.dom_model.specs.Changes.{steps_of};
 ghost use Rattle.dom_model.specs.TextChanges.{joins};
@@ -182,6 +182,25 @@ impl Parts {
         // The length of the data that stand there is a number of the code's.
         let _length = self.trees.forest.text(node).len();
         self.ranges.on_replace_data(node, offset, count, size);
+        Ok(())
+    }
+
+    /// The data of another Text or Comment of the same owner come behind those of one. No end of a live range stands behind these, so
+    /// none is moved.
+    pub fn append_data(&mut self, node: Key, of: Key) -> Result<(), AllocError>
+        requires node_is_node { HoldsNode self.old node }
+        requires of_is_node { IsOwnNode self.old node of }
+        requires has_data { has_data (kind_of (trees_in self.old node) (name_in self.old node)) ≡ true }
+        requires bounds { HasBounds (part_of self.old.world (owner_in self.old node)) }
+        ensures ok { OnOk result (self.new ≡ stepped (owner_in self.old node) (replace_data (name_in self.old node)
+            (length (node_in (trees_in self.old node) (name_in self.old node)).text) 0
+            (node_in (trees_in self.old node) (name_in self.old of)).text) self.old) }
+        ensures err { OnErr result (self.new ≡ self.old) }
+    {
+        self.trees.forest.law_nodes_stand_once();
+        self.trees.forest.append_data(node, of)?;
+        // The length of the data that stand there is a number of the code's.
+        let _length = self.trees.forest.text(node).len();
         Ok(())
     }
 

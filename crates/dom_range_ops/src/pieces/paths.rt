@@ -7,6 +7,7 @@ use dom_observers::inclusive_ancestors;
 use dom_ranges::Points;
 use dom_tree::Forest;
 use node_arena::Key;
+use smallvec::SmallVec;
 use std::alloc::{AllocError, Global};
 
 /// The nodes of both ends of a range and those above each, up to the children of the ends' lowest common inclusive ancestor. It
@@ -15,7 +16,7 @@ pub(crate) fn parted_paths(
     alloc: Global,
     forest: &Forest,
     points: &Points,
-) -> Result<(Vec<Key>, Vec<Key>), AllocError>
+) -> Result<(SmallVec<Key, 8>, SmallVec<Key, 8>), AllocError>
     requires { AreEnds forest.now points.now }
     ensures { IfOk result (λ paths. ArePaths forest.now points.now paths.0.items paths.1.items) }
 {

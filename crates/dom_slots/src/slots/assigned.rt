@@ -17,7 +17,22 @@ use std::alloc::AllocError;
 impl Slots {
     /// The slot to which a node is assigned: the first one of its name in the shadow tree of its parent (DOM Standard,
     /// concept: find a slot). It is found by one look-up; of a node that has none three more tell that. Takes no memory.
+    #[inline(always)]
     pub fn slot_of(&self, forest: &Forest, node: Key) -> Option<Key>
+        requires node_is_node { IsNode forest.now node }
+        requires slots { AreSlotsOf forest.now self.now }
+        ensures value { option_map (name_of forest.now) result ≡ slot_at (shadows forest.now self.now.hosts) (name_of forest.now node) }
+        ensures node { ForSome result (IsNode forest.now) }
+    {
+        if self.is_hostless() {
+            return None;
+        }
+        self.slot_among_hosts(forest, node)
+    }
+
+    /// The slot of a node, as `slot_of` says, where there are hosts. It is out of line, since most pages have none.
+    #[inline(never)]
+    fn slot_among_hosts(&self, forest: &Forest, node: Key) -> Option<Key>
         requires node_is_node { IsNode forest.now node }
         requires slots { AreSlotsOf forest.now self.now }
         ensures value { option_map (name_of forest.now) result ≡ slot_at (shadows forest.now self.now.hosts) (name_of forest.now node) }

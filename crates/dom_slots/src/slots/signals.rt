@@ -26,6 +26,7 @@ use std::alloc::AllocError;
 impl Slots {
     /// What `end` needs of the forest before a step that is about to be done (own rule). It costs the look-ups of a parent and of a
     /// slot. Takes no memory.
+    #[inline(always)]
     pub fn begin(&self, forest: &Forest, step: Step) -> SlotChange
         requires nodes { StepHasNodes forest.now.names step }
         requires slots { AreSlotsOf forest.now self.now }
@@ -116,8 +117,19 @@ impl Slots {
         }
     }
 
+    /// Holds where there is no host (own rule): a step that was begun and has been done signals no slot, and the slots are those of the
+    /// forest that it leaves.
+    #[inline(always)]
+    pub fn law_hostless(&self, forest: &Forest, change: SlotChange)
+        requires { self.now.hosts ≡ [] }
+        ensures signals { (was : Trees) → step_signals forest.now.names (shadow_trees forest.now.names was self.now.hosts)
+            (shadows forest.now self.now.hosts) change.step change.left ≡ [] }
+        ensures slots { (was : Trees) → IsEndOf was forest.now self.now change → AreSlotsOf forest.now self.now }
+    {}
+
     /// Whether there is no host.
-    fn is_hostless(&self) -> bool
+    #[inline(always)]
+    pub fn is_hostless(&self) -> bool
         ensures none { result ≡ true → self.now.hosts ≡ [] }
         ensures some { result ≡ false → self.now.hosts ≢ [] }
     {

@@ -9,6 +9,7 @@ ghost use Rattle.dom_tree.specs.Forest.{IsNode, name_of};
 
 use crate::Forest;
 use crate::ids::code_under;
+use crate::short_text::Units;
 use dom_base::{DomStr, Kind};
 use node_arena::Key;
 use std::alloc::AllocError;
@@ -104,6 +105,31 @@ impl Forest {
         self.arena
             .payload_mut(key)
             .replace_text(alloc, offset, count, units)?;
+        Ok(())
+    }
+
+    /// The data of another Text or Comment come behind those of one, as where Texts are joined (DOM Standard, normalize()). Where
+    /// memory is refused, the forest is as it was.
+    pub fn append_data(&mut self, key: Key, of: Key) -> Result<(), AllocError>
+        requires key_is_node { IsNode self.old key }
+        requires of_is_node { IsNode self.old of }
+        ensures names { self.new.names ≡ self.old.names }
+        ensures ok { OnOk result (self.new.trees ≡ change_node (with_data_replaced (length (node_in self.old.trees (name_of self.old key)).text) 0
+            (node_in self.old.trees (name_of self.old of)).text) (name_of self.old key) self.old.trees) }
+        ensures err { OnErr result (self.new ≡ self.old) }
+        ensures above { (x : Name) → inclusive_ancestors self.new.trees x ≡ inclusive_ancestors self.old.trees x }
+        ensures children { (x : Name) → children_of self.new.trees x ≡ children_of self.old.trees x }
+        ensures holds { OnOk result (node_in self.new.trees (name_of self.old key) ≡
+            with_data_replaced (length (node_in self.old.trees (name_of self.old key)).text) 0 (node_in self.old.trees (name_of self.old of)).text
+            (node_in self.old.trees (name_of self.old key))) }
+        ensures held { (k : ℕ) → IsNode self.old k → k ≢ key →
+            node_in self.new.trees (name_of self.old k) ≡ node_in self.old.trees (name_of self.old k) }
+    {
+        let alloc = self.alloc;
+        let units = Units::of(alloc, self.arena.payload(of).text())?;
+        self.arena
+            .payload_mut(key)
+            .append_text(alloc, units.as_slice())?;
         Ok(())
     }
 

@@ -11,7 +11,7 @@ loop-at-init c =
 pub loop-at-preserved : goal.loop-at-preserved
 loop-at-preserved c =
     let f = c.args.forest.now in
-    subst (λ path. HasClimbed f c.args.key path c.parent-at.result) (sym c.in_ok-push.ensures.items)
+    subst (λ path. HasClimbed f c.args.key path c.parent-at.result) (sym c.in_ok-push.ensures.ok)
     (climbs-more f c.law_nodes_stand_once.ensures.once c.law_nodes_stand_once.ensures.only c.law_nodes_stand_once.ensures.distinct c.parent-at.result
     c.loop-at.invariant c.in-Some.is c.parent-at.ensures.value c.parent-at.ensures.node)
 

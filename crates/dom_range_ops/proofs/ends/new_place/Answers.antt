@@ -12,18 +12,18 @@ pub behind_node-requires-clause-below_no_data : goal.behind_node-requires-clause
 behind_node-requires-clause-below_no_data c =
     let e = c.law_nodes_stand_once.ensures in
     open-at_low c.args.forest.now e.once e.only c.args.points.now c.requires _ _ c.in_ok-start_path.ensures c.in-Some.low.now
-    (by_path c.as_slice-path.ensures.value c.last.ensures.value (ap option_copied c.in-Some.is))
+    (by_path c.as_slice-path.ensures c.last.ensures.value (ap option_copied c.in-Some.is))
 
 pub returns-in-Some-clause-value : goal.returns-in-Some-clause-value
 returns-in-Some-clause-value c =
     let e = c.law_nodes_stand_once.ensures in
     c.behind_node.ensures.value
     ∙ sym (place-at_low c.args.forest.now e.once e.only c.args.points.now c.requires _ _ c.in_ok-start_path.ensures c.in-Some.low.now
-    (by_path c.as_slice-path.ensures.value c.last.ensures.value (ap option_copied c.in-Some.is)))
+    (by_path c.as_slice-path.ensures c.last.ensures.value (ap option_copied c.in-Some.is)))
 
 pub returns-clause-value : goal.returns-clause-value
 returns-clause-value c =
     let e = c.law_nodes_stand_once.ensures in
     sym (place-at_start c.args.forest.now e.once e.only c.args.points.now c.requires _ _ c.in_ok-start_path.ensures
     (none-named c.in_ok-start_path.start_path.items
-    (by_path c.as_slice-path.ensures.value c.last.ensures.value (ap option_copied c.in-None.is))))
+    (by_path c.as_slice-path.ensures c.last.ensures.value (ap option_copied c.in-None.is))))

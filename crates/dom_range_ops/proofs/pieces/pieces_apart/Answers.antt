@@ -4,8 +4,8 @@ use Rattle.dom_range_ops.proofs.pieces.pieces_apart.Goals as goal
 pub push_pieces-requires-clause-paths : goal.push_pieces-requires-clause-paths
 push_pieces-requires-clause-paths c =
     let paths = ArePaths c.args.forest.now c.args.points.now in
-    subst (λ ks. paths ks c.as_slice-2.result.now) (sym c.as_slice.ensures.value)
-    (subst (paths c.in_ok-start_path.start_path.items) (sym c.as_slice-2.ensures.value) c.in_ok-start_path.ensures)
+    subst (λ ks. paths ks c.as_slice-2.result.now) (sym c.as_slice.ensures)
+    (subst (paths c.in_ok-start_path.start_path.items) (sym c.as_slice-2.ensures) c.in_ok-start_path.ensures)
 
 pub returns-clause-paths : goal.returns-clause-paths
 returns-clause-paths c = (c.in_ok-start_path.start_path.items, c.in_ok-start_path.end_path.items, c.in_ok-start_path.ensures)

@@ -132,4 +132,4 @@ returns c =
     subst (λ ks. ArePaths f points ks c.truncate-2.new.self.items) (sym c.truncate.ensures.items)
     (subst (λ ks. ArePaths f points (take c.parting-first.result.0 c.in_ok-start_path.start_path.items) ks) (sym c.truncate-2.ensures.items)
     (paths-part f e.once e.only e.distinct points c.requires c.in_ok-start_path.start_path.items c.in_ok-end_path.end_path.items
-    start.names end.names start.nodes end.nodes (alike c.as_slice.ensures.value c.as_slice-2.ensures.value c.parting-first.ensures)))
+    start.names end.names start.nodes end.nodes (alike c.as_slice.ensures c.as_slice-2.ensures c.parting-first.ensures)))
