@@ -185,8 +185,8 @@ impl Parts {
         Ok(())
     }
 
-    /// The data of another Text or Comment of the same owner come behind those of one. No end of a live range stands behind these, so
-    /// none is moved.
+    /// The data of another Text or Comment of the same owner come behind those of one (DOM Standard, concept: replace data). No end of
+    /// a live range stands behind these, so none is moved. Where memory is refused, all is as it was.
     pub fn append_data(&mut self, node: Key, of: Key) -> Result<(), AllocError>
         requires node_is_node { HoldsNode self.old node }
         requires of_is_node { IsOwnNode self.old node of }
