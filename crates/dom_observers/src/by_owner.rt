@@ -1,8 +1,9 @@
 //! The table of each owner.
-ghost use Rattle.std.specs.Prelude.{◌≡◌, IsSome, OnOk, OnErr};
+ghost use Rattle.std.specs.Prelude.{◌≡◌, ◌≢◌, IsSome, OnOk, OnErr};
 ghost use Rattle.std.specs.Borrow.{sem};
 ghost use Rattle.std.specs.Option.{option_map};
 ghost use Rattle.dom_base.specs.declared.Owner.{Owner as Owners};
+ghost use Rattle.dom_base.specs.declared.Owner.TheVariants.{Page};
 ghost use Rattle.dom_observers.specs.Tables.{no_tables};
 
 use crate::table::Table;
@@ -43,9 +44,18 @@ impl ByOwner {
                 if self.components.is_empty() {
                     return None;
                 }
-                self.components.get(owner)
+                self.of_component(owner)
             }
         }
+    }
+
+    /// A component's table, if it has one. It is kept out of line, so that what asks about the page is short.
+    #[inline(never)]
+    fn of_component(&self, component: &Owner) -> Option<&Table>
+        requires { component.now ≢ Page }
+        ensures { option_map (λ t. t.now) result ≡ table_at self.now component.now }
+    {
+        self.components.get(component)
     }
 
     /// An owner's table for a change of it, if it has one. Where no component has, there is no look-up.

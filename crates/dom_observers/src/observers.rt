@@ -120,11 +120,12 @@ impl Observers {
 
     /// Whether an owner has registrations, as `is_watched` says, and the one node from which what is below it may be observed, where
     /// no other is known (own rule): the forest is to remember of it that it stands above a node of which a record is queued.
+    #[inline(always)]
     pub fn watch(&self, owner: &Owner) -> (bool, Option<Key>)
         ensures { result.0 ≡ not (is_empty (tables_of self.now owner.now).registrations) }
     {
         match self.tables.get(owner) {
-            Some(table) => (!table.has_no_registration(), table.only_above()),
+            Some(table) => table.watch(),
             None => (false, None),
         }
     }

@@ -50,16 +50,16 @@ impl Table {
         }
     }
 
-    /// Whether no observer is registered on a node.
-    pub(crate) fn has_no_registration(&self) -> bool
-        ensures { result ≡ is_empty (table_of self.now).registrations }
+    /// Whether an observer is registered on a node, and the one node from which what is below it may be observed, where no other is
+    /// known (own rule).
+    #[inline(always)]
+    pub(crate) fn watch(&self) -> (bool, Option<Key>)
+        ensures { result.0 ≡ not (is_empty (table_of self.now).registrations) }
     {
-        self.registrations.is_empty()
-    }
-
-    /// The one node from which what is below it may be observed, where no other is known (own rule).
-    pub(crate) fn only_above(&self) -> Option<Key> {
-        self.registrations.only_above()
+        if self.registrations.is_empty() {
+            return (false, None);
+        }
+        (true, self.registrations.only_above())
     }
 
     /// Whether there is an observer of a number.

@@ -3,8 +3,8 @@
 use Rattle.dom_parts.proofs.Cited.{◌≡◌, ℕ, ◌<◌, ◌≤◌, Bool, true, false, List, [], ◌∷◌, ◌++◌, Option, Some, None, filter, fold, length, refl, sym, ap}
 use Rattle.dom_parts.proofs.Cited.{subst, ◌∙◌, inl, inr, arith, option_map, if◌then◌else◌, option_map_or, cases_Bool, length_push, get_or-append}
 use Rattle.dom_parts.proofs.Cited.{NodeName, Owner, Page, MAX_COMPONENTS, Word, DomString, name_eq, owner_eq, append_once, node_of, Trees, parent_of}
-use Rattle.dom_parts.proofs.Cited.{Change, Part, with_signal, Step, make, place, take_out, set_document, set_attribute, queue_record, part_step, leave}
-use Rattle.dom_parts.proofs.Cited.{is_taken, World, MayAttach, is_there, component_made, queued_notify, world_step, with_signals, with_removal_signals}
+use Rattle.dom_parts.proofs.Cited.{Change, Part, with_signal, Step, place, take_out, set_document, set_attribute, queue_record, part_step, leave}
+use Rattle.dom_parts.proofs.Cited.{is_taken, MayAttach, is_there, component_made, queued_notify, world_step, with_signals, with_removal_signals}
 use Rattle.dom_parts.proofs.Cited.{with_notify_if, owner_eq-true, owner_eq-false, ShadowHost, HostsAreNodes, signals_at, step_signals, Place, Removal}
 use Rattle.dom_parts.proofs.Cited.{Attribute, signals-shown, name_at, AreOwned, read_own, Contents, Tables, part_in, world_of, maker_of, hosts_of}
 use Rattle.dom_parts.proofs.Cited.{AreMadeBehind, host_names, attached_of, AreHostsOf, shadows_in, signal_in, signals_in}

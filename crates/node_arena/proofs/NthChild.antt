@@ -6,7 +6,7 @@ use Rattle.std.specs.List.{concat}
 use Rattle.std.specs.Option.{option_and_then}
 use Rattle.std.proofs.lemmas.Bool.{eq-eqb, eqb-true, both_ways, false_from_ne_true}
 use Rattle.std.proofs.lemmas.Option.{same_Some, none-some, slice_get_past, slice_get_within}
-use Rattle.node_arena.specs.Nodes.{children_of, contains, head_of, next_in, next_of, IsOnce, IsForest}
+use Rattle.node_arena.specs.Nodes.{Nodes, children_of, contains, parent_of, head_of, next_in, next_of, IsOnce, IsForest, IsSound}
 use Rattle.node_arena.specs.Blocks.{block_of}
 use Rattle.node_arena.specs.Known.{AreFirst}
 use Rattle.node_arena.proofs.Forests.{parent_of_is}
@@ -50,6 +50,14 @@ get-first xs i {k} first e =
 pub get-head : (xs : List ℕ) → slice_get xs 0 ≡ head_of xs
 get-head [] = refl
 get-head (x ∷ xs) = refl
+
+-- what stands at a place among the children of a node is a node, and a child of that one
+pub nth-node : {T : Type 0} (s : Nodes T) (p i : ℕ) {k : ℕ} → IsSound s → slice_get (children_of s.children p) i ≡ Some k → k < length s.payloads
+nth-node s p i {k} sound e = omega (arith, sound.paired, sound.forest.nodes p k (get-contains (children_of s.children p) i k e))
+
+pub nth-child : {T : Type 0} (s : Nodes T) (p i : ℕ) {k : ℕ} → IsSound s → slice_get (children_of s.children p) i ≡ Some k →
+    parent_of s.children k ≡ Some p
+nth-child s p i {k} sound e = parent_of_is s.children sound.forest.one_list p k (get-contains (children_of s.children p) i k e)
 
 -- ---- the next sibling
 

@@ -1,6 +1,7 @@
 //! The children of a node, by their indexes.
 ghost use Rattle.std.specs.Prelude.{◌≡◌, ◌<◌, ◌+◌, ℕ, length, slice_get, Some};
-ghost use Rattle.node_arena.specs.Nodes.{children_of, IsSound};
+ghost use Rattle.std.specs.Option.{ForSome};
+ghost use Rattle.node_arena.specs.Nodes.{children_of, parent_of, IsSound};
 
 use crate::{Arena, Key};
 
@@ -10,6 +11,8 @@ impl<T> Arena<T> {
     pub fn child(&self, parent: Key, index: usize) -> Option<Key>
         requires { parent < length self.now.payloads }
         ensures value { result ≡ slice_get (children_of self.now.children parent) index }
+        ensures node { ForSome result (λ k. k < length self.now.payloads) }
+        ensures child { ForSome result (λ k. parent_of self.now.children k ≡ Some parent) }
         ensures sound { IsSound self.now }
     {
         let first = self.first(parent)?;

@@ -75,6 +75,7 @@ impl Parts {
     }
 
     /// Queues a mutation record of an attribute, before it changes (DOM Standard, queue a mutation record).
+    #[inline(always)]
     pub fn queue_attribute_record(&mut self, node: Key, name: &str) -> Result<(), AllocError>
         requires { HoldsNode self.old node }
         ensures { OnOk result (self.new ≡ stepped (owner_in self.old node)
@@ -85,6 +86,22 @@ impl Parts {
         if !watched {
             return Ok(());
         }
+        self.record_attribute(top, node, name)
+    }
+
+    /// The record of a change of a node's attribute goes to the observers that are interested in it, as `record` says.
+    #[inline(never)]
+    fn record_attribute(
+        &mut self,
+        top: Option<Key>,
+        node: Key,
+        name: &str,
+    ) -> Result<(), AllocError>
+        requires { HoldsNode self.old node }
+        ensures { OnOk result (self.new ≡ stepped (owner_in self.old node)
+            (queue_record (attributes (name_in self.old node) name.now
+            (attribute_value (node_in (trees_in self.old node) (name_in self.old node)) name.now))) self.old) }
+    {
         let alloc = self.alloc;
         let old = self.old_value(node, name)?;
         let change = Change::Attributes {
@@ -106,6 +123,16 @@ impl Parts {
         if !watched {
             return Ok(());
         }
+        self.record_data(top, node)
+    }
+
+    /// The record of a change of a node's data goes to the observers that are interested in it, as `record` says.
+    #[inline(never)]
+    fn record_data(&mut self, top: Option<Key>, node: Key) -> Result<(), AllocError>
+        requires { HoldsNode self.old node }
+        ensures { OnOk result (self.new ≡ stepped (owner_in self.old node)
+            (queue_record (character_data (name_in self.old node) (Some (node_in (trees_in self.old node) (name_in self.old node)).text))) self.old) }
+    {
         let alloc = self.alloc;
         let old = SmallVec::from_slice(alloc, self.text(node))?;
         let change = Change::CharacterData {
@@ -128,6 +155,7 @@ impl Parts {
 
     /// Whether a node's owner has registrations, and the one node from which what is below it may be observed, where no other is
     /// known. Where the owner has none the record of a change of the node changes nothing.
+    #[inline(always)]
     fn watch(&self, node: Key) -> (bool, Option<Key>)
         requires { HoldsNode self.now node }
         ensures { result.0 ≡ false → (c : ChangeOf NodeName) → self.now ≡ stepped (owner_in self.now node) (queue_record c) self.now }

@@ -2,7 +2,7 @@ use Rattle.std.proofs.Common.{◌≡◌, ◌-◌, ◌≤◌, Some, length, sym, 
 use Rattle.std.specs.Prelude.{slice_get}
 use Rattle.node_arena.specs.Nodes.{children_of}
 use Rattle.node_arena.proofs.FirstKnown.{last_child, last_of-get}
-use Rattle.node_arena.proofs.NthChild.{get-first, get-head, not-there}
+use Rattle.node_arena.proofs.NthChild.{get-first, get-head, not-there, nth-node, nth-child}
 use Rattle.node_arena.proofs.Arena.child.Goals as goal
 
 pub returns-in-Some-get-clause-value : goal.returns-in-Some-get-clause-value
@@ -35,3 +35,27 @@ pub returns-clause-value : goal.returns-clause-value
 returns-clause-value g c =
     let list = children_of c.args.self.now.children c.args.parent in
     c.sibling_behind-2.ensures c.args.parent 0 (get-head list ∙ sym c.in_ok-first.ensures.value) ∙ ap (slice_get list) (omega arith)
+
+pub returns-in-Some-get-clause-node : goal.returns-in-Some-get-clause-node
+returns-in-Some-get-clause-node g c k e =
+    nth-node c.args.self.now c.args.parent c.args.index c.first.ensures.sound (sym (returns-in-Some-get-clause-value g c) ∙ e)
+
+pub returns-in-Some-get-clause-child : goal.returns-in-Some-get-clause-child
+returns-in-Some-get-clause-child g c k e =
+    nth-child c.args.self.now c.args.parent c.args.index c.first.ensures.sound (sym (returns-in-Some-get-clause-value g c) ∙ e)
+
+pub returns-in-Some-last-clause-node : goal.returns-in-Some-last-clause-node
+returns-in-Some-last-clause-node g c k e =
+    nth-node c.args.self.now c.args.parent c.args.index c.first.ensures.sound (sym (returns-in-Some-last-clause-value g c) ∙ e)
+
+pub returns-in-Some-last-clause-child : goal.returns-in-Some-last-clause-child
+returns-in-Some-last-clause-child g c k e =
+    nth-child c.args.self.now c.args.parent c.args.index c.first.ensures.sound (sym (returns-in-Some-last-clause-value g c) ∙ e)
+
+pub returns-clause-node : goal.returns-clause-node
+returns-clause-node g c k e =
+    nth-node c.args.self.now c.args.parent c.args.index c.first.ensures.sound (sym (returns-clause-value g c) ∙ e)
+
+pub returns-clause-child : goal.returns-clause-child
+returns-clause-child g c k e =
+    nth-child c.args.self.now c.args.parent c.args.index c.first.ensures.sound (sym (returns-clause-value g c) ∙ e)

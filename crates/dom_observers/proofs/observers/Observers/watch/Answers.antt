@@ -6,7 +6,7 @@ use Rattle.dom_observers.proofs.observers.Observers.watch.Goals as goal
 
 pub returns-in-Some : goal.returns-in-Some
 returns-in-Some c =
-    ap not c.has_no_registration.ensures
+    c.watch.ensures
     ∙ ap (λ (t : TablesOf ℕ). not (is_empty t.registrations))
     (sym (had c.self.inside c.self.view_is c.args.owner.now c.in-Some.table.now c.in-Some.ensures))
 

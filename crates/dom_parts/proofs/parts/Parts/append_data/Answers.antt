@@ -1,4 +1,4 @@
-use Rattle.dom_base.proofs.Std.{◌≡◌, ℕ, ◌<◌, ◌≤◌, ◌^◌, List, length, Result, Ok, Err, OnErr, refl, sym, ap, subst, ◌∙◌, arith, rules}
+use Rattle.dom_base.proofs.Std.{◌≡◌, ℕ, ◌<◌, ◌^◌, List, length, Result, Ok, Err, OnErr, refl, sym, ap, subst, ◌∙◌, arith, rules}
 use Rattle.dom_model.proofs.Model.{NodeName, DomString, name_eq, node_in, change_node, replaced, with_data_replaced, replace_data}
 use Rattle.dom_slots.proofs.Recast.{keeps_if, slots-recast}
 use Rattle.dom_tree.specs.Definitions.{NamedTrees, name_at}
