@@ -3,7 +3,7 @@ use Rattle.std.proofs.Common.{◌≡◌, ◌≢◌, ℕ, true, false, ◌&&◌, 
 use Rattle.std.proofs.Common.{append-nil}
 use Rattle.std.specs.Option.{is_some, option_and_then}
 use Rattle.std.proofs.lemmas.Bool.{eq-eqb, ne_eqb, both_ways, or_right, true_from_ne_false, false_from_ne_true}
-use Rattle.node_arena.specs.declared.store.Link.TheVariants.{First, Back}
+use Rattle.node_arena.specs.declared.cell.Link.TheVariants.{First, Back}
 use Rattle.node_arena.specs.Nodes.{IsForest, children_of, contains, head_of, last_from, last_of, prev_from, prev_in}
 use Rattle.node_arena.specs.Links.{Links, link_at, last_at, follower, back_from, back_left}
 use Rattle.node_arena.specs.Cells.{back_in, Holds}

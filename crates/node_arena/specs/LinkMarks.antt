@@ -1,7 +1,7 @@
 -- Which links of a cell are marked as leading to a cell.
 use Rattle.std.specs.Prelude.{Bool, true, false, if◌then◌else◌}
-use Rattle.node_arena.specs.declared.store.Link.{Link}
-use Rattle.node_arena.specs.declared.store.Link.TheVariants.{Parent, First, Next, Prev, Back}
+use Rattle.node_arena.specs.declared.cell.Link.{Link}
+use Rattle.node_arena.specs.declared.cell.Link.TheVariants.{Parent, First, Next, Prev, Back}
 use Rattle.node_arena.specs.declared.link_marks.Marks.{Marks}
 use Rattle.node_arena.specs.declared.link_marks.Back.{Back as BackMark}
 use Rattle.node_arena.specs.declared.link_marks.Back.TheVariants as back

@@ -2,8 +2,8 @@
 use Rattle.std.specs.Prelude.{ℕ, ◌<◌, List, length, Option, refl}
 use Rattle.std.specs.Option.{option_map}
 use Rattle.std.specs.Coded.{Coded, code_by, coded×, coded_ℕ}
-use Rattle.node_arena.specs.declared.store.Link.{Link}
-use Rattle.node_arena.specs.declared.store.Link.TheVariants.{Parent, First, Next, Prev, Back}
+use Rattle.node_arena.specs.declared.cell.Link.{Link}
+use Rattle.node_arena.specs.declared.cell.Link.TheVariants.{Parent, First, Next, Prev, Back}
 use Rattle.node_arena.specs.Links.{Cells}
 use Rattle.node_arena.specs.Cells.{back_of, IsLinked}
 use Rattle.node_arena.specs.Nodes.{children_of, parent_of, next_of, prev_of, head_of}

@@ -5,13 +5,14 @@ ghost use Rattle.node_arena.specs.Links.{link_at, last_at};
 ghost use Rattle.node_arena.specs.Spots.{key_in};
 
 use crate::Key;
-use crate::pool::Pool;
-use crate::store::{Cell, Link};
+use crate::cell::{Cell, Link};
+use crate::pool::{Place, Pool};
 use std::marker::Model;
 
-/// A cell, and the pool of those to which its links lead. It is seen as the cells of the store, and the key of this one.
+/// A cell, the pool of those to which its links lead, and their places. It is seen as the cells of the store, and the key of this one.
 #[derive(Drop)]
 pub(crate) struct CellAt<'a, T> {
+    pub(crate) list: &'a [Place],
     pub(crate) pool: &'a Pool<Cell<T>>,
     pub(crate) cell: &'a Cell<T>,
 }
@@ -27,7 +28,7 @@ impl<'a, T> Model for CellAt<'a, T> {
 
     ghost view = { λ c. record { whole = seen c.pool.now.cells; key = c.cell.now.key } };
 
-    ghost invariant = { λ c. IsCellOf c.pool.now.cells c.cell.now };
+    ghost invariant = { λ c. IsCellOf c.list.now c.pool.now.cells c.cell.now };
 }
 
 impl<'a, T> CellAt<'a, T> {
@@ -41,9 +42,28 @@ impl<'a, T> CellAt<'a, T> {
         if !self.cell.leads(link) {
             return None;
         }
+        let list = self.list;
         let pool = self.pool;
-        let cell = pool.get(self.cell.pointer(link));
-        Some(CellAt { pool, cell })
+        let cell = pool.get(self.cell.place(list, link));
+        Some(CellAt { list, pool, cell })
+    }
+
+    /// The key of the cell that a link leads to, if there is one. The keys of those above and below stand in the cell itself.
+    #[inline(always)]
+    pub(crate) fn key_to(&self, link: Link) -> Option<Key>
+        ensures value { result ≡ link_at self.now.whole.links self.now.key link }
+        ensures cell { ForSome result (λ k. k < length self.now.whole.links) }
+    {
+        if !self.cell.leads(link) {
+            return None;
+        }
+        let cell = self.cell;
+        match link {
+            Link::Parent => Some(cell.parent),
+            Link::First => Some(cell.first),
+            Link::Next => Some(self.pool.get(cell.next).key),
+            Link::Prev | Link::Back => Some(self.pool.get(cell.back).key),
+        }
     }
 
     /// The cell of the last child, if there is one.

@@ -6,8 +6,9 @@ ghost use Rattle.node_arena.specs.Known.{AreFirst, AreKept};
 ghost use Rattle.node_arena.specs.Nodes.{children_of, contains, siblings_in, insert_before, without};
 
 use crate::Key;
+use crate::cell::Link;
 use crate::ordered_keys::OrderedKeys;
-use crate::store::{Link, Store};
+use crate::store::Store;
 use std::alloc::Global;
 use std::mem;
 

@@ -2,7 +2,7 @@
 ghost use Rattle.std.specs.Prelude.{◌≡◌, false};
 ghost use Rattle.node_arena.specs.LinkMarks.{unmarked, without_own, is_prev, is_back, mark_of, with_mark};
 
-use crate::store::Link;
+use crate::cell::Link;
 
 /// Where the link back of a cell leads: to no cell, around to the last child of its parent, or to the sibling before it.
 #[derive(Clone, Copy)]

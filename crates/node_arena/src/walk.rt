@@ -4,13 +4,13 @@ ghost use Rattle.std.specs.Option.{ForSome};
 ghost use Rattle.node_arena.specs.Nodes.{children_of, parent_of, next_of, prev_of, head_of};
 ghost use Rattle.node_arena.specs.Spots.{key_in, linked_to};
 
+use crate::cell::Link;
 use crate::cell_at::CellAt;
-use crate::store::Link;
 use crate::{Arena, Key};
 use std::marker::Model;
 
-/// A node of an arena, where it lies in memory: what it holds, and a step to another node, take no look for the place of a key
-/// (own rule). It is seen as the nodes of the arena, and the key of this one.
+/// A node of an arena, where it lies in memory: what it holds, and a step to a sibling, take no look for the place of a key, and a
+/// step to the parent or the first child takes one (own rule). It is seen as the nodes of the arena, and the key of this one.
 #[derive(Drop)]
 pub struct Walk<'a, T> {
     at: CellAt<'a, T>,

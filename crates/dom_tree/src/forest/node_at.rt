@@ -15,8 +15,8 @@ use dom_base::Kind;
 use node_arena::{Key, Walk};
 use std::marker::Model;
 
-/// A node of a forest, where it lies in memory: what is read of it, and a step to another node, take no look for the place of its key
-/// (own rule). It is seen as the forest and the node's key.
+/// A node of a forest, where it lies in memory: what is read of it, and a step to a sibling, take no look for the place of a key, and
+/// a step to the parent or the first child takes one (own rule). It is seen as the forest and the node's key.
 #[derive(Drop)]
 pub struct NodeAt<'a> {
     forest: &'a Forest,

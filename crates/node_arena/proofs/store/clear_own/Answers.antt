@@ -1,5 +1,5 @@
 use Rattle.std.proofs.Common.{ap}
-use Rattle.node_arena.specs.declared.store.Cell.{Cell}
+use Rattle.node_arena.specs.declared.cell.Cell.{Cell}
 use Rattle.node_arena.specs.LinkMarks.{without_own}
 use Rattle.node_arena.proofs.Linking.{set-turned}
 use Rattle.node_arena.proofs.store.clear_own.Goals as goal

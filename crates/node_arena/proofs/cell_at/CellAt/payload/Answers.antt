@@ -1,5 +1,5 @@
 use Rattle.std.proofs.Common.{Some, ap, ◌∙◌}
-use Rattle.node_arena.proofs.StoreLemmas.{payload_at}
+use Rattle.node_arena.proofs.StoreReads.{payload_at}
 use Rattle.node_arena.proofs.cell_at.CellAt.payload.Goals as goal
 
 pub returns : goal.returns

@@ -1,5 +1,5 @@
 use Rattle.node_arena.specs.Store.{payload_of}
-use Rattle.node_arena.proofs.StoreLemmas.{value_kept, read-payload}
+use Rattle.node_arena.proofs.StoreReads.{value_kept, read-payload}
 use Rattle.node_arena.proofs.store.Store.payload.Goals as goal
 
 pub get-requires : goal.get-requires
