@@ -10,7 +10,8 @@ Then come the kinds with hosts and one with ranges, each at two sizes a factor o
 children, or of ranges. There the lines that make the page are timed alone too, and the microseconds are those of the lines behind them. So
 are the instructions that these take, which `valgrind` counts where it is installed: no other work disturbs that. Behind each kind stands how
 many times as much a line takes at the larger size, and at last how many times as much among the most hosts as without any.
-Then comes the memory that an element takes, and at last short lines are answered one by one through a pipe and through the Python binding.
+The memory that an element takes stands before all this, while this program has little itself. At last short lines are answered one by one
+through a pipe and through the Python binding.
 Nothing here is part of the gate.
 """
 import os
@@ -128,8 +129,9 @@ def embedded(program):
 
 def main():
     program = sys.argv[1] if len(sys.argv) > 1 else PROGRAM
-    print(f"{'kind':<12}{'lines':>9}{'seconds':>10}{'us/line':>10}{'x wc -l':>10}")
     with tempfile.TemporaryDirectory() as folder:
+        memory(program, folder)
+        print(f"{'kind':<12}{'lines':>9}{'seconds':>10}{'us/line':>10}{'x wc -l':>10}")
         for kind in kinds.PLAIN:
             per_line = []
             for count in LENGTHS:
@@ -139,7 +141,6 @@ def main():
                 print(f"{kind.__name__:<12}{lines:>9}{taken:>10.3f}{micros:>10.2f}{ratio:>10.1f}{mark}")
 
         sized(program, folder)
-        memory(program, folder)
     embedded(program)
 
 
