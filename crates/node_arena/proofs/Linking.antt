@@ -4,7 +4,7 @@ use Rattle.std.proofs.Common.{map, get_or, set, Option, Some, None, refl, sym, a
 use Rattle.std.proofs.lemmas.List.{length-map, length-set}
 use Rattle.std.specs.Option.{IsSome, is_some, option_map}
 use Rattle.std.proofs.lemmas.Bool.{cases_Bool}
-use Rattle.std.proofs.lemmas.Option.{same_Some, none-some, slice_get_within}
+use Rattle.std.proofs.lemmas.Option.{same_Some, slice_get_within}
 use denote.RawPtr.{Ptr}
 use Rattle.node_arena.specs.declared.pool.Place.{Place}
 use Rattle.node_arena.specs.declared.cell.Cell.{Cell}
@@ -71,21 +71,6 @@ leads-some {list} {to} {key} leads marked =
       | inl e ↦ absurd (true≢false (sym (rw (led ∙ e) at there)))
       | inr w ↦ record { number = w.0; is = w.1; at = record { key = led ∙ w.1 } }
     ]
-
--- a pointer that leads to a cell lies at the cell's place
-pub leads-at : {list : List Place} (to : Place × Bool) {key : Option ℕ} {k : ℕ} → Leads list to key → key ≡ Some k → At list to.0.ptr k
-leads-at {list} to {key} {k} leads is = by to.1 (leads.led ∙ is)
-  where
-    by : (mark : Bool) → led_at (ptrs list) mark to.0.ptr ≡ Some k → At list to.0.ptr k
-    by true h = record { key = h }
-    by false h = absurd (none-some k h)
-
--- where it leads to some cell it does so too
-pub leads-there : {list : List Place} {to : Place × Bool} {key : Option ℕ} → Leads list to key → IsSome key → Led list to.0 key
-leads-there {list} {to} {key} leads there = elim (cases_Option key) [
-  | inl e ↦ absurd (true≢false (sym (rw e at there)))
-  | inr w ↦ record { number = w.0; is = w.1; at = leads-at to leads w.1 }
-]
 
 -- where it is not marked it leads to none
 pub leads-none : {list : List Place} {to : Place × Bool} {key : Option ℕ} → Leads list to key → to.1 ≡ false → key ≡ None
@@ -242,10 +227,6 @@ module _ {T : Type 0} where
           within = subst (λ n. IsWithin n c.marks.first c.first) (as-long stored) read.good.first;
           is = sym (read.seen First ∙ ap (λ (x : Cell T). kept_at x.marks.first x.first) read.is);
         }
-
-    -- its key is the key of its place
-    pub own-key : c.key ≡ k
-    own-key = (read-at stored at value).good.key
 
   -- a cell turned at its place
   turned-stored : {list : List Place} {cells : List (Placed (Cell T))} {payloads : List T} {links : List Links} → Stored list cells payloads links →
