@@ -68,8 +68,9 @@ OBSERVERS = {
         p .""")),
     "removal-notifies": Known(
         "fixed", "F",
-        "`remove` and `adopt` of a node below one that an observer observes, whatever it asks for, and a Text there that `normalize` takes: "
-        "a notification is queued, which then stands before microtasks that come before the first record", lines("""
+        "`remove` and `adopt` of a node below one that an observer observes, shadow trees counted in, whatever it asks for, and one "
+        "there that `delete` or `normalize` takes: a notification is queued, which then stands before microtasks that come before the "
+        "first record", lines("""
         p new element a
         p new element b
         p append n1 n2
@@ -79,7 +80,35 @@ OBSERVERS = {
         p remove n2
         p micro k
         p set n1 id "x"
-        p .""")),
+        p ."""), lines("""
+        p new element a
+        p new element b
+        p append n1 n2
+        p range-new
+        p range-end r0 n1 1
+        p range-start r0 n1 0
+        p observer
+        p observe o0 n1 attributes
+        p .
+        p delete r0
+        p micro k
+        p set n1 id "x"
+        p ."""), lines("""
+        p new element div
+        p attach n1
+        p .
+        c1 new element b
+        c1 append m0 m1
+        c1 .
+        p observer
+        p observe o0 n1 attributes
+        p .
+        c1 remove m1
+        c1 micro k
+        c1 observer
+        c1 observe o0 m1 attributes
+        c1 set m1 id "x"
+        c1 .""")),
     "early-notification": Known(
         "fixed", "J",
         "a change that no observer takes queues a notification, which then stands before microtasks that come before the first "
@@ -106,6 +135,11 @@ OBSERVERS = {
         "a child is replaced where that signals slots: browsers remove the new node first, so that a slot is signalled which a "
         "child of its own takes the place of, and slots stand in another order", BARE_SLOT + lines("""
         c1 new element i
+        c1 append m1 m2
+        c1 .
+        c1 replace m0 m2 m1
+        c1 ."""), BARE_SLOT + lines("""
+        c1 new element slot
         c1 append m1 m2
         c1 .
         c1 replace m0 m2 m1

@@ -200,10 +200,15 @@
       const following = owner.observers.filter(({ lasting }) => lasting);
       const taken = run.queue.wanted ? run.queue.wanted.taken : [];
       for (const { lasting } of following) for (const one of taken) if (noteLeft(lasting, one)) run.queue.noteFirst("leaving-notifies");
-      const isBelow = ({ lasting }) => taken.some(({ above }) => above.some((node) => lasting.observed.has(node)));
-      if (["remove", "adopt", "normalize"].includes(name) && following.some(isBelow)) run.queue.noteFirst("removal-notifies");
+      if (["remove", "adopt", "normalize", "delete"].includes(name) && isObservedAround(run, taken)) run.queue.noteFirst("removal-notifies");
       return following.length > 0 && !run.habits.observesWhatLeft && following.map(keepLeft).includes(true);
     } };
+  }
+
+  // Whether some owner observes a node above one that left, hosts' trees counted in.
+  function isObservedAround(run, taken) {
+    const all = [...run.owners.values()].flatMap(({ observers }) => observers).filter(({ lasting }) => lasting);
+    return all.some(({ lasting }) => taken.some(({ around }) => around.some((node) => lasting.observed.has(node))));
   }
 
   // Whether this DOM gives what leaves copies of registrations at all.

@@ -65,8 +65,8 @@
     signalsOfLine() {
       const told = ((this.run.signals || [])[this.run.at] || []).map((key) => this.run.slotOf(key));
       for (const slot of told) this.told.add(slot);
-      const names = this.wanted && this.run.fixes.length > 0 && namesOf(told, this.wanted);
-      if (!names || names.length === 0 || !names.every((name) => this.run.fixes.includes(name))) return told;
+      const names = this.wanted && namesOf(told, this.wanted, this.run.fixes);
+      if (!names || names.length === 0) return told;
       for (const name of names) this.names.add(name);
       this.isSilent = true;
       return [...this.wanted.slots.keys()];

@@ -55,6 +55,13 @@
       return chain;
     }
 
+    // The same, with what is above the host of each shadow root.
+    shadowChainOf(node) {
+      const chain = [];
+      for (let above = node; above; above = this.parents.get(above) || (above.nodeType === 11 && above.host)) chain.push(above);
+      return chain;
+    }
+
     rootOf(node) {
       return this.chainOf(node).pop();
     }
@@ -116,7 +123,7 @@
       const place = this.parents.get(node);
       if (!place) return;
       this.noteCrowd(node);
-      this.taken.push({ node, above: this.chainOf(place) });
+      this.taken.push({ node, above: this.chainOf(place), around: this.shadowChainOf(place) });
       this.step(node, place, () => {
         this.parents.delete(node);
         this.children.set(place, this.childrenOf(place).filter((child) => child !== node));
@@ -229,7 +236,7 @@
   // The signals of a command that is not refused, by the Standard's text: `slots` are they, each with its reasons, in the order of the steps.
   // `late` is the same where a replaced child leaves last (null: no other), `crowds` are the names of slots that come or go together, and
   // `unmoved` is the slot whose name, or the name of whose node, is set to the empty string where it had none, or is taken away where it is that.
-  // `taken` are the nodes that leave their places, each with what was above it, and `stepOf` and
+  // `taken` are the nodes that leave their places, each with what was above it and around it, and `stepOf` and
   // `isBefore` tell behind which step a record stands, and whether it comes before the signal of a slot.
   function signalsOf(run, name, values) {
     const trees = COMMANDS[name] ? treesBehind(run, COMMANDS[name], values) : null;
@@ -263,12 +270,14 @@
   // The slots whose place in the order is the Standard's everywhere: no slot of their tree came, went or got another name.
   const isFixedIn = (reasons) => (slot) => !(reasons.get(slot) || []).includes("tree");
 
-  // The names of the differences after which the slots that a DOM told are those of the signals; null where these do not explain it.
-  function namesOf(told, { slots, late, crowds, unmoved }) {
+  // The names of the differences after which the slots that a DOM told are those of the signals, as few as explain it; null where those
+  // that it may have do not.
+  function namesOf(told, { slots, late, crowds, unmoved }, fixes) {
+    const names = late && namesFrom(late, told, crowds, unmoved);
     const plain = namesFrom(slots, told, crowds, unmoved);
-    if (plain || !late) return plain;
-    const names = namesFrom(late, told, crowds, unmoved);
-    return names && [...names, "slot-replaced"];
+    const isPossible = (found) => found && found.every((name) => fixes.includes(name));
+    const found = [names && [...names, "slot-replaced"], plain].filter(isPossible);
+    return found.sort((one, other) => one.length - other.length)[0] || null;
   }
 
   function namesFrom(reasons, told, crowds, unmoved) {
