@@ -1,7 +1,7 @@
 #!/usr/bin/env python3
 """Times the kinds of work of beside.py in the built program, and in Chromium, Firefox and jsdom, and prints a table.
 
-Usage: bench/peers.py [PROGRAM] [--units N] [--kind NAME..] [--peer NAME..]
+Usage: bench/peers.py [PROGRAM] [--units N] [--rounds N] [--kind NAME..] [--peer NAME..]
 
 PROGRAM is the built domrun, crates/domrun/out/domrun if none is given. N (60,000 if none is given) scales the scripts. A peer that is not on
 this machine is said in one line on standard error, and so is what is wrong: a line that the program refuses, or a peer that has heard
@@ -11,6 +11,10 @@ A figure is microseconds per line of the lines behind those that make the page, 
 and printing into a file are measured, less those of the first lines alone. Of a peer it is the time inside the page: its lines
 are read before the clock starts, it prints nothing, and memory is swept before it, where it can be (direct.js). Each is the best of three
 runs. A peer is stopped after a time: its figure has a `*` then and is that of the lines up to there.
+
+In a round (one if no number is given) each kind runs in the program and in each peer, at both sizes. A figure is the best of all rounds. How
+many times the program's a peer took is the median over the rounds of what it took to what the program took in the same round, so what else the
+machine did meanwhile tells little in it. Rounds are counted on standard error.
 """
 import argparse
 import base64
@@ -18,6 +22,7 @@ import json
 import os
 import re
 import signal
+import statistics
 import subprocess
 import sys
 import tempfile
@@ -144,7 +149,7 @@ class Bench:
     """Kinds in a program and in peers: the faults so far are kept."""
 
     def __init__(self, program, units, names):
-        self.program, self.units, self.is_right, self.peers = program, units, True, []
+        self.program, self.units, self.is_right, self.peers, self.kept = program, units, True, [], {}
         for peer in (Chromium, Firefox, Jsdom):
             if names is not None and peer.name not in names:
                 continue
@@ -182,19 +187,37 @@ class Bench:
             row.append((found["taken"] / found["made"] * 1e3, "" if found["isWhole"] else "*"))
         return row, least, len(others)
 
-    def row(self, kind, folder):
+    def round(self, kinds, folder):
+        """Each of the kinds once, at both sizes: the figures are kept beside those of the rounds before."""
+        for kind in kinds:
+            for size in kind.sizes or (self.units // 8, self.units // 2):
+                self.kept.setdefault((kind.name, size), []).append(self.figures(kind, size, folder))
+
+    def row(self, kind):
         """A row of the table: what is done, the lines, microseconds per line, how many times the program's, and the least."""
         sizes = kind.sizes or (self.units // 8, self.units // 2)
-        small, large = (self.figures(kind, size, folder) for size in sizes)
-        cells = [kind.says.replace("{}", pair(*(f"{size:,}" for size in sizes))), pair(f"{small[2]:,}", f"{large[2]:,}")]
-        cells += [pair(*(number(micros) + mark for micros, mark in both)) for both in zip(small[0], large[0])]
-        for one, other in list(zip(small[0], large[0]))[1:]:
-            cells.append(pair(*(number(micros and micros / own) for (micros, _), own in ((one, small[0][0][0]), (other, large[0][0][0])))))
-        return [*cells, pair(number(small[1]), number(large[1]))]
+        small, large = (self.kept[kind.name, size] for size in sizes)
+        cells = [kind.says.replace("{}", pair(*(f"{size:,}" for size in sizes))), pair(*(f"{rounds[0][2]:,}" for rounds in (small, large)))]
+        cells += [pair(best(small, place), best(large, place)) for place in range(len(self.peers) + 1)]
+        cells += [pair(times(small, place), times(large, place)) for place in range(1, len(self.peers) + 1)]
+        return [*cells, pair(*(number(min(least for _, least, _ in rounds)) for rounds in (small, large)))]
 
     def close(self):
         for peer in self.peers:
             peer.close()
+
+
+def best(rounds, place):
+    """The least figure of the rounds in that place of their rows, with the mark of the round that has it."""
+    found = [row[place] for row, _, _ in rounds if row[place][0] is not None]
+    micros, mark = min(found, default=(None, ""))
+    return number(micros) + mark
+
+
+def times(rounds, place):
+    """How many times the program's figure that in the place is, as the median of the rounds."""
+    found = [row[place][0] / row[0][0] for row, _, _ in rounds if row[place][0] is not None]
+    return number(statistics.median(found) if found else None)
 
 
 def pair(small, large):
@@ -213,6 +236,7 @@ def main():
     parser = argparse.ArgumentParser(prog="bench/peers.py", description="Times kinds of work in the built program and in other DOMs.")
     parser.add_argument("program", metavar="PROGRAM", nargs="?", default=engines.PROGRAM, help="the built domrun")
     parser.add_argument("--units", metavar="N", type=int, default=60_000, help="about how many lines a script has")
+    parser.add_argument("--rounds", metavar="N", type=int, default=1, help="how often each kind runs")
     parser.add_argument("--kind", metavar="NAME", nargs="*", choices=[kind.name for kind in BESIDE], help="these kinds alone")
     parser.add_argument("--peer", metavar="NAME", nargs="*", choices=list(engines.ENGINES), help="these peers alone")
     words = parser.parse_args()
@@ -223,10 +247,13 @@ def main():
         titles = [peer.title for peer in bench.peers]
         heads = ["kind", "lines", "domrun", *titles, *(f"{title} : domrun" for title in titles), "`wc`, `cat`"]
         print(f"\n| {' | '.join(heads)} |\n|{'---|' * len(heads)}")
+        kinds = [kind for kind in BESIDE if not words.kind or kind.name in words.kind]
         with tempfile.TemporaryDirectory() as folder:
-            for kind in BESIDE:
-                if not words.kind or kind.name in words.kind:
-                    print(f"| {' | '.join(bench.row(kind, folder))} |", flush=True)
+            for turn in range(words.rounds):
+                bench.round(kinds, folder)
+                bench.say(f"round {turn + 1} of {words.rounds}")
+        for kind in kinds:
+            print(f"| {' | '.join(bench.row(kind))} |")
     finally:
         bench.close()
     return 0 if bench.is_right else 1
