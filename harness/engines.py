@@ -21,7 +21,7 @@ import unproved  # noqa: E402
 PROGRAM = os.path.normpath(os.path.join(HERE, "..", "crates", "domrun", "out", "domrun"))
 # Seconds after which an engine is taken to give no answer to a batch of scripts.
 PATIENCE = 600
-SOURCES = ("lines.js", "commands.js", "lasting.js", "slots.js", "fixes.js", "queue.js", "faults.js", "adapter.js")
+SOURCES = ("lines.js", "commands.js", "lasting.js", "slots.js", "fixes.js", "queue.js", "faults.js", "adapter.js", "endless.js")
 
 
 class Missing(Exception):

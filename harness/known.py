@@ -222,6 +222,26 @@ KNOWN = {
         c1 range-end r0 m0 1
         c1 delete r0
         c1 tree m0""")),
+    "delete-endless": Known(
+        "ends", "F",
+        "delete of a range that starts below a child of a slot to which others are assigned, and ends in the slot's parent: it never "
+        "ends", lines("""
+        p new element div
+        p new element i
+        p append n1 n2
+        p attach n1
+        p .
+        c1 new element slot
+        c1 new element b
+        c1 new element u
+        c1 append m0 m1
+        c1 append m1 m2
+        c1 append m2 m3
+        c1 range-new
+        c1 range-end r0 m0 1
+        c1 range-start r0 m2 0
+        c1 delete r0
+        c1 children m2""")),
     "host-matched": Known(
         "fixed", "C",
         "`* *` looked for in a shadow root: Chromium has the first `*` match the host, which has no features there", lines("""
