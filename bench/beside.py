@@ -180,6 +180,13 @@ def host_with_slots(size, steps):
 # A kind beside browsers: its name; what it does, with `{}` where its sizes stand; the function of a size and of steps; the sizes, where None
 # stands for an eighth and a half of the steps; and whether the peers' listeners ask the event for what the program prints of it.
 Kind = namedtuple("Kind", "name says make sizes asks", defaults=(None, False))
+
+
+def sizes_of(kind, steps):
+    """The two sizes of a kind, where so many steps are made."""
+    return kind.sizes or (steps // 8, steps // 2)
+
+
 BESIDE = (
     Kind("append", "{} children appended to one list", appended_children),
     Kind("first", "children put first under {} ranges", first_under_ranges, (25, 100)),

@@ -13,14 +13,9 @@ from concurrent.futures import ThreadPoolExecutor
 
 sys.dont_write_bytecode = True
 from apart import PROGRAM, instructions_of  # noqa: E402
-from beside import BESIDE, Kind  # noqa: E402
+from beside import BESIDE, Kind, sizes_of  # noqa: E402
 
 STEPS = 4000
-
-
-def sizes_of(kind: Kind, steps: int) -> tuple[int, int]:
-    """The two sizes of a kind, where so many steps are made."""
-    return kind.sizes or (steps // 8, steps // 2)
 
 
 def counted(program: str, pool: ThreadPoolExecutor, kind: Kind, steps: int) -> list[str]:

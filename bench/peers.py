@@ -12,9 +12,10 @@ and printing into a file are measured, less those of the first lines alone. Of a
 are read before the clock starts, it prints nothing, and memory is swept before it, where it can be (direct.js). Each is the best of three
 runs. A peer is stopped after a time: its figure has a `*` then and is that of the lines up to there.
 
-In a round (one if no number is given) each kind runs in the program and in each peer, at both sizes. A figure is the best of all rounds. How
-many times the program's a peer took is the median over the rounds of what it took to what the program took in the same round, so what else the
-machine did meanwhile tells little in it. Rounds are counted on standard error.
+In a round (one if no number is given) each kind runs in the program and in each peer, at both sizes. A figure is of the best runs of all rounds,
+of the program the best of all lines less the best of the first lines. How many times the program's a peer took is the median over the rounds of
+what it took to what the program took in the same round, so what else the machine did meanwhile tells little in it. Rounds are counted on
+standard error.
 """
 import argparse
 import base64
@@ -27,12 +28,13 @@ import subprocess
 import sys
 import tempfile
 import time
+from collections import namedtuple
 
 sys.dont_write_bytecode = True
 HERE = os.path.dirname(os.path.abspath(__file__))
 sys.path.insert(0, os.path.join(HERE, "..", "harness"))
 import engines  # noqa: E402
-from beside import BESIDE  # noqa: E402
+from beside import BESIDE, sizes_of  # noqa: E402
 from clock import seconds_of  # noqa: E402
 
 SOURCES = (os.path.join(HERE, "..", "harness", "lines.js"), os.path.join(HERE, "direct.js"))
@@ -122,7 +124,8 @@ def measured(peer, kind, first, others):
 
 
 def of_program(program, first, others, folder):
-    """The program's microseconds per line, those of `wc -l` of the input with `cat` of the output, and all that it printed."""
+    """The program's seconds for the first lines and for all, the microseconds per line of `wc -l` of the input with `cat` of the output,
+    and all that it printed."""
     taken = []
     script, output = os.path.join(folder, "script.txt"), os.path.join(folder, "output.txt")
     for lines in (first, first + others):
@@ -132,7 +135,7 @@ def of_program(program, first, others, folder):
     least = seconds_of(["wc", "-l", script]) + seconds_of(["cat", output], os.path.join(folder, "copy.txt"))
     with open(output, encoding="ascii") as file:
         printed = file.read()
-    return (taken[1] - taken[0]) / len(others) * 1e6, least / len(first + others) * 1e6, printed
+    return taken, least / len(first + others) * 1e6, printed
 
 
 def counts_of(printed):
@@ -143,6 +146,11 @@ def counts_of(printed):
     lists = re.findall(r"^p ok \[([^\]]+)\]$", printed, re.M)
     counts = {"events": count(r"^\w+ event "), "records": count(r"^\w+ record "), "found": sum(found.count(",") + 1 for found in lists)}
     return counts, count(r"^\w+ ! ")
+
+
+# What a round has of a kind at a size: the program's seconds for the first lines and for all; the peers' microseconds per line (None where
+# there are none), each with a mark where it was stopped; those of the least that could be done; and how many lines are timed.
+Figures = namedtuple("Figures", "seconds peers least lines")
 
 
 class Bench:
@@ -166,13 +174,13 @@ class Bench:
         self.is_right = False
 
     def figures(self, kind, size, folder):
-        """The program's figure, each peer's (None where it has none) with a mark where it was stopped, the least, and how many lines."""
+        """What the program and the peers took in a round."""
         first, others = (list(lines) for lines in kind.make(size, self.units))
-        micros, least, printed = of_program(self.program, first, others, folder)
+        seconds, least, printed = of_program(self.program, first, others, folder)
         counts, refused = counts_of(printed)
         if refused:
             self.fault(f"{kind.name} {size}: {refused} lines are refused")
-        row = [(micros, "")]
+        row = []
         for place, peer in enumerate(self.peers):
             try:
                 found = measured(peer, kind, first, others)
@@ -185,38 +193,45 @@ class Bench:
             if found["isWhole"] and found["counts"] != counts:
                 self.fault(f"{kind.name} {size}: {peer.name} counts {found['counts']}, not {counts}")
             row.append((found["taken"] / found["made"] * 1e3, "" if found["isWhole"] else "*"))
-        return row, least, len(others)
+        return Figures(seconds, row, least, len(others))
 
     def round(self, kinds, folder):
         """Each of the kinds once, at both sizes: the figures are kept beside those of the rounds before."""
         for kind in kinds:
-            for size in kind.sizes or (self.units // 8, self.units // 2):
+            for size in sizes_of(kind, self.units):
                 self.kept.setdefault((kind.name, size), []).append(self.figures(kind, size, folder))
 
     def row(self, kind):
         """A row of the table: what is done, the lines, microseconds per line, how many times the program's, and the least."""
-        sizes = kind.sizes or (self.units // 8, self.units // 2)
-        small, large = (self.kept[kind.name, size] for size in sizes)
-        cells = [kind.says.replace("{}", pair(*(f"{size:,}" for size in sizes))), pair(*(f"{rounds[0][2]:,}" for rounds in (small, large)))]
-        cells += [pair(best(small, place), best(large, place)) for place in range(len(self.peers) + 1)]
-        cells += [pair(times(small, place), times(large, place)) for place in range(1, len(self.peers) + 1)]
-        return [*cells, pair(*(number(min(least for _, least, _ in rounds)) for rounds in (small, large)))]
+        sizes = sizes_of(kind, self.units)
+        both = [self.kept[kind.name, size] for size in sizes]
+        cells = [kind.says.replace("{}", pair(*(f"{size:,}" for size in sizes))), pair(*(f"{rounds[0].lines:,}" for rounds in both))]
+        cells.append(pair(*(number(own(rounds)) for rounds in both)))
+        cells += [pair(*(best(rounds, place) for rounds in both)) for place in range(len(self.peers))]
+        cells += [pair(*(times(rounds, place) for rounds in both)) for place in range(len(self.peers))]
+        return [*cells, pair(*(number(min(figures.least for figures in rounds)) for rounds in both))]
 
     def close(self):
         for peer in self.peers:
             peer.close()
 
 
+def own(rounds):
+    """The program's microseconds per line: its best run of all lines in these rounds, less its best of the first lines."""
+    first, whole = (min(figures.seconds[at] for figures in rounds) for at in (0, 1))
+    return (whole - first) / rounds[0].lines * 1e6
+
+
 def best(rounds, place):
-    """The least figure of the rounds in that place of their rows, with the mark of the round that has it."""
-    found = [row[place] for row, _, _ in rounds if row[place][0] is not None]
+    """The least figure of the peer in that place, with the mark of the round that has it."""
+    found = [figures.peers[place] for figures in rounds if figures.peers[place][0] is not None]
     micros, mark = min(found, default=(None, ""))
     return number(micros) + mark
 
 
 def times(rounds, place):
-    """How many times the program's figure that in the place is, as the median of the rounds."""
-    found = [row[place][0] / row[0][0] for row, _, _ in rounds if row[place][0] is not None]
+    """How many times as long as the program the peer in that place took, as the median of the rounds."""
+    found = [figures.peers[place][0] / own([figures]) for figures in rounds if figures.peers[place][0] is not None]
     return number(statistics.median(found) if found else None)
 
 
