@@ -224,8 +224,8 @@ KNOWN = {
         c1 tree m0""")),
     "delete-endless": Known(
         "ends", "F",
-        "delete of a range that starts below a child of a slot to which others are assigned, and ends in the slot's parent: it never "
-        "ends", lines("""
+        "delete of a range that starts in a child of a slot to which others are assigned, and ends in the slot's parent: it may never "
+        "end, and is not tried", lines("""
         p new element div
         p new element i
         p append n1 n2
