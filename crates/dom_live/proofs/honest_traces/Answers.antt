@@ -1,0 +1,11 @@
+use Rattle.dom_live.proofs.HonestTraces.{tells-own_lines, tells-outward_events, counts-own_steps}
+use Rattle.dom_live.proofs.QuietTraces.{quiet-page}
+use Rattle.dom_live.proofs.honest_traces.Goals as goal
+
+pub returns : goal.returns
+returns c = record {
+  lines = λ read g. tells-own_lines read g;
+  outward = λ read g. tells-outward_events read g;
+  steps = λ read g. counts-own_steps read g;
+  quiet = quiet-page;
+}

@@ -1,0 +1,98 @@
+-- What a trace tells, and no more: the group's own lines, the outward events of others' accepted dispatches, and as many own steps as are made; and where
+-- others neither send events out nor stop or cancel, no more than lines, tasks and the end of input. Own rules.
+use Rattle.std.specs.Prelude.{◌≡◌, ℕ, zero, suc, ◌+◌, Bool, true, false, ◌||◌, IsTrue}
+use Rattle.std.specs.Prelude.{⊤, List, [], ◌∷◌, ◌++◌, filter, flat_map, fold, option_to_list, if◌then◌else◌}
+use Rattle.std.specs.List.{AllByRecursion}
+use Rattle.dom_base.specs.declared.Owner.{Owner}
+use Rattle.dom_model.specs.DocumentMachine.{first_world}
+use Rattle.dom_model.specs.Command.{Command}
+use Rattle.dom_model.specs.Trace.{OutwardEvent, is_of, is_page, is_log}
+use Rattle.dom_model.specs.World.{World}
+use Rattle.dom_live.specs.Lines.{LiveLine, said, plain, prevent, stop, stop_now}
+use Rattle.dom_live.specs.Documents.{Live, at_rest, world_documents}
+use Rattle.dom_live.specs.SmallSteps.{advance}
+use Rattle.dom_live.specs.Runs.{is_resting, frames_left}
+use Rattle.dom_live.specs.Machine.{taken, ending, live_step}
+use Rattle.dom_live.specs.Groups.{is_own_step}
+use Rattle.dom_live.specs.Things.{Thing, own_line, shut_out, sent_out, was_stopped, was_cancelled, LiveTrace, owner_said, goes_out, whole_trace}
+
+module _ {L : Type 0} where
+  -- the line of a thing, if it has one
+  abbrev pub line_in : Thing L → List L
+  line_in (own_line l) = l ∷ []
+  line_in (shut_out l) = l ∷ []
+  line_in x = []
+
+  -- the outward event of a thing, if it is one
+  abbrev pub event_in : Thing L → List OutwardEvent
+  event_in (sent_out e) = e ∷ []
+  event_in x = []
+
+  -- the lines of a trace
+  abbrev pub lines_in : LiveTrace L → List L
+  lines_in t = flat_map (λ (x : ℕ × Thing L). line_in x.1) t.things
+
+  -- its outward events
+  abbrev pub events_in : LiveTrace L → List OutwardEvent
+  events_in t = flat_map (λ (x : ℕ × Thing L). event_in x.1) t.things
+
+  -- all own steps that it tells
+  abbrev pub steps_in : LiveTrace L → ℕ
+  steps_in t = fold (λ n (x : ℕ × Thing L). n + x.0) 0 t.things + t.steps
+
+module _ {L : Type 0} (read : L → LiveLine) (group : Owner → Bool) where
+  -- the outward events of others' accepted dispatches, from live documents on
+  abbrev pub sent_from : Live World → List L → List OutwardEvent
+  sent_from s [] = []
+  sent_from s (l ∷ ls) =
+      (if is_of group (owner_said (read l)) then [] else option_to_list (goes_out group read s (read l)))
+      ++ sent_from (live_step world_documents s (read l)).0 ls
+
+  -- how many of so many small steps are the group's own, unless the machine comes to rest before
+  abbrev pub own_steps : ℕ → Live World → ℕ
+  own_steps zero s = 0
+  own_steps (suc n) s =
+      if is_resting s then 0
+      else (if is_own_step group s.documents.tasks s.frames then 1 else 0) + own_steps n (advance world_documents s).0
+
+  -- of those that follow a line
+  abbrev pub own_steps_after : Live World → ℕ
+  own_steps_after s = own_steps (frames_left world_documents s.frames s) s
+
+  -- of those of a script and its end
+  abbrev pub own_steps_from : Live World → List L → ℕ
+  own_steps_from s [] = own_steps_after (ending s)
+  own_steps_from s (l ∷ ls) = own_steps_after (taken world_documents s (read l)).0 + own_steps_from (live_step world_documents s (read l)).0 ls
+
+  -- The lines of a trace are the group's own, in order: none is left out, and none is another's.
+  abbrev pub TellsOwnLines : Type 0
+  TellsOwnLines = (ls : List L) → lines_in (whole_trace group read ls) ≡ filter (λ l. is_of group (owner_said (read l))) ls
+
+  -- Its outward events are those of others' accepted dispatches, in order.
+  abbrev pub TellsOutwardEvents : Type 0
+  TellsOutwardEvents = (ls : List L) → events_in (whole_trace group read ls) ≡ sent_from (at_rest first_world) ls
+
+  -- Its numbers come to as many own steps as are made.
+  abbrev pub CountsOwnSteps : Type 0
+  CountsOwnSteps = (ls : List L) → steps_in (whole_trace group read ls) ≡ own_steps_from (at_rest first_world) ls
+
+-- Whether a line lets the events of others alone: it adds no listener that stops or cancels, and acts on no event. One that adds a live listener does, since
+-- what this one does are lines of its own.
+abbrev pub lets_alone : LiveLine → Bool
+lets_alone (said o (plain (Command.listen x w))) = is_log w.action
+lets_alone (said o (prevent k)) = false
+lets_alone (said o (stop k)) = false
+lets_alone (said o (stop_now k)) = false
+lets_alone l = true
+
+-- a thing that is neither a stop nor a cancel
+abbrev pub IsQuietThing : {L : Type 0} → Thing L → Type 0
+IsQuietThing was_stopped = ⊥
+IsQuietThing was_cancelled = ⊥
+IsQuietThing x = ⊤
+
+-- Where no line of a component adds a listener that stops or cancels, or acts on an event, the page is told neither a stop nor a cancel.
+abbrev pub QuietPage : {L : Type 0} → (L → LiveLine) → Type 0
+QuietPage {L = L} read =
+    (ls : List L) → AllByRecursion (λ l. IsTrue (is_of is_page (owner_said (read l)) || lets_alone (read l))) ls →
+    AllByRecursion (λ (x : ℕ × Thing L). IsQuietThing x.1) (whole_trace is_page read ls).things
