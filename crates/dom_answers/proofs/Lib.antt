@@ -1,0 +1,6 @@
+mod Parts
+mod Kept
+mod Trees
+mod Adding
+mod Telling
+mod Shown

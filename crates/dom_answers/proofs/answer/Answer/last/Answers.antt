@@ -1,0 +1,14 @@
+-- The last item has its parts within the arrays.
+use Rattle.dom_base.proofs.Std.{ap, option_copied, subst, sym, ◌∙◌}
+use Rattle.std.specs.List.{AllByRecursion}
+use Rattle.dom_answers.specs.Arrays.{IsItem}
+use Rattle.dom_answers.specs.Told.{Contents}
+use Rattle.dom_answers.proofs.Parts.{all-get}
+use Rattle.dom_answers.proofs.answer.Answer.last.Goals as goal
+
+pub returns-clause-within : goal.returns-clause-within
+returns-clause-within c =
+    let now = c.args.self.now in
+    let all = subst (λ (a : Contents). AllByRecursion (IsItem a.arrays) a.items) c.self.view_is c.self.invariant.items in
+    let there = subst (AllByRecursion (IsItem now.arrays)) (sym (c.deref.ensures.value ∙ ap (λ (a : Contents). a.items) c.self.view_is)) all in
+    all-get (IsItem now.arrays) _ _ (option_copied c.last.result) c.last.ensures.value there

@@ -1,0 +1,18 @@
+//! Where the answer of a command goes: a type that takes the items of answers, one after another (`Answers`). Bytes take them as the
+//! text of lines, and an `Answer` as values over flat arrays.
+#![tactic(auto)]
+
+mod answer;
+mod answers;
+mod items;
+mod pools;
+mod rows;
+mod saying;
+#[cfg(test)]
+mod tests;
+mod text;
+mod values;
+
+pub use answer::{Answer, law_text};
+pub use answers::Answers;
+pub use items::{AttributeSpans, Call, Item, Mutation, NodeRow, Reply, Row, Said, Span};
