@@ -1,6 +1,6 @@
 -- Attributes of which the first few stand in a list of the code: what is found among them, set there and taken from there.
-use Rattle.dom_base.proofs.Std.{◌≡◌, ℕ, zero, suc, ◌+◌, ◌<◌, ◌≤◌, Bool, true, false, cond, not, List, [], ◌∷◌, ◌++◌, set, length, Option, Some, None, Result}
-use Rattle.dom_base.proofs.Std.{Ok, Err, ◌⊎◌, inl, inr, refl, sym, ap, subst, ◌∙◌, arith, slice_index_or, nat_lt, if◌then◌else◌, OnOk, OnErr, AllByRecursion}
+use Rattle.dom_base.proofs.Std.{◌≡◌, ℕ, zero, suc, ◌+◌, ◌<◌, ◌≤◌, Bool, true, false, cond, not, List, [], ◌∷◌, ◌++◌, set, length, Option, Some, None}
+use Rattle.dom_base.proofs.Std.{refl, sym, ap, ◌∙◌, arith, slice_index_or, nat_lt, if◌then◌else◌, AllByRecursion}
 use Rattle.dom_base.proofs.Std.{position, position_or_len, remove, bytes_eq, ltb-true, ltb-false, same_Some, none-some}
 use Rattle.dom_model.proofs.Model.{text_eq, Attribute, attributes_with, attributes_without}
 use Rattle.dom_attributes.specs.Attributes.{HaveOwnNames, value_among}
@@ -50,14 +50,14 @@ module _ {X : Type 0} (q : X → Bool) where
       by true l f = absurd (none-some (position_or_len q xs) (sym f))
       by false l f = all-off xs (ltb-false (position_or_len q xs) (length xs) l)
 
--- ---- attributes behind the few
+-- ---- the attributes of a list
 
-module _ {K V : Type 0} (text_of : K → List ℕ) (items_of : V → List ℕ) (a : List ℕ) (ys : List Attribute) where
+module _ {K V : Type 0} (text_of : K → List ℕ) (items_of : V → List ℕ) (a : List ℕ) where
   abbrev pub named : K × V → Bool
   named e = bytes_eq a (text_of e.0)
 
   abbrev all_of : List (K × V) → List Attribute
-  all_of es = attributes_in text_of items_of es ++ ys
+  all_of es = attributes_in text_of items_of es
 
   -- the test of texts
   told : (e : K × V) (b : Bool) → named e ≡ b → text_eq a (text_of e.0) ≡ b
@@ -82,41 +82,29 @@ module _ {K V : Type 0} (text_of : K → List ℕ) (items_of : V → List ℕ) (
   found-without (x ∷ es) (suc i) at =
       rw (told x false at.0) (ap (λ bs. record { name = text_of x.0; value = items_of x.1 } ∷ bs) (found-without es i at.1))
 
-  pub off-value : (es : List (K × V)) → AllByRecursion (λ e. named e ≡ false) es → value_among a ys ≡ value_among a (all_of es)
+  pub off-value : (es : List (K × V)) → AllByRecursion (λ e. named e ≡ false) es → None ≡ value_among a (all_of es)
   off-value [] off = refl
   off-value (x ∷ es) off = rw (told x false off.0) (off-value es off.1)
 
-  pub off-with : (es : List (K × V)) (v : V) → AllByRecursion (λ e. named e ≡ false) es →
-      attributes_in text_of items_of es ++ attributes_with a (items_of v) ys ≡ attributes_with a (items_of v) (all_of es)
-  off-with [] v off = refl
-  off-with (x ∷ es) v off = rw (told x false off.0) (ap (λ bs. record { name = text_of x.0; value = items_of x.1 } ∷ bs) (off-with es v off.1))
-
-  pub off-without : (es : List (K × V)) → AllByRecursion (λ e. named e ≡ false) es →
-      attributes_in text_of items_of es ++ attributes_without a ys ≡ attributes_without a (all_of es)
+  pub off-without : (es : List (K × V)) → AllByRecursion (λ e. named e ≡ false) es → all_of es ≡ attributes_without a (all_of es)
   off-without [] off = refl
   off-without (x ∷ es) off = rw (told x false off.0) (ap (λ bs. record { name = text_of x.0; value = items_of x.1 } ∷ bs) (off-without es off.1))
 
-  -- where there are no others one more goes last
-  pub off-added : (es : List (K × V)) (k : K) (v : V) → text_of k ≡ a → ys ≡ [] → AllByRecursion (λ e. named e ≡ false) es →
+  -- one more goes last
+  pub off-added : (es : List (K × V)) (k : K) (v : V) → text_of k ≡ a → AllByRecursion (λ e. named e ≡ false) es →
       all_of (es ++ (k, v) ∷ []) ≡ attributes_with a (items_of v) (all_of es)
-  off-added [] k v same none off =
-      ap (λ n. record { name = n; value = items_of v } ∷ ys) same
-      ∙ subst (λ bs. (record { name = a; value = items_of v } ∷ bs) ≡ attributes_with a (items_of v) bs) (sym none) refl
-  off-added (x ∷ es) k v same none off =
-      rw (told x false off.0) (ap (λ bs. record { name = text_of x.0; value = items_of x.1 } ∷ bs) (off-added es k v same none off.1))
+  off-added [] k v same off = ap (λ n. record { name = n; value = items_of v } ∷ []) same
+  off-added (x ∷ es) k v same off =
+      rw (told x false off.0) (ap (λ bs. record { name = text_of x.0; value = items_of x.1 } ∷ bs) (off-added es k v same off.1))
 
--- ---- the attributes behind others, after a call that may be refused
+  -- what has another name, as attributes and as entries of the list
+  pub off-attributes : (es : List (K × V)) → AllByRecursion (λ e. named e ≡ false) es → AllByRecursion (λ b. text_eq a b.name ≡ false) (all_of es)
+  off-attributes [] off = tt
+  off-attributes (x ∷ es) off = (told x false off.0, off-attributes es off.1)
 
-module _ {E X : Type 0} where
-  -- what holds of the two lists holds of what is there now
-  pub either : (r : Result X E) (new with old : List Attribute) → OnOk r (new ≡ with) → OnErr r (new ≡ old) → (new ≡ with) ⊎ (new ≡ old)
-  either (Ok x) new with old ok err = inl ok
-  either (Err e) new with old ok err = inr err
-
-  pub on-ok : (r : Result X E) (new with : List Attribute) {after : List Attribute} → OnOk r (new ≡ with) → (f : List Attribute → List Attribute) →
-      f with ≡ after → OnOk r (f new ≡ after)
-  on-ok (Ok x) new with ok f e = ap f ok ∙ e
-  on-ok (Err x) new with ok f e = tt
+  pub off-entries : (es : List (K × V)) → AllByRecursion (λ b. text_eq a b.name ≡ false) (all_of es) → AllByRecursion (λ e. named e ≡ false) es
+  off-entries [] off = tt
+  off-entries (x ∷ es) off = (text_test a (text_of x.0) ∙ off.0, off-entries es off.1)
 
 -- ---- no two of one name
 

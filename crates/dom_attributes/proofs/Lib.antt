@@ -2,5 +2,5 @@ pub mod Attributes
 pub mod AttributeValues
 pub mod SignLaws
 mod FewAttributes
-mod Boxed
+mod NameIndexes
 mod OwnNames

@@ -1,10 +1,13 @@
 -- A node's attributes: their names, and the value under one.
-use Rattle.std.specs.Prelude.{◌≡◌, ℕ, false, List, [], ◌∷◌, map, Option, find, String, Vec}
+use Rattle.std.specs.Prelude.{◌≡◌, ℕ, false, List, [], ◌∷◌, map, Option, Some, None, find, String, Vec}
+use Rattle.std.specs.BTreeMap.{BTreeMap, get_by_text}
 use Rattle.std.specs.Option.{option_map}
-use Rattle.std.specs.List.{AllByRecursion}
+use Rattle.std.specs.List.{AllByRecursion, position}
+use Rattle.std.specs.Str.{bytes_eq}
 use Rattle.std.specs.String.{string_bytes}
 use Rattle.std.specs.Rc.{rc_str_bytes}
 use Rattle.std.specs.declared.alloc.Global.{Global}
+use Rattle.std.specs.declared.boxed.Box.{Box}
 use Rattle.std.specs.declared.rc.RcStr.{RcStr}
 use Rattle.dom_model.specs.Names.{Word, DomString, text_eq}
 use Rattle.dom_model.specs.Tree.{Attribute}
@@ -29,3 +32,17 @@ attribute_from a v = record { name = a; value = v }
 -- attributes from the entries of the code's map
 abbrev pub attributes_from : List (String Global × Vec ℕ Global) → List Attribute
 attributes_from es = map (λ e. attribute_from (string_bytes e.0) e.1.items) es
+
+-- an index says of each name at which place the attribute of this name stands
+abbrev pub IsIndexOf : BTreeMap (String Global) ℕ → List (RcStr Global × Vec ℕ Global) → Type 0
+IsIndexOf m es = (t : Word) → get_by_text m t ≡ position (λ e. bytes_eq t (rc_str_bytes e.0)) es
+
+-- so does one that is there
+abbrev pub MayIndex : Option (Box (BTreeMap (String Global) ℕ) Global) → List (RcStr Global × Vec ℕ Global) → Type 0
+MayIndex None es = Unit {0}
+MayIndex (Some index) es = IsIndexOf index.value es
+
+-- no two of some attributes have one name, and their index says where they stand
+pub record AreIndexed (es : List (RcStr Global × Vec ℕ Global)) (index : Option (Box (BTreeMap (String Global) ℕ) Global)) : Type 0 where
+  pub own : HaveOwnNames (attributes_under es)
+  pub found : MayIndex index es

@@ -3,7 +3,7 @@
 #![tactic(auto)]
 
 mod attribute_list;
-mod hashed_attributes;
+mod name_index;
 mod several_attributes;
 mod shared_names;
 mod signs;

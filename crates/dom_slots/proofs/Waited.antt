@@ -1,21 +1,24 @@
 -- Who waits under a name, once others were taken away or put there.
-use Rattle.dom_base.proofs.Std.{◌≡◌, ℕ, Bool, true, false, ◌&&◌, List, [], ◌∷◌, ◌++◌, Option, None, Some, refl, ap, ◌∙◌, Vec, cond, nat_eq, if◌then◌else◌}
-use Rattle.dom_base.proofs.Std.{pointwise, Global, option_map_or}
+use Rattle.dom_base.proofs.Std.{◌≡◌, ℕ, Bool, true, false, List, [], ◌∷◌, ◌++◌, Option, None, Some, refl, ap, ◌∙◌, Vec, cond, if◌then◌else◌}
+use Rattle.dom_base.proofs.Std.{Global, option_map_or}
+use Rattle.std.proofs.lemmas.Map.Text.{is_eq-slice_cmp}
+use Rattle.std.specs.BTreeMap.{is_at}
+use Rattle.std.specs.Cmp.Lexicographic.{slice_cmp}
+use Rattle.std.specs.Ordering.{nat_cmp}
+use Rattle.dom_attributes.proofs.Attributes.{text_test}
 use Rattle.dom_model.proofs.Model.{text_eq}
 use Rattle.dom_slots.proofs.Firsts.{text_true}
 
--- texts that are compared one by one
-same-text : (xs ys : List ℕ) → pointwise nat_eq xs ys ≡ text_eq xs ys
-same-text (x ∷ xs) (y ∷ ys) = ap (λ b. nat_eq x y && b) (same-text xs ys)
-same-text [] (y ∷ ys) = refl
-same-text xs ys = refl
+-- texts of which neither comes before the other
+same-text : (xs ys : List ℕ) → is_at (slice_cmp nat_cmp xs) ys ≡ text_eq xs ys
+same-text xs ys = is_eq-slice_cmp xs ys ∙ text_test xs ys
 
 -- those in a list, if there is one
 abbrev pub listed : Option (Vec ℕ Global) → List ℕ
 listed o = option_map_or (λ v. v.items) o []
 
 -- one list is taken away
-pub taken-away : (name other : List ℕ) (was now : Option (Vec ℕ Global)) → now ≡ cond (pointwise nat_eq name other) None was →
+pub taken-away : (name other : List ℕ) (was now : Option (Vec ℕ Global)) → now ≡ cond (is_at (slice_cmp nat_cmp name) other) None was →
     listed now ≡ (if text_eq name other then [] else listed was)
 taken-away name other was now e = ap listed (e ∙ ap (λ b. cond b None was) (same-text name other)) ∙ by (text_eq name other)
   where
@@ -24,7 +27,8 @@ taken-away name other was now e = ap listed (e ∙ ap (λ b. cond b None was) (s
     by false = refl
 
 -- a list is put in the place of another one
-module _ (name other : List ℕ) (mid now : Option (Vec ℕ Global)) (list : Vec ℕ Global) (e : now ≡ cond (pointwise nat_eq name other) (Some list) mid) where
+module _ (name other : List ℕ) (mid now : Option (Vec ℕ Global)) (list : Vec ℕ Global)
+    (e : now ≡ cond (is_at (slice_cmp nat_cmp name) other) (Some list) mid) where
   pub put-in : {rest : List ℕ} → listed mid ≡ rest → listed now ≡ (if text_eq name other then list.items else rest)
   put-in {rest} same = ap listed (e ∙ ap (λ b. cond b (Some list) mid) (same-text name other)) ∙ by (text_eq name other)
     where

@@ -1,7 +1,9 @@
 -- Which slots may have a name in the tree of a shadow root, as a table says it by numbers of names: it may name too many, and never
 -- too few.
-use Rattle.std.specs.Prelude.{◌≡◌, ℕ, ◌<◌, nat_eq, true, List, fold, length, Option, Some, None}
+use Rattle.std.specs.Prelude.{◌≡◌, ℕ, ◌<◌, true, List, fold, length, Option, Some, None}
+use Rattle.std.specs.BTreeMap.{is_at}
 use Rattle.std.specs.Map.{lookup}
+use Rattle.std.specs.Ordering.{nat_cmp}
 use Rattle.dom_model.specs.Names.{DomString}
 use Rattle.dom_model.specs.Slots.{is_slot_element, slot_name}
 use Rattle.dom_model.specs.Tree.{node_in, root_of}
@@ -16,7 +18,7 @@ abbrev pub Bearers : Type 0
 Bearers = List (ℕ × Bearer)
 
 abbrev pub bearer_at : Bearers → ℕ → Option Bearer
-bearer_at index h = lookup (nat_eq h) index
+bearer_at index h = lookup (is_at (nat_cmp h)) index
 
 -- a number for a name in the tree of a root
 unfoldable pub name_code : ℕ → DomString → ℕ

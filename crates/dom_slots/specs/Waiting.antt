@@ -1,8 +1,9 @@
 -- Children of a host that wait for slots, and slots that are served in turn.
-use Rattle.std.specs.Prelude.{◌≡◌, ℕ, nat_eq, Bool, true, List, [], ◌∷◌, map, Option, if◌then◌else◌}
-use Rattle.std.specs.Cmp.Lexicographic.{pointwise}
-use Rattle.std.specs.HashMap.{get_by}
+use Rattle.std.specs.Prelude.{◌≡◌, ℕ, Bool, true, List, [], ◌∷◌, map, Option, if◌then◌else◌}
+use Rattle.std.specs.BTreeMap.{get_by}
+use Rattle.std.specs.Cmp.Lexicographic.{slice_cmp}
 use Rattle.std.specs.Option.{option_map_or}
+use Rattle.std.specs.Ordering.{nat_cmp}
 use Rattle.dom_model.specs.Names.{text_eq}
 use Rattle.dom_model.specs.Slots.{slot_name}
 use Rattle.dom_model.specs.Tree.{node_in}
@@ -13,7 +14,7 @@ use Rattle.dom_slots.specs.declared.waiting.Waiting.{Waiting}
 
 -- those that wait under a name, in their order
 abbrev pub waiting_under : Waiting → List ℕ → List ℕ
-waiting_under w name = option_map_or (λ v. v.items) (get_by (λ k. pointwise nat_eq name k.now) w.lists) []
+waiting_under w name = option_map_or (λ v. v.items) (get_by (λ k. slice_cmp nat_cmp name k.now) w.lists) []
 
 -- whether a name is the one that is wanted, if one is
 abbrev pub is_wanted : Option (List ℕ) → List ℕ → Bool

@@ -5,7 +5,7 @@ ghost use Rattle.dom_slots.specs.Index.{bearer_at, name_code, MayHave};
 use dom_attributes::mix;
 use node_arena::Key;
 use std::alloc::{AllocError, Global};
-use std::collections::HashMap;
+use std::collections::BTreeMap;
 
 /// Which nodes may have a name.
 #[derive(Clone, Copy)]
@@ -42,10 +42,11 @@ fn name_code(root: Key, name: &[u16]) -> u64
     number
 }
 
-/// For the number of each name in the tree of a shadow root, who may have it. It says more than there is, and never less.
+/// For the number of each name in the tree of a shadow root, who may have it. It says more than there is, and never less. The numbers are
+/// ordered and not hashed, so that no choice of names makes it slow.
 #[derive(Drop)]
 pub(crate) struct NameIndex {
-    bearers: HashMap<u64, Bearer>,
+    bearers: BTreeMap<u64, Bearer>,
 }
 
 impl NameIndex {
@@ -54,7 +55,7 @@ impl NameIndex {
         ensures { result.bearers.entries ≡ [] }
     {
         NameIndex {
-            bearers: HashMap::new(alloc),
+            bearers: BTreeMap::new(alloc),
         }
     }
 

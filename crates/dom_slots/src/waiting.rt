@@ -11,12 +11,12 @@ use crate::find::{looks_for, slottable_name};
 use dom_tree::Forest;
 use node_arena::Key;
 use std::alloc::{AllocError, Global};
-use std::collections::HashMap;
+use std::collections::BTreeMap;
 
 /// Children of a host that wait for slots: for each name those that look for it, in their order.
 #[derive(Drop)]
 pub(crate) struct Waiting<'a> {
-    lists: HashMap<&'a [u16], Vec<Key>>,
+    lists: BTreeMap<&'a [u16], Vec<Key>>,
     alloc: Global,
 }
 
@@ -62,7 +62,7 @@ impl<'a> Waiting<'a> {
         ensures { (name : List ℕ) → waiting_under result name ≡ [] }
     {
         Waiting {
-            lists: HashMap::new(alloc),
+            lists: BTreeMap::new(alloc),
             alloc,
         }
     }

@@ -1,7 +1,8 @@
 -- Which nodes may have an ID, as a table says it by numbers of IDs: it may name too many, and never too few.
-use Rattle.std.specs.Prelude.{◌≡◌, ◌≢◌, ◌⊎◌, ◌<◌, ℕ, List, codes, fold, length, nat_eq, slice_get, Option, Some, None}
-use Rattle.std.specs.Option.{option_map}
-use Rattle.std.specs.HashMap.{get, spare}
+use Rattle.std.specs.Prelude.{◌≡◌, ◌≢◌, ◌⊎◌, ◌<◌, ℕ, List, codes, fold, length, slice_get, Option, Some, None, is_some, true}
+use Rattle.std.specs.Option.{option_flatten, option_map}
+use Rattle.std.specs.Ordering.{nat_cmp}
+use Rattle.std.specs.BTreeMap.{get}
 use Rattle.dom_base.specs.declared.Owner.{Owner}
 use Rattle.dom_base.specs.declared.Owner.TheVariants.{Page, Component}
 use Rattle.dom_base.specs.declared.NodeName.{NodeName}
@@ -52,12 +53,12 @@ MayBear (Some (Some j)) k = j ≡ k
 
 -- who may have the IDs, by their numbers
 abbrev pub bearers_of : IdTable → ℕ → Option Bearer
-bearers_of t h = get nat_eq t.bearers h
+bearers_of t h = option_flatten (get nat_cmp t.bearers h)
 
 -- there is room for one number more, if one is given
 abbrev pub HasRoomFor : Option ℕ → IdTable → Type 0
 HasRoomFor None t = Unit {0}
-HasRoomFor (Some h) t = 0 < spare t.bearers
+HasRoomFor (Some h) t = is_some (get nat_cmp t.bearers h) ≡ true
 
 -- who may have an ID still may, and if one alone may that was not so, it is this node
 pub record Widens (f g : ℕ → Option Bearer) (k : ℕ) : Type 0 where

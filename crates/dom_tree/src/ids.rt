@@ -1,6 +1,8 @@
 //! Which nodes may have an ID (DOM Standard, concept: ID), as far as a table of numbers says it.
-ghost use Rattle.std.specs.Prelude.{◌≡◌, ◌<◌, ℕ, true, Option, None, Some, IfOk, OnOk, IsOk, codes};
-ghost use Rattle.std.specs.HashMap.{spare};
+ghost use Rattle.std.specs.Prelude.{◌≡◌, ℕ, true, is_some, Option, None, Some, IfOk, OnOk, IsOk, codes};
+ghost use Rattle.std.specs.BTreeMap.{get};
+ghost use Rattle.std.specs.Ordering.{nat_cmp};
+ghost use Rattle.std.specs.Option.{option_map};
 ghost use Rattle.dom_model.specs.Names.{text_eq};
 ghost use Rattle.dom_model.specs.TreeChanges.{attributes_with, attributes_without};
 ghost use Rattle.dom_tree.specs.Contents.{stored_from};
@@ -11,7 +13,7 @@ use dom_attributes::mix;
 use dom_base::{DomStr, Owner};
 use node_arena::Key;
 use std::alloc::{AllocError, Global};
-use std::collections::HashMap;
+use std::collections::BTreeMap;
 
 /// Which of an owner's nodes may have an ID.
 #[derive(Clone, Copy)]
@@ -71,10 +73,11 @@ fn is_id(name: &str) -> bool
     name == "id"
 }
 
-/// For the number of each ID, who may have it. It says more than there is, and never less.
+/// For the number of each ID, who may have it, or that there is room for it. It says more than there is, and never less. The numbers are
+/// ordered and not hashed, so that no choice of IDs makes the table slow.
 #[derive(Drop)]
 pub(crate) struct IdTable {
-    bearers: HashMap<u64, Bearer>,
+    bearers: BTreeMap<u64, Option<Bearer>>,
 }
 
 impl IdTable {
@@ -83,7 +86,7 @@ impl IdTable {
         ensures { (h : ℕ) → bearers_of result h ≡ None }
     {
         IdTable {
-            bearers: HashMap::new(alloc),
+            bearers: BTreeMap::new(alloc),
         }
     }
 
@@ -91,10 +94,20 @@ impl IdTable {
     pub(crate) fn only_bearer(&self, number: u64) -> Option<Option<Key>>
         ensures { result ≡ only_bearer (bearers_of self.now number) }
     {
-        match self.bearers.get(&number) {
+        match self.bearer(number) {
             None => Some(None),
             Some(Bearer::Only(key)) => Some(Some(*key)),
             Some(Bearer::Several) => None,
+        }
+    }
+
+    /// Who may have the ID of this number, if any may.
+    fn bearer(&self, number: u64) -> Option<&Bearer>
+        ensures { option_map (λ b. b.now) result ≡ bearers_of self.now number }
+    {
+        match self.bearers.get(&number) {
+            Some(bearer) => bearer.as_ref(),
+            None => None,
         }
     }
 
@@ -105,22 +118,33 @@ impl IdTable {
         ensures room { OnOk result (HasRoomFor number self.new) }
     {
         match number {
-            Some(_) => self.bearers.reserve(1),
+            Some(number) => self.make_room_for(number),
             None => Ok(()),
         }
+    }
+
+    /// Makes room for a number.
+    fn make_room_for(&mut self, number: u64) -> Result<(), AllocError>
+        ensures same { (h : ℕ) → bearers_of self.new h ≡ bearers_of self.old h }
+        ensures room { OnOk result (is_some (get nat_cmp self.new.bearers number) ≡ true) }
+    {
+        if self.bearers.get(&number).is_none() {
+            let _ = self.bearers.insert(number, None)?;
+        }
+        Ok(())
     }
 
     /// From now on a node too may have the ID of this number. Where memory is refused, nothing is changed.
     fn note(&mut self, number: u64, key: Key) -> Result<(), AllocError>
         ensures widens { Widens (bearers_of self.old) (bearers_of self.new) key }
         ensures noted { OnOk result (MayHave (bearers_of self.new number) key) }
-        ensures succeeds { 0 < spare self.old.bearers → IsOk result }
+        ensures succeeds { is_some (get nat_cmp self.old.bearers number) ≡ true → IsOk result }
     {
-        let bearer = match self.bearers.get(&number) {
+        let bearer = match self.bearer(number) {
             Some(bearer) => bearer.with(key),
             None => Bearer::Only(key),
         };
-        let _ = self.bearers.insert(number, bearer)?;
+        let _ = self.bearers.insert(number, Some(bearer))?;
         Ok(())
     }
 
@@ -150,7 +174,7 @@ impl IdTable {
     fn forget_number(&mut self, number: u64, key: Key)
         ensures { Narrows (Some number) (bearers_of self.old) (bearers_of self.new) key }
     {
-        if let Some(Bearer::Only(only)) = self.bearers.get(&number)
+        if let Some(Bearer::Only(only)) = self.bearer(number)
             && only.index() == key.index()
         {
             let _ = self.bearers.remove(&number);

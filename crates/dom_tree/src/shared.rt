@@ -5,12 +5,12 @@ ghost use Rattle.std.specs.Rc.{rc_str_bytes};
 use dom_attributes::{SharedNames, Signs, is_same_text};
 use dom_base::Owner;
 use std::alloc::{AllocError, Global};
-use std::collections::HashSet;
+use std::collections::BTreeSet;
 use std::marker::Model;
 use std::rc::{Rc, RcStr};
 
 /// The owner of some nodes and their local name, which is empty where they are no elements.
-#[derive(PartialEq, Eq, Hash, Drop)]
+#[derive(PartialEq, Eq, PartialOrd, Ord, Drop)]
 pub(crate) struct Shared {
     pub(crate) owner: Owner,
     pub(crate) element: RcStr,
@@ -57,7 +57,7 @@ impl Kept {
     }
 }
 
-/// How many are compared one after another, before the others are found by a hash.
+/// How many are compared one after another, before the others are found in their order.
 const FEW: usize = 8;
 
 impl Shared {
@@ -77,7 +77,7 @@ pub(crate) struct SharedTable {
     few: Vec<Kept>,
     /// The place among the few that was found last.
     last: usize,
-    others: HashSet<Rc<Shared>>,
+    others: BTreeSet<Rc<Shared>>,
     names: SharedNames,
     alloc: Global,
 }
@@ -88,7 +88,7 @@ impl SharedTable {
         SharedTable {
             few: Vec::new(alloc),
             last: 0,
-            others: HashSet::new(alloc),
+            others: BTreeSet::new(alloc),
             names: SharedNames::new(alloc),
             alloc,
         }
@@ -132,7 +132,9 @@ impl SharedTable {
             self.few.push(kept.again()?)?;
             return Ok(kept);
         }
-        if let Some(kept) = self.others.get(&shared) {
+        if let Some(kept) = self.others.get(&shared)
+            && kept.is(shared.owner, shared.element.as_str())
+        {
             return Ok(Kept::of(kept.clone()?));
         }
         let _ = self.others.insert(shared.clone()?)?;

@@ -1,22 +1,20 @@
-use Rattle.dom_base.proofs.Std.{Some, ap, ◌∙◌, rc_str_bytes}
+use Rattle.dom_base.proofs.Std.{Some, refl, ap, ◌∙◌, option_map, rc_str_bytes}
 use Rattle.dom_attributes.specs.Attributes.{value_among}
 use Rattle.dom_attributes.proofs.FewAttributes.{place-at, place-off, named, found-value, off-value}
 use Rattle.dom_attributes.proofs.several_attributes.SeveralAttributes.get.Goals as goal
 
-pub returns-in-Some : goal.returns-in-Some
-returns-in-Some c =
-    let few = c.self.inside.few.items in
-    let others = c.self.inside.others in
-    ap Some c.as_slice.ensures.value
-    ∙ (found-value rc_str_bytes (λ v. v.items) c.args.name.now others few c.in-Some.place c.index.result.now
-    (place-at (named rc_str_bytes (λ v. v.items) c.args.name.now others) c.place_of.ensures
-    c.deref.ensures.value c.in-Some.is) c.index.ensures ∙ ap (value_among c.args.name.now) c.self.view_is)
+pub returns-in_err-place : goal.returns-in_err-place
+returns-in_err-place c =
+    let list = c.self.inside.list.items in
+    let a = c.args.name.now in
+    ap (option_map (λ v. v.now)) c.from_residual.ensures
+    ∙ off-value rc_str_bytes (λ v. v.items) a list (place-off (named rc_str_bytes (λ v. v.items) a) list c.deref.result.now _ c.in_err-place.ensures
+    c.deref.ensures.value refl) ∙ ap (value_among a) c.self.view_is
 
-pub returns-in-None : goal.returns-in-None
-returns-in-None c =
-    let few = c.self.inside.few.items in
-    let others = c.self.inside.others in
-    c.get.ensures
-    ∙ (off-value rc_str_bytes (λ v. v.items) c.args.name.now others few
-    (place-off (named rc_str_bytes (λ v. v.items) c.args.name.now others) few c.deref.result.now c.place_of.result c.place_of.ensures
-    c.deref.ensures.value c.in-None.is) ∙ ap (value_among c.args.name.now) c.self.view_is)
+pub returns : goal.returns
+returns c =
+    let list = c.self.inside.list.items in
+    let a = c.args.name.now in
+    ap Some c.as_slice.ensures.value
+    ∙ found-value rc_str_bytes (λ v. v.items) a list c.in_ok-place.place c.index.result.now
+    (place-at (named rc_str_bytes (λ v. v.items) a) c.in_ok-place.ensures c.deref.ensures.value refl) c.index.ensures ∙ ap (value_among a) c.self.view_is
