@@ -4,11 +4,13 @@ use Rattle.dom_mutation.proofs.Cited.{◌≡◌, ℕ, ◌+◌, ◌<◌, ◌≤�
 use Rattle.dom_mutation.proofs.Cited.{NodeName, Owner, Plan, Observing, suppressed, in_turn, doing, remove_plan, emptying, past_limit, DomString, Change}
 use Rattle.dom_mutation.proofs.Cited.{child_list, make, queue_record, after, replacing_data, new_text_node, Part, next_name, Node, has_data, kind_of}
 use Rattle.dom_mutation.proofs.Cited.{children_of, parent_of, index_of, World, part_of, HasBounds, IsPart, name_at, DocState, owner_in, planned, PlansOwn}
-use Rattle.dom_mutation.proofs.Cited.{IsAlone, removals-keep, emptying-keeps, index_few, plan_alone}
-use Rattle.dom_mutation.proofs.Cited.{keeps-and_then, keeps-each, keeps-removing, keeps-replacing_data, own_moves, own_rules}
+use Rattle.dom_mutation.proofs.Cited.{IsAlone, keeps-and_then, keeps-each, keeps-removing, keeps-replacing_data}
 use Rattle.dom_worlds.proofs.RangeLemmas.{make-keeps, queue_record-keeps, removal-keeps, data-keeps}
-use Rattle.dom_parts.proofs.OwnParts.{children_few}
+use Rattle.dom_mutation.proofs.OwnParts.{children_few}
 use Rattle.dom_mutation.proofs.Grown.{IsMade, same_name}
+use Rattle.dom_mutation.proofs.BoundedPlans.{removals-keep, emptying-keeps, index_few}
+use Rattle.dom_mutation.proofs.Made.{plan_alone}
+use Rattle.dom_mutation.proofs.OwnPlans.{own_moves, own_rules}
 
 module _ (o : Owner) (d : DocState) (alone : IsAlone d.world o) (part : IsPart (part_of d.world o)) (bounds : HasBounds (part_of d.world o)) where
   -- after a plan that keeps the bounds in the owner's part

@@ -4,12 +4,14 @@ use Rattle.dom_mutation.proofs.Cited.{arith, ◌==◌, if◌then◌else◌, eqb-
 use Rattle.dom_mutation.proofs.Cited.{inclusive_ancestors, is_inclusive_ancestor, child_list, next_name, Step, make, queue_record, World, part_of, world_after}
 use Rattle.dom_mutation.proofs.Cited.{Plan, ◌and_then◌, doing, steps_of, only_if, in_turn, suppressed, remove_plan, insert_plan, document_below, new_text_node}
 use Rattle.dom_mutation.proofs.Cited.{replacing_children, owner-part_of, name_at, DocState, made, planned, stepped, name_in, owner_in, trees_in, MayMove}
-use Rattle.dom_mutation.proofs.Cited.{NoneAbove, putting_text, PlansOwn, IsAlone, lacks_to, Each, each_all, children_parent, made_then, made_turn, planned_then}
-use Rattle.dom_mutation.proofs.Cited.{alone_made, keeps-and_then, keeps-each, keeps-in_turn, keeps-inserting, keeps-removing, own_moves}
+use Rattle.dom_mutation.proofs.Cited.{NoneAbove, putting_text, PlansOwn, IsAlone, lacks_to, Each, each_all, children_parent}
+use Rattle.dom_mutation.proofs.Cited.{keeps-and_then, keeps-each, keeps-in_turn, keeps-inserting, keeps-removing}
 use Rattle.dom_mutation.proofs.Placed.{Counted, once_in}
 use Rattle.dom_mutation.proofs.Replaced.{child_below}
 use Rattle.dom_mutation.proofs.Grown.{IsMade, same_name, new_name, same_children, alone_new}
 use Rattle.dom_base.proofs.Std.{and-false}
+use Rattle.dom_mutation.proofs.Made.{made_then, made_turn, planned_then, alone_made}
+use Rattle.dom_mutation.proofs.OwnPlans.{own_moves}
 
 -- a node's children are not above it
 pub none_above_parent : (d : DocState) → Counted d → (node : ℕ) (ks : List ℕ) →

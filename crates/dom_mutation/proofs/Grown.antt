@@ -6,8 +6,10 @@ use Rattle.dom_mutation.proofs.Cited.{trees_below, node_in, parent_of, children_
 use Rattle.dom_mutation.proofs.Cited.{Part, next_name, make, World, part_of, ◌and_then◌, doing, new_text_node, placing_tail, replacing_data, splitting}
 use Rattle.dom_mutation.proofs.Cited.{name_eq-same, name_eq-true, owner-part_of, name_at, times_in-none, times_in-tree, one-true, Once, lacks_to, path_after}
 use Rattle.dom_mutation.proofs.Cited.{path_lacks, path_put_root, path_root, DocState, made, planned, name_in, owner_in, trees_in, cutting_tail, IsAlone}
-use Rattle.dom_mutation.proofs.Cited.{made_then, alone_after, keeps-and_then, keeps-placing_tail, own_moves, own_rules}
+use Rattle.dom_mutation.proofs.Cited.{keeps-and_then, keeps-placing_tail}
 use Rattle.dom_mutation.proofs.Placed.{Counted, once_in}
+use Rattle.dom_mutation.proofs.Made.{made_then, alone_after}
+use Rattle.dom_mutation.proofs.OwnPlans.{own_moves, own_rules}
 
 -- ---- a tree of one node among others
 

@@ -5,10 +5,11 @@ use Rattle.dom_mutation.proofs.Cited.{trees_below, subtree, children_of, kind_of
 use Rattle.dom_mutation.proofs.Cited.{Part, Step, part_of, world_after, Plan, Observing, ◌and_then◌, in_turn, steps_of, telling, emptying, making_room, placing}
 use Rattle.dom_mutation.proofs.Cited.{sibling_before, insert_plan, name_eq-same, times_in-tree, one-true, Lacks, lacks_from, lacks_to, below_lacks, Each}
 use Rattle.dom_mutation.proofs.Cited.{each_all, parent_path, DocState, planned, placed_all, name_in, owner_in, trees_in, MayMove, IsChild, NoneAbove, PlansOwn}
-use Rattle.dom_mutation.proofs.Cited.{IsAlone, planned_then, children_own, all-then}
-use Rattle.dom_mutation.proofs.Cited.{keeps-and_then, keeps-emptying, keeps-in_turn, keeps-making_room, keeps-placing, own_moves}
+use Rattle.dom_mutation.proofs.Cited.{IsAlone, all-then, keeps-and_then, keeps-emptying, keeps-in_turn, keeps-making_room, keeps-placing}
 use Rattle.dom_mutation.proofs.Placed.{Counted, once_in, before_lacks}
 use Rattle.dom_mutation.proofs.Turns.{Stays}
+use Rattle.dom_mutation.proofs.Made.{planned_then}
+use Rattle.dom_mutation.proofs.OwnPlans.{children_own, own_moves}
 
 module _ (o : Owner) (how : Observing) (node parent : NodeName) (before : Option NodeName) where
   -- what an insertion does with the nodes that it places

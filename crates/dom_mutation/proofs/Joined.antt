@@ -1,17 +1,15 @@
 -- Normalization: the Texts directly after a Text, their data, and the Texts below a node.
 use Rattle.dom_mutation.proofs.Cited.{◌≡◌, ℕ, suc, ◌<◌, ◌≤◌, inl, inr, Bool, true, false, List, [], ◌∷◌, ◌++◌, drop, length, map, Option, Some, None}
 use Rattle.dom_mutation.proofs.Cited.{option_map, refl, sym, ap, subst, ◌∙◌, arith, ◌==◌, ◌||◌, filter, flat_map, take_while, if◌then◌else◌, AllByRecursion}
-use Rattle.dom_mutation.proofs.Cited.{ForSome, option_map_or, cases_Bool, cond-true, cond-false, or_left, map-append, append-nil, append_assoc}
-use Rattle.dom_mutation.proofs.Cited.{drop-append-le, filter-append, none-some, same_Some, take_while-cons, NodeName, Owner, DomString, name_eq, first_of}
-use Rattle.dom_mutation.proofs.Cited.{is_empty, is_in}
-use Rattle.dom_mutation.proofs.Cited.{Step, items_before, items_after, Trees, kind_of, is_text, node_in, length_of, siblings, parent_of}
-use Rattle.dom_mutation.proofs.Cited.{from_next, from_sibling, next_sibling, has_node, has_node-times, is_inclusive_ancestor, inclusive_ancestors}
-use Rattle.dom_mutation.proofs.Cited.{observed, remove_plan, contiguous_texts_after, joining, normalizing_text, name_eq-same, name_at, DocState}
-use Rattle.dom_mutation.proofs.Cited.{planned, name_in, owner_in, trees_in, IsOwnNode, Once, once_subtree, first_inside, self-above}
-use Rattle.dom_mutation.proofs.Cited.{◌&&◌, not, by_cases, needs_normalizing, inclusive_descendants, part_of, subtree, world_after, NoTwice}
-use Rattle.dom_mutation.proofs.Cited.{names_once, walked, StandsIn, left, Walks, walks}
+use Rattle.dom_mutation.proofs.Cited.{ForSome, option_map_or, cases_Bool, cond-true, cond-false, or_left, map-append, append-nil, append_assoc, drop-append-le}
+use Rattle.dom_mutation.proofs.Cited.{filter-append, none-some, same_Some, take_while-cons, NodeName, Owner, DomString, name_eq, first_of, is_empty, is_in}
+use Rattle.dom_mutation.proofs.Cited.{Step, items_before, items_after, Trees, kind_of, is_text, node_in, length_of, siblings, parent_of, from_next}
+use Rattle.dom_mutation.proofs.Cited.{from_sibling, next_sibling, has_node, has_node-times, is_inclusive_ancestor, inclusive_ancestors, observed, remove_plan}
+use Rattle.dom_mutation.proofs.Cited.{contiguous_texts_after, joining, normalizing_text, name_eq-same, name_at, DocState, planned, name_in, owner_in, trees_in}
+use Rattle.dom_mutation.proofs.Cited.{IsOwnNode, Once, once_subtree, first_inside, self-above, ◌&&◌, not, by_cases, needs_normalizing, inclusive_descendants}
+use Rattle.dom_mutation.proofs.Cited.{part_of, subtree, world_after, NoTwice, names_once, walked, StandsIn, left, Walks, walks}
 use Rattle.dom_tree.proofs.Owned.{read_own, stays_own}
-use Rattle.dom_parts.proofs.OwnNodes.{next_near}
+use Rattle.dom_mutation.proofs.OwnNodes.{next_near}
 use Rattle.dom_tree.specs.Definitions.{AreOwned, NamedTrees, trees_of_owner}
 use Rattle.dom_mutation.proofs.Placed.{Counted, once_in}
 use Rattle.dom_mutation.proofs.Listing.{all_push}

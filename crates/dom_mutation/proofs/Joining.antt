@@ -2,11 +2,13 @@
 -- are those that were planned before.
 use Rattle.dom_mutation.proofs.Cited.{◌≡◌, ℕ, true, List, map, Some, sym, ap, subst, ◌∙◌, flat_map, NodeName, DomString, Part, after, replacing_data, joins}
 use Rattle.dom_mutation.proofs.Cited.{contiguous_texts_after, node_in, has_node, is_text, kind_of, parent_of, length_of, part_of, HasBounds, IsPart, name_at}
-use Rattle.dom_mutation.proofs.Cited.{DocState, JoinsFit, name_in, owner_in, trees_in, planned, IsAlone, joining-joins_fit, plan_alone}
-use Rattle.dom_mutation.proofs.Cited.{keeps-replacing_data, own_rules}
+use Rattle.dom_mutation.proofs.Cited.{DocState, JoinsFit, name_in, owner_in, trees_in, planned, IsAlone, keeps-replacing_data}
 use Rattle.dom_worlds.proofs.RangeLemmas.{text-data}
 use Rattle.dom_mutation.proofs.BoundedDocs.{bounds_grown}
 use Rattle.dom_mutation.proofs.ExactJoins.{joins_after}
+use Rattle.dom_mutation.proofs.BoundedPlans.{joining-joins_fit}
+use Rattle.dom_mutation.proofs.Made.{plan_alone}
+use Rattle.dom_mutation.proofs.OwnPlans.{own_rules}
 
 -- the joins are those that were planned, each fits, and the live ranges' offsets are within lengths
 pub record IsGrown (d e : DocState) (node parent size : ℕ) (ks : List ℕ) : Type 0 where

@@ -1,30 +1,82 @@
--- Lemmas of the Standard's mutation algorithms, and on what a `Doc` is ready for.
+-- Lemmas of what a `Doc` holds, of its elementary steps, and of the Standard's mutation algorithms.
 mod Cited
-pub mod BoundedDocs
+mod Attachable
+mod Attached
+mod AttachedWorlds
+mod Beside
+mod BoundedDocs
+mod BoundedPlans
+mod Connected
+mod Covering
+mod CursorCommands
+mod Cursors
+mod DocInvariant
+pub mod DocLemmas
 mod Emptied
 mod ExactJoins
 mod Grown
+mod HeldNodes
+mod HostedDocuments
+mod HostedSteps
+mod HostedWorlds
+mod HostsOfOwners
 mod Inserted
 mod Joined
+mod JoinedEach
 mod Joining
+mod Keeping
+mod Limits
 mod Listing
+mod Made
+mod NamesByKey
 mod NoData
 mod Nodes
 mod NormalizedEach
-pub mod Placed
-pub mod ReadyCalls
-pub mod ReadyEnds
+mod Numbers
+mod Observed
+mod Observing
+mod Own
+mod OwnNodes
+mod OwnParts
+mod OwnPlans
+mod OwnSteps
+mod OwnersOfNodes
+mod Placed
+mod Quiet
+mod RangeCommands
+mod RangeRules
+mod RangeSteps
+mod RangedCalls
+mod RangedFits
+mod RangedKeeping
+mod RangedLists
+mod RangedOwners
+mod RangedRefusals
+mod RangedStates
+mod RangedSteps
+mod ReadyCalls
+mod ReadyEnds
 mod ReadyFirst
-pub mod ReadyPlans
+mod ReadyPlans
 mod ReadyRoots
 mod ReadyTables
 mod ReadyWorlds
 mod Recorded
+mod Records
 mod Replaced
+mod Roots
+mod RootsBelow
+mod Shown
+mod Signalling
+mod Signals
+mod Steps
 mod StillCalls
 mod StillEffects
 mod StillNew
-pub mod StillParts
+mod StillParts
 mod StillWorlds
 mod Tails
-pub mod Turns
+mod Taking
+mod Tasks
+mod Turns
+mod Worlds

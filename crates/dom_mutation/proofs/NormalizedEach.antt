@@ -2,8 +2,10 @@
 use Rattle.dom_mutation.proofs.Cited.{◌≡◌, ℕ, suc, Bool, true, false, ◌+◌, ◌<◌, get_or, drop-cons, add-one, List, [], ◌∷◌, drop, length, map, refl, sym, ap}
 use Rattle.dom_mutation.proofs.Cited.{subst, ◌∙◌, AllByRecursion, filter, if◌then◌else◌, NodeName, in_turn, after, normalizing_text, has_node, kind_of, is_text}
 use Rattle.dom_mutation.proofs.Cited.{Part, part_of, HasBounds, IsPart, name_at, DocState, IsOwnNode, name_in, owner_in, trees_in, planned, IsAlone}
-use Rattle.dom_mutation.proofs.Cited.{has_node-times, leads-normalizing_text, normalized_text-keeps, normalized_text-leaves, all_drop, alone_made, plan_alone}
-use Rattle.dom_mutation.proofs.Cited.{planned_turn, keeps-normalizing_text, own_rules}
+use Rattle.dom_mutation.proofs.Cited.{has_node-times, leads-normalizing_text, all_drop, keeps-normalizing_text}
+use Rattle.dom_mutation.proofs.BoundedPlans.{normalized_text-keeps, normalized_text-leaves}
+use Rattle.dom_mutation.proofs.Made.{alone_made, plan_alone, planned_turn}
+use Rattle.dom_mutation.proofs.OwnPlans.{own_rules}
 
 -- ---- one Text after another
 

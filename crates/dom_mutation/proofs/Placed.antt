@@ -5,8 +5,9 @@ use Rattle.dom_mutation.proofs.Cited.{Trees, nodes, next_sibling, parent_of, inc
 use Rattle.dom_mutation.proofs.Cited.{with_document, Part, place, take_out, set_document, after, part_step, leave, part_of, Observing, observed, suppressed}
 use Rattle.dom_mutation.proofs.Cited.{remove_plan, removing_from, changing_document, adopt_plan, has_document, only_if, name_at, DocState, planned, stepped}
 use Rattle.dom_mutation.proofs.Cited.{name_in, owner_in, trees_in, MayMove, IsChild, KeepsPaths, IsAlone, Lacks, lacks_from, Once, once_counted, path_taken}
-use Rattle.dom_mutation.proofs.Cited.{path_placed, parent_taken, path_mapped, parent_path, next_child, trees_after, alone_made, after-append}
-use Rattle.dom_mutation.proofs.Cited.{keeps-adopting, keeps-removing, own_moves}
+use Rattle.dom_mutation.proofs.Cited.{path_placed, parent_taken, path_mapped, parent_path, next_child, after-append, keeps-adopting, keeps-removing}
+use Rattle.dom_mutation.proofs.Made.{trees_after, alone_made}
+use Rattle.dom_mutation.proofs.OwnPlans.{own_moves}
 
 -- a removal
 abbrev Removed : NodeName → Trees → Trees → Type 0

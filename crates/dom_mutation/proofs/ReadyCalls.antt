@@ -1,14 +1,14 @@
 -- What a call of a `Doc` leaves is ready, by what its contract says of the world.
 use Rattle.dom_mutation.proofs.Cited.{◌≡◌, ◌↔◌, ◌<◌, ℕ, zero, suc, Bool, true, false, true≢false, List, [], ◌∷◌, length, Option, Some, Ok, Err, refl, sym, ap}
-use Rattle.dom_mutation.proofs.Cited.{◌∙◌, subst, OnOk, OnErr, IfOk, Result, IsTrue, is_some, slice_get, slice_set, AllByRecursion, option_flatten}
+use Rattle.dom_mutation.proofs.Cited.{⊤, IfErr, ◌∙◌, subst, OnOk, OnErr, IfOk, Result, IsTrue, is_some, slice_get, slice_set, AllByRecursion, option_flatten}
 use Rattle.dom_mutation.proofs.Cited.{on_ok_weaker, NodeName, Owner, Refusal, IndexSize, Plan, doing, Command, NodeWord, own, effect, named, past_end, node_of}
 use Rattle.dom_mutation.proofs.Cited.{Value, Said, nothing, Part, first_node, range_at, Range, Step, make, set_document, set_range, part_step, after, Trees}
-use Rattle.dom_mutation.proofs.Cited.{Node, has_node, is_shadow, notified, World, part_of, with_part, owner-part_of, owner-part_step, part_of-stepped}
-use Rattle.dom_mutation.proofs.Cited.{EndsWithin, EndsIn, IsNodeIn, IsPart, Fits, MadeIn, SetsEnd, DocState, Makes, MakesSaying, made, planned, stepped}
-use Rattle.dom_mutation.proofs.Cited.{name_in, owner_in, trees_in, IsAlone, SetsOwnDocuments, IsReadyPart, AreReady, IsReady, MayStand}
+use Rattle.dom_mutation.proofs.Cited.{Node, has_node, is_shadow, World, part_of, owner-part_of, owner-part_step, part_of-stepped, EndsWithin, EndsIn, IsNodeIn}
+use Rattle.dom_mutation.proofs.Cited.{IsPart, Fits, MadeIn, DocState, Makes, MakesSaying, made, planned, stepped, name_in, owner_in, trees_in, IsAlone}
+use Rattle.dom_mutation.proofs.Cited.{SetsOwnDocuments, IsReadyPart, AreReady, IsReady, MayStand}
 use Rattle.dom_mutation.proofs.ReadyPlans.{KeepReady, ready-make, ready-set_range}
-use Rattle.dom_mutation.proofs.ReadyTables.{ReadyEffect, ready-makes, ready-same}
-use Rattle.dom_mutation.proofs.ReadyWorlds.{ready-made, ready-written}
+use Rattle.dom_mutation.proofs.ReadyTables.{ReadyEffect, ready-makes}
+use Rattle.dom_mutation.proofs.ReadyWorlds.{ready-made}
 
 -- steps that fit set the owner's own node documents
 own-documents : (o : Owner) (p : Part) (steps : List Step) → p.owner ≡ o → MadeIn p steps → AllByRecursion (SetsOwnDocuments o) steps
@@ -74,12 +74,7 @@ module _ (b e : DocState) (o : Owner) (c : Command) (h : IsReady b) (keep : IsRe
   pub table-ready : {lines : List Said} {v : Value} → MakesSaying o c lines v b.world e.world → IsReady e
   table-ready m = ready-makes o c b.world m h (keep (h o))
 
-  -- where it is done
-  pub table-done : {X E : Type 0} (m : Result X E) (v : Value) → OnOk m (Makes o c v b.world e.world) → OnErr m (e ≡ b) → IsReady e
-  table-done (Ok x) v w same = table-ready w
-  table-done (Err y) v w same = subst IsReady (sym same) h
-
-  -- and from what it answers then
+  -- from what it answers
   pub table-answered : {X E : Type 0} (m : Result X E) (v : X → Value) → IfOk m (λ x. Makes o c (v x) b.world e.world) → OnErr m (e ≡ b) → IsReady e
   table-answered (Ok x) v w same = table-ready w
   table-answered (Err y) v w same = subst IsReady (sym same) h
@@ -107,32 +102,37 @@ within-done (Err r) past h f p = tt
 within-done (Ok x) false h f p = f refl p
 within-done (Ok x) true h f p = let e : Ok x ≡ Err IndexSize = h.1 refl in absurd cc
 
+-- what a call says that sets an end of a live range by an owner's command, or is refused as the offset is past the node's end
+pub record SetsEnd (o : Owner) (c : Command) (node offset : ℕ) (r : Result ⊤ Refusal) (was now : DocState) : Type 0 where
+  pub names : now.names ≡ was.names
+  pub world : OnOk r (Makes o c nothing was.world now.world)
+  pub refused : (r ≡ Err IndexSize) ↔ (past_end (part_of was.world o) (name_in was node) offset ≡ true)
+  pub other : IfErr r (λ refusal. refusal ≡ IndexSize)
+  pub err : OnErr r (now ≡ was)
+
 -- A live range gets another end, at an offset in a node of its owner.
-module _ (b d e : DocState) (same : b ≡ d) (laws : HasLaws b) (o : Owner) (k offset : ℕ) (there : k < length d.names) (mine : owner_in d k ≡ o)
-    (h : IsReady b) where
+module _ (d e : DocState) (laws : HasLaws d) (o : Owner) (k offset : ℕ) (there : k < length d.names) (mine : owner_in d k ≡ o) (h : IsReady d) where
   abbrev p : Part
-  p = part_of b.world o
+  p = part_of d.world o
 
   -- the node as the command names it
   abbrev x : NodeName
-  x = named p (own (name_in b k).number)
+  x = named p (own (name_in d k).number)
 
   here : IsNodeIn p.trees x
-  here =
-      subst (λ (a : DocState). IsNodeIn (part_of a.world o).trees (named (part_of a.world o) (own (name_in a k).number))) (sym same)
-      (subst (IsNodeIn (part_of d.world o).trees) (sym (named-own d.world o (name_in d k) mine)) (stands-in d k o (subst HasLaws same laws) there mine))
+  here = subst (IsNodeIn p.trees) (sym (named-own d.world o (name_in d k) mine)) (stands-in d k o laws there mine)
 
-  within : past_end p (name_in b k) offset ≡ false → past_end p x offset ≡ false
-  within low = ap (λ y. past_end p y offset) (named-own b.world o (name_in b k) (ap (λ (a : DocState). owner_in a k) same ∙ mine)) ∙ low
+  within : past_end p (name_in d k) offset ≡ false → past_end p x offset ≡ false
+  within low = ap (λ y. past_end p y offset) (named-own d.world o (name_in d k) mine) ∙ low
 
   pub end-set : (number : ℕ) (c : ℕ → NodeWord → ℕ → Command) → ((q : Part) → IsReadyPart q → (n : ℕ) (y : NodeWord) (i : ℕ) → IsPart q →
       IsNodeIn q.trees (named q y) → past_end q (named q y) i ≡ false → ReadyEffect (effect q (c n y i))) →
-      {m : Result (Unit {0}) Refusal} → SetsEnd o (c number (own (name_in b k).number) offset) k offset m b e → IsReady e
+      {m : Result (Unit {0}) Refusal} → SetsEnd o (c number (own (name_in d k).number) offset) k offset m d e → IsReady e
   end-set number c ready {m} says =
-      let word = own (name_in b k).number in
-      or-same m b e says.err h
-      (within-done {P = Makes o (c number word offset) nothing b.world e.world} {Q = IsReady e} m (past_end p (name_in b k) offset) says.refused
-      (λ low n. table-ready b e o (c number word offset) h (λ r. ready p r number word offset (laws.parts o) here (within low)) {lines = []} {v = nothing} n)
+      let word = own (name_in d k).number in
+      or-same m d e says.err h
+      (within-done {P = Makes o (c number word offset) nothing d.world e.world} {Q = IsReady e} m (past_end p (name_in d k) offset) says.refused
+      (λ low n. table-ready d e o (c number word offset) h (λ r. ready p r number word offset (laws.parts o) here (within low)) {lines = []} {v = nothing} n)
       says.world)
 
 -- So do these calls.
@@ -166,13 +166,3 @@ stands-then e o k r there h =
     at ts [] k there ends within = absurd (true≢false (sym there))
     at ts (x ∷ rs) zero there ends within = record { ends = ends.0; start = within.0.0; end = within.0.1 }
     at ts (x ∷ rs) (suc k) there ends within = at ts rs k there ends.1 within.1
-
--- Of a notification that is refused nodes and live ranges stay.
-module _ (b e : DocState) (o : Owner) (h : IsReady b) where
-  pub notified-done : {X E : Type 0} (m : Result X E) → OnOk m (e.world ≡ with_part b.world (notified (part_of b.world o))) →
-      OnErr m ((q : Owner) → (part_of e.world q).trees ≡ (part_of b.world q).trees) →
-      OnErr m ((q : Owner) → (part_of e.world q).ranges ≡ (part_of b.world q).ranges) → IsReady e
-  notified-done (Ok x) w trees ranges =
-      let p = part_of b.world o in
-      subst AreReady (sym w) (ready-written b.world o (notified p) (owner-part_of b.world o) (ready-same p (notified p) refl refl (h o)) h)
-  notified-done (Err y) w trees ranges = λ q. ready-same (part_of b.world q) (part_of e.world q) (trees q) (ranges q) (h q)

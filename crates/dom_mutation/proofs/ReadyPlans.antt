@@ -1,18 +1,17 @@
 -- The plans of changes keep an owner's part ready for calls.
-use Rattle.dom_mutation.proofs.Cited.{◌≡◌, ◌<◌, ℕ, length, Bool, true, false, ◌||◌, List, [], ◌∷◌, Option, Some, None, refl, sym, ap, ◌∙◌, arith}
-use Rattle.dom_mutation.proofs.Cited.{true≢false, subst, IsTrue, if◌then◌else◌, option_map_or, NodeName, Plan, observed, remove_plan, adopt_plan}
-use Rattle.dom_mutation.proofs.Cited.{insert_plan, replace_plan, setting_attribute, unsetting_attribute, of_range, plan_of_range, extracting, Word}
-use Rattle.dom_mutation.proofs.Cited.{DomString, Part, range_at, deleting, insert_node_refusal, insertion_parent, start_reference, cannot_take_node}
-use Rattle.dom_mutation.proofs.Cited.{inserting_into_range, Range, Step, make, set_document, set_range, after, replacing_data, replacing_all_data}
-use Rattle.dom_mutation.proofs.Cited.{replacing_children, splitting, normalizing, setting_text, Node, has_node, kind_of, has_data, is_document, is_text}
-use Rattle.dom_mutation.proofs.Cited.{is_shadow, is_inclusive_ancestor, pre_insert_refusal, replace_refusal, HasBounds, IsWithin, EndsIn, HasEnds}
-use Rattle.dom_mutation.proofs.Cited.{IsPart, has_node-times, parent-of_range, inside-no_ancestor, times-has_node, roots-equal, Keeps, keeps-removing}
-use Rattle.dom_mutation.proofs.Cited.{keeps-adopting, keeps-inserting, keeps-replacing, keeps-setting_attribute, keeps-unsetting_attribute}
-use Rattle.dom_mutation.proofs.Cited.{keeps-replacing_data, keeps-splitting, keeps-normalizing, keeps-setting_text, keeps-extracting, keeps-deleting}
-use Rattle.dom_mutation.proofs.Cited.{keeps-inserting_into_range, leads-deleting, leads-extracting, leads-inserting_into_range, MayGo, leads-removing}
-use Rattle.dom_mutation.proofs.Cited.{leads-adopting, leads-inserting, ends-at, leads-replacing, leads-setting_attribute, leads-unsetting_attribute}
-use Rattle.dom_mutation.proofs.Cited.{leads-replacing_data, leads-splitting, leads-normalizing, leads-setting_text, MadeIn, not_taken, by_cases}
-use Rattle.dom_mutation.proofs.Cited.{IsReadyPart, insertion-tested, replacement-tested, blind-into_range}
+use Rattle.dom_mutation.proofs.Cited.{◌≡◌, ◌<◌, ℕ, length, Bool, true, false, ◌||◌, List, [], ◌∷◌, Option, Some, None, refl, sym, ap, ◌∙◌, arith, true≢false}
+use Rattle.dom_mutation.proofs.Cited.{subst, IsTrue, if◌then◌else◌, option_map_or, NodeName, Plan, observed, remove_plan, adopt_plan, insert_plan, replace_plan}
+use Rattle.dom_mutation.proofs.Cited.{setting_attribute, unsetting_attribute, of_range, plan_of_range, extracting, Word, DomString, Part, range_at, deleting}
+use Rattle.dom_mutation.proofs.Cited.{insert_node_refusal, insertion_parent, start_reference, cannot_take_node, inserting_into_range, Range, Step, make}
+use Rattle.dom_mutation.proofs.Cited.{set_document, set_range, after, replacing_data, replacing_all_data, replacing_children, splitting, normalizing}
+use Rattle.dom_mutation.proofs.Cited.{setting_text, Node, has_node, kind_of, has_data, is_document, is_text, is_shadow, is_inclusive_ancestor}
+use Rattle.dom_mutation.proofs.Cited.{pre_insert_refusal, replace_refusal, HasBounds, IsWithin, EndsIn, HasEnds, IsPart, has_node-times, parent-of_range}
+use Rattle.dom_mutation.proofs.Cited.{inside-no_ancestor, times-has_node, roots-equal, Keeps, keeps-removing, keeps-adopting, keeps-inserting, keeps-replacing}
+use Rattle.dom_mutation.proofs.Cited.{keeps-setting_attribute, keeps-unsetting_attribute, keeps-replacing_data, keeps-splitting, keeps-normalizing}
+use Rattle.dom_mutation.proofs.Cited.{keeps-setting_text, keeps-extracting, keeps-deleting, keeps-inserting_into_range, leads-deleting, leads-extracting}
+use Rattle.dom_mutation.proofs.Cited.{leads-inserting_into_range, MayGo, leads-removing, leads-adopting, leads-inserting, ends-at, leads-replacing}
+use Rattle.dom_mutation.proofs.Cited.{leads-setting_attribute, leads-unsetting_attribute, leads-replacing_data, leads-splitting, leads-normalizing}
+use Rattle.dom_mutation.proofs.Cited.{leads-setting_text, MadeIn, not_taken, by_cases, IsReadyPart, insertion-tested, replacement-tested, blind-into_range}
 use Rattle.dom_worlds.proofs.RangeLemmas.{under-at, RangeUnder, reach, nowhere, room-of, make-keeps, set_document-keeps, set_range-keeps, removal-keeps}
 use Rattle.dom_worlds.proofs.RangeLemmas.{adoption-keeps, insertion-keeps, replacement-keeps, attribute-keeps, attribute_removal-keeps, data-keeps, split-keeps}
 use Rattle.dom_worlds.proofs.RangeLemmas.{normalization-keeps, text_content-keeps, deletion-keeps, extraction-keeps, range_insertion-keeps}

@@ -1,10 +1,10 @@
 -- Commands that change tables alone keep an owner's part ready: those on iterators, walkers and observers leave its trees and live ranges,
 -- and those on live ranges set ends within nodes of one tree.
 use Rattle.dom_mutation.proofs.Cited.{◌≡◌, ℕ, Bool, true, false, not, ◌&&◌, List, [], ◌∷◌, Option, Some, None, option_map, refl, sym, arith, subst, IsTrue}
-use Rattle.dom_mutation.proofs.Cited.{slice_get, AllByRecursion, option_map_or, ltb-false, Move, NodeName, Owner, Command, NodeWord, effect, named, past_end}
-use Rattle.dom_mutation.proofs.Cited.{Effect, tables, changes, answers, moves_iterator, sets_walker, node_or_null, with_range, collapsed_to, both_at, Value}
-use Rattle.dom_mutation.proofs.Cited.{Said, nothing, Part, first_node, range_at, Boundary, same_root, is_before, Range, at, from_to, with_start, with_end}
-use Rattle.dom_mutation.proofs.Cited.{Walker, iterator_next_node, iterator_previous_node, walker_move, Trees, length_of, World, part_of, owner-part_of}
+use Rattle.dom_mutation.proofs.Cited.{AllByRecursion, ltb-false, NodeName, Owner, Command, NodeWord, effect, named, past_end}
+use Rattle.dom_mutation.proofs.Cited.{Effect, tables, changes, with_range, collapsed_to, both_at, Value}
+use Rattle.dom_mutation.proofs.Cited.{Said, Part, first_node, range_at, Boundary, same_root, is_before, Range, at, from_to, with_start, with_end}
+use Rattle.dom_mutation.proofs.Cited.{Trees, length_of, World, part_of, owner-part_of}
 use Rattle.dom_mutation.proofs.Cited.{IsWithin, EndsWithin, IsNodeIn, HasEnds, EndsIn, IsPart, all-append, all-set, either_way, ends-at, roots-same}
 use Rattle.dom_mutation.proofs.Cited.{ends-with_start, ends-with_end, ends-collapsed, IsReadyPart, AreReady, MakesSaying}
 use Rattle.dom_worlds.proofs.RangeLemmas.{under-at, RangeUnder, reach, nowhere, room-of}
@@ -39,34 +39,6 @@ ready-makes o c was {now} m h e =
     subst AreReady (sym m.1) (ready-written was o (part_of now o) (owner-part_of now o) (subst ReadyEffect m.0 e) h)
 
 module _ (p : Part) (h : IsReadyPart p) where
-  -- of a thing that is there
-  some-ready : {X : Type 0} (o : Option X) (f : X → Effect) (d : Effect) → ((x : X) → ReadyEffect (f x)) → ReadyEffect d → ReadyEffect (option_map_or f o d)
-  some-ready None f d g e = e
-  some-ready (Some x) f d g e = g x
-
-  -- a walker that is set
-  walker-ready : (k : ℕ) (w : Walker) (o : Option NodeName) (v : Value) → ReadyEffect (sets_walker p k w o v)
-  walker-ready k w None v = h
-  walker-ready k w (Some x) v = ready-same p _ refl refl h
-
-  -- iterators and walkers that move
-  pub iterator_next-ready : (k : ℕ) → ReadyEffect (effect p (Command.iterator_next k))
-  iterator_next-ready k = some-ready (slice_get p.iterators k) (λ i. moves_iterator p k false i (iterator_next_node p.trees i))
-      (answers p nothing) (λ i. ready-same p _ refl refl h) h
-
-  pub iterator_previous-ready : (k : ℕ) → ReadyEffect (effect p (Command.iterator_previous k))
-  iterator_previous-ready k = some-ready (slice_get p.iterators k) (λ i. moves_iterator p k true i (iterator_previous_node p.trees i))
-      (answers p nothing) (λ i. ready-same p _ refl refl h) h
-
-  pub walk-ready : (k : ℕ) (m : Move) → ReadyEffect (effect p (Command.walk k m))
-  walk-ready k m =
-      some-ready (slice_get p.walkers k) (λ w. sets_walker p k w (walker_move p.trees w m) (node_or_null (walker_move p.trees w m))) (answers p nothing)
-      (λ w. walker-ready k w (walker_move p.trees w m) (node_or_null (walker_move p.trees w m))) h
-
-  pub walker_set-ready : (k : ℕ) (x : NodeWord) → ReadyEffect (effect p (Command.walker_set k x))
-  walker_set-ready k x = some-ready (slice_get p.walkers k) (λ w. sets_walker p k w (Some (named p x)) nothing) (answers p nothing)
-      (λ w. walker-ready k w (Some (named p x)) nothing) h
-
   -- Live ranges that are written.
   range-ready : (k : ℕ) (r : Option (Range NodeName)) → EndsIn p.trees r → EndsWithin p.trees r → IsReadyPart (with_range p k r)
   range-ready k r e w =

@@ -1,7 +1,6 @@
 -- Observers were told of the data of a node: the owner's trees are as they were, and the same data may come.
-use Rattle.dom_mutation.proofs.Cited.{◌≡◌, [], ◌∷◌, ℕ, List, subst, sym, ap, ◌∙◌, NodeName, DomString, Change, Part}
-use Rattle.dom_mutation.proofs.Cited.{queue_record, node_in, kind_of, has_data, part_of, HasBounds, IsPart, name_at, DocState, MayCome, name_in, owner_in}
-use Rattle.dom_mutation.proofs.Cited.{trees_in, stepped, IsAlone}
+use Rattle.dom_mutation.proofs.Cited.{◌≡◌, [], ◌∷◌, ℕ, List, subst, sym, ap, ◌∙◌, NodeName, DomString, Change, Part, queue_record, node_in, kind_of, has_data}
+use Rattle.dom_mutation.proofs.Cited.{part_of, HasBounds, IsPart, name_at, DocState, MayCome, name_in, owner_in, trees_in, stepped, IsAlone}
 use Rattle.dom_mutation.proofs.BoundedDocs.{bounds_told}
 
 module _ (d e : DocState) (node : ℕ) (c : Change NodeName) (alone : IsAlone d.world (owner_in d node))

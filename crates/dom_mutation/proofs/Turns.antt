@@ -2,9 +2,10 @@
 use Rattle.dom_mutation.proofs.Cited.{get_or, drop-cons, add-one, suc, ◌+◌, ◌≡◌, ℕ, ◌<◌, false, List, [], ◌∷◌, drop, length, map, Option, Some, option_map}
 use Rattle.dom_mutation.proofs.Cited.{refl, sym, ap, subst, ◌∙◌, AllByRecursion, ForSome, NodeName, name_eq, first_of, is_in, parent_of, inclusive_ancestors}
 use Rattle.dom_mutation.proofs.Cited.{is_inclusive_ancestor, Plan, Observing, in_turn, placing, remove_plan, name_at, DocState, planned, name_in, owner_in}
-use Rattle.dom_mutation.proofs.Cited.{trees_in, MayMove, IsChild, KeepsPaths, NoneAbove, IsAlone, all_drop, lacks_to, planned_turn, alone_made}
-use Rattle.dom_mutation.proofs.Cited.{keeps-placing, keeps-removing, own_moves}
+use Rattle.dom_mutation.proofs.Cited.{trees_in, MayMove, IsChild, KeepsPaths, NoneAbove, IsAlone, all_drop, lacks_to, keeps-placing, keeps-removing}
 use Rattle.dom_mutation.proofs.Placed.{Counted, before_lacks, removal_keeps}
+use Rattle.dom_mutation.proofs.Made.{planned_turn, alone_made}
+use Rattle.dom_mutation.proofs.OwnPlans.{own_moves}
 
 -- ---- placing
 

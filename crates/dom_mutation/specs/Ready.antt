@@ -9,7 +9,7 @@ use Rattle.dom_model.specs.Part.{Part}
 use Rattle.dom_model.specs.Ranges.{Range}
 use Rattle.dom_model.specs.Tree.{Trees, kind_of, is_shadow, parent_of}
 use Rattle.dom_model.specs.World.{World, part_of}
-use Rattle.dom_parts.specs.Doc.{DocState}
+use Rattle.dom_mutation.specs.Doc.{DocState}
 
 -- An owner's part is ready for calls: the ends of its live ranges are not past the ends of their nodes, and no Text or Comment has
 -- children; both ends of a live range are at nodes of one tree; and no shadow root has a parent (DOM Standard, 4.2.2

@@ -6,7 +6,7 @@ use Rattle.dom_model.specs.Command.{Command}
 use Rattle.dom_model.specs.Part.{Part, range_at}
 use Rattle.dom_model.specs.Tree.{kind_of, has_node}
 use Rattle.dom_model.specs.World.{part_of}
-use Rattle.dom_parts.specs.Doc.{DocState, name_in, trees_in}
+use Rattle.dom_mutation.specs.Doc.{DocState, name_in, trees_in}
 
 -- The nodes of a `Doc`: an owner's trees name each of its nodes once, by a number that was given, and each node stands in
 -- its owner's trees (own rule; `Doc::laws` says both).

@@ -4,9 +4,9 @@ ghost use Rattle.dom_model.specs.Tree.{node_in, kind_of, has_data};
 ghost use Rattle.dom_model.specs.TextChanges.{replacing_data};
 ghost use Rattle.dom_model.specs.World.{part_of};
 ghost use Rattle.dom_worlds.specs.Bounds.{HasBounds};
-ghost use Rattle.dom_parts.specs.Doc.{planned, name_in, owner_in, trees_in, MayCome, IsOwnNode, HoldsNode};
+ghost use Rattle.dom_mutation.specs.Doc.{planned, name_in, owner_in, trees_in, MayCome, IsOwnNode, HoldsNode};
 
-use dom_parts::{DataChange, Parts};
+use crate::parts::{DataChange, Parts};
 use node_arena::Key;
 use std::alloc::AllocError;
 

@@ -8,7 +8,7 @@ ghost use Rattle.dom_model.specs.DocumentMachine.{first_world};
 ghost use Rattle.dom_tree.specs.Owners.{trees_of_owner, AreOwned};
 ghost use Rattle.dom_slots.specs.Kept.{AreSlotsOf};
 ghost use Rattle.dom_slots.specs.Shadows.{shadows, IsShownBy};
-ghost use Rattle.dom_parts.specs.Doc.{HoldsNode, name_in};
+ghost use Rattle.dom_mutation.specs.Doc.{HoldsNode, name_in};
 
 mod attaching;
 mod attributes;
@@ -26,9 +26,9 @@ mod splitting;
 mod tasks;
 mod texts;
 
+use crate::parts::Parts;
 pub use attributes::is_name;
 use dom_base::Owner;
-use dom_parts::Parts;
 use dom_slots::Slots;
 use dom_tree::Forest;
 use std::alloc::{AllocError, Global};
@@ -85,14 +85,16 @@ impl Doc {
         ensures slots { AreSlotsOf result.0.now result.1.now }
         ensures shown { IsShownBy (shadows result.0.now result.1.now.hosts) self.now.world }
     {
-        self.parts.forest_and_slots()
+        let parts = &self.parts;
+        (&parts.trees.forest, &parts.trees.slots)
     }
 
-    /// Whether an owner has a part.
+    /// Whether an owner has a part: the page has one, and a component has nodes from the attach on that made it.
     pub fn is_there(&self, owner: Owner) -> bool
         ensures { result ≡ is_there self.now.world owner }
     {
-        self.parts.is_there(owner)
+        let parts = &self.parts;
+        matches!(owner, Owner::Page) || parts.trees.forest.node_count(owner) > 0
     }
 
     /// How many nodes an owner has (own rule).
@@ -100,6 +102,7 @@ impl Doc {
         requires { is_there self.now.world owner ≡ true }
         ensures { result ≡ (part_of self.now.world owner).node_count }
     {
-        self.parts.node_count(owner)
+        let parts = &self.parts;
+        parts.trees.forest.node_count(owner)
     }
 }

@@ -2,10 +2,10 @@
 ghost use Rattle.std.specs.Prelude.{◌≡◌, OnOk};
 ghost use Rattle.dom_model.specs.Steps.{set_document};
 ghost use Rattle.dom_model.specs.Changes.{changing_document, document_below, has_document};
-ghost use Rattle.dom_parts.specs.Doc.{name_in, owner_in, trees_in, planned, HoldsNode};
+ghost use Rattle.dom_mutation.specs.Doc.{name_in, owner_in, trees_in, planned, HoldsNode};
 
+use crate::parts::Parts;
 use dom_base::Kind;
-use dom_parts::Parts;
 use node_arena::Key;
 use std::alloc::AllocError;
 

@@ -10,14 +10,14 @@ ghost use Rattle.dom_model.specs.Changes.{placing, emptying, remove_plan};
 ghost use Rattle.dom_model.specs.World.{part_of};
 ghost use Rattle.dom_worlds.specs.Bounds.{HasBounds};
 ghost use Rattle.dom_model.specs.Output.{child_list};
-ghost use Rattle.dom_parts.specs.Doc.{AreNodes, IsNodeIf, planned, placed_all, name_in};
-ghost use Rattle.dom_parts.specs.Doc.{owner_in, trees_in, MayMove, IsChild, KeepsPaths, NoneAbove, HoldsNode};
+ghost use Rattle.dom_mutation.specs.Doc.{AreNodes, IsNodeIf, planned, placed_all, name_in, owner_in, trees_in, MayMove, IsChild, KeepsPaths, NoneAbove};
+ghost use Rattle.dom_mutation.specs.Doc.{HoldsNode};
 ghost use Rattle.dom_mutation.specs.Observing.{observing_of};
 
 use crate::documents::document_below;
+use crate::parts::Parts;
 use crate::removing::{SuppressObserversFlag, adopting, removing};
 use dom_base::Kind;
-use dom_parts::Parts;
 use node_arena::Key;
 use smallvec::SmallVec;
 use std::alloc::AllocError;
@@ -61,6 +61,7 @@ pub(crate) fn inserting(
     ensures { OnOk result (parts.new ≡ planned (owner_in parts.old parent)
         (insert_plan (observing_of how) (name_in parts.old node) (name_in parts.old parent) (option_map (name_in parts.old) before)) parts.old) }
 {
+    // An `Option<Key>` that is passed on and used again is passed under a second name, since the first one counts as lent.
     let child = before;
     let prev = sibling_before(parts, parent, child);
     if is_fragment(parts, node) {
@@ -159,6 +160,7 @@ fn place_all(
     ensures { OnOk result (parts.new ≡ placed_all (observing_of how) (map (name_in parts.old) moved.now) (name_in parts.old parent)
         (option_map (name_in parts.old) before) (option_map (name_in parts.old) prev) (owner_in parts.old parent) parts.old) }
 {
+    // An `Option<Key>` that is passed on and used again is passed under a second and a third name, since the first one counts as lent.
     let child = before;
     let next = before;
     room_before(parts, parent, child, moved.len());
@@ -221,6 +223,7 @@ fn place_each(
 {
     parts.laws();
     for node in moved {
+        // An `Option<Key>` that is passed on and used again is passed under a second name, since the first one counts as lent.
         let reference = before;
         placing(parts, parent, reference, *node)?;
     }

@@ -5,8 +5,11 @@
 mod character_data;
 mod doc;
 mod documents;
+mod hosts;
 mod inserting;
+mod node_trees;
 mod normalizing;
+mod parts;
 mod removing;
 mod settling;
 mod splitting;

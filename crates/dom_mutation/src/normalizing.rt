@@ -12,13 +12,13 @@ ghost use Rattle.dom_worlds.specs.Texts.{needs_normalizing};
 ghost use Rattle.dom_base.specs.declared.Owner.{Owner as OwnerOf};
 ghost use Rattle.dom_tree.specs.Owners.{trees_of_owner, AreOwned};
 ghost use Rattle.dom_tree.specs.Spots.{name_here};
-ghost use Rattle.dom_parts.specs.Doc.{planned, name_in, owner_in, trees_in, IsOwnNode, HoldsNode};
+ghost use Rattle.dom_mutation.specs.Doc.{planned, name_in, owner_in, trees_in, IsOwnNode, HoldsNode};
 
 use crate::character_data::{appending_data, replacing_data};
 use crate::inserting::take_each;
+use crate::parts::{DataChange, Parts};
 use crate::removing::{SuppressObserversFlag, removing};
 use dom_base::{DomStr, Kind};
-use dom_parts::{DataChange, Parts};
 use dom_tree::{Forest, NodeAt};
 use node_arena::Key;
 use smallvec::SmallVec;

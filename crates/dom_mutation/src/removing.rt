@@ -1,11 +1,11 @@
 //! Removal and adoption (DOM Standard, concepts: remove, adopt).
 ghost use Rattle.std.specs.Prelude.{◌≡◌, Some, OnOk};
 ghost use Rattle.dom_model.specs.Changes.{remove_plan, adopt_plan};
-ghost use Rattle.dom_parts.specs.Doc.{planned, name_in, owner_in, HoldsNode};
+ghost use Rattle.dom_mutation.specs.Doc.{planned, name_in, owner_in, HoldsNode};
 ghost use Rattle.dom_mutation.specs.Observing.{observing_of};
 
 use crate::documents::change_document;
-use dom_parts::Parts;
+use crate::parts::Parts;
 use node_arena::Key;
 use std::alloc::AllocError;
 

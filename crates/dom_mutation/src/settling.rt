@@ -1,7 +1,7 @@
 //! What is left of a document after a change of which memory was refused (own rule).
 ghost use Rattle.dom_mutation.specs.Ready.{IsReady};
 
-use dom_parts::Parts;
+use crate::parts::Parts;
 use std::alloc::AllocError;
 
 /// Memory was refused within a change: the document is given up. There are no nodes then, and the page alone is there.

@@ -12,14 +12,14 @@ ghost use Rattle.dom_model.specs.World.{part_of};
 ghost use Rattle.dom_model.specs.CommandRefusals.{past_end, past_limit};
 ghost use Rattle.dom_worlds.specs.Bounds.{HasBounds};
 ghost use Rattle.dom_mutation.specs.Ready.{IsReady};
-ghost use Rattle.dom_parts.specs.Doc.{made, planned, name_in, owner_in, trees_in, IsChild, splitting_refusal, cutting_tail, HoldsNode};
+ghost use Rattle.dom_mutation.specs.Doc.{made, planned, name_in, owner_in, trees_in, IsChild, splitting_refusal, cutting_tail, HoldsNode};
 
 use crate::character_data::replacing_data;
 use crate::inserting::inserting;
+use crate::parts::{DataChange, Parts};
 use crate::removing::SuppressObserversFlag;
 use crate::settling::given_up;
 use dom_base::{DomStr, Fault, Kind, Refusal};
-use dom_parts::{DataChange, Parts};
 use dom_tree::NodeData;
 use indexmap::IndexMap;
 use node_arena::Key;

@@ -8,15 +8,15 @@ ghost use Rattle.dom_model.specs.World.{part_of};
 ghost use Rattle.dom_model.specs.CommandRefusals.{past_limit};
 ghost use Rattle.dom_worlds.specs.Bounds.{HasBounds};
 ghost use Rattle.dom_mutation.specs.Ready.{IsReady};
-ghost use Rattle.dom_parts.specs.Doc.{made, name_in, owner_in, trees_in, planned, children_texts, putting_text, HoldsNode};
+ghost use Rattle.dom_mutation.specs.Doc.{made, name_in, owner_in, trees_in, planned, children_texts, putting_text, HoldsNode};
 
 use crate::documents::document_below;
 use crate::inserting::{children, inserting, take_each};
+use crate::parts::Parts;
 use crate::removing::SuppressObserversFlag;
 use crate::settling::given_up;
 use crate::splitting::make_text;
 use dom_base::{DomStr, Fault};
-use dom_parts::Parts;
 use node_arena::Key;
 use std::alloc::AllocError;
 

@@ -37,18 +37,12 @@ pub use Rattle.dom_laws.proofs.Laws.{stands_in, subtree-below, subtree-beside, s
 pub use Rattle.dom_laws.proofs.Laws.{was_some, within-child, within-itself, within-parent, within-root}
 pub use Rattle.dom_laws.specs.Within.{ahead_of, behind, beyond, from_node}
 pub use Rattle.dom_model.specs.Extract.{nothing}
-pub use Rattle.dom_mutation.proofs.BoundedDocs.{HasBoundedPart, index_limited}
-pub use Rattle.dom_mutation.proofs.Placed.{Counted, once_in, removal_keeps}
-pub use Rattle.dom_mutation.proofs.ReadyCalls.{HasLaws, part-planned, ready-planned, stands-in, stands-then}
-pub use Rattle.dom_mutation.proofs.ReadyEnds.{bare, bare-tables}
-pub use Rattle.dom_mutation.proofs.ReadyPlans.{KeepReady, ready-deleting, ready-extracting, ready-inserting_into_range}
-pub use Rattle.dom_mutation.proofs.StillParts.{keeps-steps}
-pub use Rattle.dom_mutation.proofs.Turns.{child_now, Empties, empties_on, may_now, Stays}
+pub use Rattle.dom_mutation.proofs.DocLemmas.{bare, bare-tables, child_now, Counted, Empties, empties_on, HasBoundedPart, HasLaws, index_limited, KeepReady}
+pub use Rattle.dom_mutation.proofs.DocLemmas.{keeps-steps, length_few, made_then, may_now, once_in, own_moves, own_rules, part-planned, plan_alone}
+pub use Rattle.dom_mutation.proofs.DocLemmas.{planned_then, ready-deleting, ready-extracting, ready-inserting_into_range, ready-planned, removal_keeps}
+pub use Rattle.dom_mutation.proofs.DocLemmas.{stands-in, stands-then, Stays}
 pub use Rattle.dom_mutation.specs.Definitions.{AreReady, DocState, HoldsNode, IsAlone, IsChild, IsOwnNode, IsReadyPart, made, MayMove, name_in, owner_in}
 pub use Rattle.dom_mutation.specs.Definitions.{planned, PlansOwn, stepped, trees_in}
-pub use Rattle.dom_parts.proofs.BoundedPlans.{length_few}
-pub use Rattle.dom_parts.proofs.Made.{made_then, plan_alone, planned_then}
-pub use Rattle.dom_parts.proofs.OwnPlans.{own_moves, own_rules}
 pub use Rattle.dom_range_ops.specs.Definitions.{Adds, AreEnds, AreItems, AreLeaves, ArePaths, AreSpanned, clone_item, clones_after, contained_text, cut_item}
 pub use Rattle.dom_range_ops.specs.Definitions.{cutting, end_item, end_items, EndAlike, extracting_items, first_behind, first_from, from_sibling, HasPaths}
 pub use Rattle.dom_range_ops.specs.Definitions.{heads, inserting_before_tail, inserting_node, inserting_refusal, IsCopyOf, IsOfPoints, IsPieceIn, IsPieceOf}

@@ -1,11 +1,10 @@
 -- The plan of a deletion, step by step.
-use Rattle.dom_range_ops.proofs.Cited.{◌≡◌, ℕ, true, false, List, [], ◌∷◌, map, Option, is_some, sym, ap, subst, ◌∙◌, ◌-◌, option_map_or, cond-true}
-use Rattle.dom_range_ops.proofs.Cited.{cond-false, NodeName, Owner, Plan, ◌and_then◌, in_turn, doing, remove_plan, observed, plan_of_range}
-use Rattle.dom_range_ops.proofs.Cited.{is_in_one_data, new_place, both_at, name_eq, range_at, Range, at, is_collapsed, cutting_data}
-use Rattle.dom_range_ops.proofs.Cited.{outermost_contained, deleting_contents, deleting, set_range, Trees, part_of, world_after, DocState, made}
-use Rattle.dom_range_ops.proofs.Cited.{planned, stepped, name_in, owner_in, trees_in, IsAlone, made_then, planned_then, Points, IsRangeIn, IsOfPoints}
-use Rattle.dom_range_ops.proofs.Cited.{cutting, range_at_points, keeps-cutting_data, keeps-deleting_contents, keeps-and_then, keeps-each}
-use Rattle.dom_range_ops.proofs.Cited.{keeps-removing, own_moves, own_rules}
+use Rattle.dom_range_ops.proofs.Cited.{◌≡◌, ℕ, true, false, List, [], ◌∷◌, map, Option, is_some, sym, ap, subst, ◌∙◌, ◌-◌, option_map_or, cond-true, cond-false}
+use Rattle.dom_range_ops.proofs.Cited.{NodeName, Owner, Plan, ◌and_then◌, in_turn, doing, remove_plan, observed, plan_of_range, is_in_one_data, new_place}
+use Rattle.dom_range_ops.proofs.Cited.{both_at, name_eq, range_at, Range, at, is_collapsed, cutting_data, outermost_contained, deleting_contents, deleting}
+use Rattle.dom_range_ops.proofs.Cited.{set_range, Trees, part_of, world_after, DocState, made, planned, stepped, name_in, owner_in, trees_in, IsAlone}
+use Rattle.dom_range_ops.proofs.Cited.{made_then, planned_then, Points, IsRangeIn, IsOfPoints, cutting, range_at_points, keeps-cutting_data}
+use Rattle.dom_range_ops.proofs.Cited.{keeps-deleting_contents, keeps-and_then, keeps-each, keeps-removing, own_moves, own_rules}
 use Rattle.dom_range_ops.proofs.InsertedRanges.{range-kept}
 
 module _ (ts : Trees) (r : Range NodeName) where

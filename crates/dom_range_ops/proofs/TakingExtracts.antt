@@ -3,9 +3,8 @@ use Rattle.dom_range_ops.proofs.Cited.{suc, ◌≡◌, ◌<◌, ◌+◌, ℕ, fa
 use Rattle.dom_range_ops.proofs.Cited.{ap, ◌∙◌, subst, arith, append_assoc, ◌↔◌, IfErr, AllByRecursion, false_from_ne_true, ltb-true, NodeName, Fault, Refused}
 use Rattle.dom_range_ops.proofs.Cited.{Memory, Refusal, Limit, Owner, owner-part_of, past_limit, limit_on, first_refusal, Plan, ◌and_then◌, doing, both_at}
 use Rattle.dom_range_ops.proofs.Cited.{node_of, Part, next_name, range_at, at, make, set_range, part_step, Node, World, part_of, IsPart, all-then, DocState}
-use Rattle.dom_range_ops.proofs.Cited.{made, stepped, name_in, owner_in, IsAlone, PlansOwn, plan_alone, made_then, Item, item_in, made_by, top_of}
-use Rattle.dom_range_ops.proofs.Cited.{taking_item, taking_items, clones_after, new_names, MayBeTaken, MayTake, IsPieceOf, Piece}
-use Rattle.dom_range_ops.proofs.Cited.{keeps-and_then, own_moves}
+use Rattle.dom_range_ops.proofs.Cited.{made, stepped, name_in, owner_in, IsAlone, PlansOwn, plan_alone, made_then, Item, item_in, made_by, top_of, taking_item}
+use Rattle.dom_range_ops.proofs.Cited.{taking_items, clones_after, new_names, MayBeTaken, MayTake, IsPieceOf, Piece, keeps-and_then, own_moves}
 use Rattle.dom_range_ops.proofs.InsertedRanges.{range-kept}
 use Rattle.dom_range_ops.proofs.TakingDocs.{name-kept, node-kept, new-name, new-node}
 use Rattle.dom_range_ops.proofs.TakingLoops.{plans-item, item-same, piece-kept}

@@ -1,14 +1,13 @@
 -- What may be taken item by item may be so still after each of them.
-use Rattle.dom_range_ops.proofs.Cited.{suc, ℕ, ◌≡◌, true, false, not, List, [], ◌∷◌, Option, Some, None, refl, ◌∙◌, ⊤, AllByRecursion, NodeName}
-use Rattle.dom_range_ops.proofs.Cited.{Observing, observed, making_room, placing, insert_plan, making_below, Change, Part, children_of, Step, make}
-use Rattle.dom_range_ops.proofs.Cited.{take_out, part_step, after, Node, kind_of, count-step, ◌≤◌, ◌+◌, ◌-◌, ◌++◌, drop, sym, ap, subst, arith, Kind}
-use Rattle.dom_range_ops.proofs.Cited.{Shadow, clone_part, next_name, replacing_data, Trees, node_in, has_data, is_shadow, is_inclusive_ancestor}
-use Rattle.dom_range_ops.proofs.Cited.{with_name, HasBounds, IsPart, ancestor-inside, inside-no_ancestor, times-has_node, node-new, insertion-keeps}
-use Rattle.dom_range_ops.proofs.Cited.{make-keeps, data-keeps, has_node-times, all-then, by_cases, next-absent, OldIn, old-may, old-still}
-use Rattle.dom_range_ops.proofs.Cited.{leads-making_below, Changed, MayGo, Leads, still, after-append, leads-then, leads-eased, leads-nothing}
-use Rattle.dom_range_ops.proofs.Cited.{leads-one, leads-inserting, new-there, new-may, leads-replacing_data, HasNode, Item, whole_item, cut_item}
-use Rattle.dom_range_ops.proofs.Cited.{clone_item, end_item, made_by, top_of, taking_item, clones_after, IsTaker, IsTaken, MayBeTaken, MayTake}
-use Rattle.dom_range_ops.proofs.Cited.{all-from, AreMoved, keeps-inserting, kept-after}
+use Rattle.dom_range_ops.proofs.Cited.{suc, ℕ, ◌≡◌, true, false, not, List, [], ◌∷◌, Option, Some, None, refl, ◌∙◌, ⊤, AllByRecursion, NodeName, Observing}
+use Rattle.dom_range_ops.proofs.Cited.{observed, making_room, placing, insert_plan, making_below, Change, Part, children_of, Step, make, take_out, part_step}
+use Rattle.dom_range_ops.proofs.Cited.{after, Node, kind_of, count-step, ◌≤◌, ◌+◌, ◌-◌, ◌++◌, drop, sym, ap, subst, arith, Kind, Shadow, clone_part, next_name}
+use Rattle.dom_range_ops.proofs.Cited.{replacing_data, Trees, node_in, has_data, is_shadow, is_inclusive_ancestor, with_name, HasBounds, IsPart}
+use Rattle.dom_range_ops.proofs.Cited.{ancestor-inside, inside-no_ancestor, times-has_node, node-new, insertion-keeps, make-keeps, data-keeps, has_node-times}
+use Rattle.dom_range_ops.proofs.Cited.{all-then, by_cases, next-absent, OldIn, old-may, old-still, leads-making_below, Changed, MayGo, Leads, still}
+use Rattle.dom_range_ops.proofs.Cited.{after-append, leads-then, leads-eased, leads-nothing, leads-one, leads-inserting, new-there, new-may}
+use Rattle.dom_range_ops.proofs.Cited.{leads-replacing_data, HasNode, Item, whole_item, cut_item, clone_item, end_item, made_by, top_of, taking_item}
+use Rattle.dom_range_ops.proofs.Cited.{clones_after, IsTaker, IsTaken, MayBeTaken, MayTake, all-from, AreMoved, keeps-inserting, kept-after}
 
 -- the step makes no node
 abbrev MakesNone : Step → Type 0

@@ -9,11 +9,10 @@ ghost use Rattle.dom_model.specs.Part.{range_at};
 ghost use Rattle.dom_model.specs.RangeOps.{cutting_data, outermost_contained, deleting_contents, deleting};
 ghost use Rattle.dom_model.specs.Ranges.{at};
 ghost use Rattle.dom_model.specs.World.{part_of};
-ghost use Rattle.dom_mutation.specs.Doc.{made, planned, name_in, owner_in, trees_in};
+ghost use Rattle.dom_mutation.specs.Doc.{made, planned, name_in, owner_in, trees_in, HoldsNode};
 ghost use Rattle.dom_range_ops.specs.Deletions.{IsRangeIn, cutting};
 ghost use Rattle.dom_range_ops.specs.Texts.{range_at_points, AreEnds};
 ghost use Rattle.dom_tree.specs.Forest.{IsNode, name_of};
-ghost use Rattle.dom_parts.specs.Doc.{HoldsNode};
 
 use crate::contained::outermost_contained;
 use crate::ends::{has_data, is_collapsed, is_in_one_data, live_points, new_place};

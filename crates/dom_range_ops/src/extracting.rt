@@ -12,7 +12,7 @@ ghost use Rattle.dom_model.specs.Ranges.{at};
 ghost use Rattle.dom_model.specs.Steps.{make, part_step};
 ghost use Rattle.dom_model.specs.Tree.{kind_of, is_document};
 ghost use Rattle.dom_model.specs.World.{part_of, is_there};
-ghost use Rattle.dom_mutation.specs.Doc.{made, name_in, owner_in, trees_in};
+ghost use Rattle.dom_mutation.specs.Doc.{made, name_in, owner_in, trees_in, HoldsNode};
 ghost use Rattle.dom_mutation.specs.Ready.{AreReady};
 ghost use Rattle.dom_range_ops.specs.Extractions.{extracting_items};
 ghost use Rattle.dom_range_ops.specs.Deletions.{IsRangeIn};
@@ -20,7 +20,6 @@ ghost use Rattle.dom_range_ops.specs.Pieces.{item_in, items_of, made_by};
 ghost use Rattle.dom_range_ops.specs.Takings.{new_names, MayTake, IsPieceOf};
 ghost use Rattle.dom_range_ops.specs.Texts.{range_at_points};
 ghost use Rattle.dom_tree.specs.Forest.{IsNode, name_of};
-ghost use Rattle.dom_parts.specs.Doc.{HoldsNode};
 
 use crate::deleting::place_after;
 use crate::ends::live_points;

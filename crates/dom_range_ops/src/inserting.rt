@@ -9,13 +9,12 @@ ghost use Rattle.dom_model.specs.RangeOps.{start_reference, insertion_parent, ca
 ghost use Rattle.dom_model.specs.RangeOps.{inserting_at, inserting_into_range};
 ghost use Rattle.dom_model.specs.Tree.{kind_of, has_data, is_shadow, is_text, children_of, length_of, is_inclusive_ancestor};
 ghost use Rattle.dom_model.specs.World.{part_of};
-ghost use Rattle.dom_mutation.specs.Doc.{made, planned, name_in, owner_in, trees_in, MayMove, IsChild};
+ghost use Rattle.dom_mutation.specs.Doc.{made, planned, name_in, owner_in, trees_in, MayMove, IsChild, HoldsNode};
 ghost use Rattle.dom_mutation.specs.Ready.{AreReady};
 ghost use Rattle.dom_range_ops.specs.Insertions.{inserting_node, inserting_before_tail, node_refusal, inserting_refusal, names_given, tail_names};
 ghost use Rattle.dom_range_ops.specs.Insertions.{offset_behind};
 ghost use Rattle.dom_range_ops.specs.Texts.{range_at_points};
 ghost use Rattle.dom_tree.specs.Forest.{err_of};
-ghost use Rattle.dom_parts.specs.Doc.{HoldsNode};
 
 use dom_base::{Fault, Kind, Owner, Refusal};
 use dom_mutation::Doc;

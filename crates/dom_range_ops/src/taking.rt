@@ -6,11 +6,10 @@ ghost use Rattle.dom_model.specs.Extract.{making_below};
 ghost use Rattle.dom_model.specs.Part.{next_name};
 ghost use Rattle.dom_model.specs.Tree.{kind_of, has_data, is_shadow, node_in};
 ghost use Rattle.dom_model.specs.World.{part_of};
-ghost use Rattle.dom_mutation.specs.Doc.{made, name_in, owner_in, trees_in, IsOwnNode};
+ghost use Rattle.dom_mutation.specs.Doc.{made, name_in, owner_in, trees_in, IsOwnNode, HoldsNode};
 ghost use Rattle.dom_range_ops.specs.Pieces.{cut_item, clone_item, item_in, made_by};
 ghost use Rattle.dom_range_ops.specs.Takings.{TakesNew, IsCopyOf, top_of, taking_item, taking_items, clones_after, new_names, names_in, MayTake, IsPieceOf};
 ghost use Rattle.dom_tree.specs.Forest.{node_from};
-ghost use Rattle.dom_parts.specs.Doc.{HoldsNode};
 
 use crate::cloning::{clone_node, clone_units};
 use crate::pieces::Piece;

@@ -5,8 +5,7 @@ ghost use Rattle.dom_base.specs.declared.Refusal.{Refusal as RefusalOf};
 ghost use Rattle.dom_model.specs.DocumentMachine.{attaching};
 ghost use Rattle.dom_model.specs.Tree.{kind_of, is_element};
 ghost use Rattle.dom_model.specs.World.{part_of, is_there, component_made, shadow_root_of};
-ghost use Rattle.dom_mutation.specs.Doc.{name_in, owner_in, trees_in, attaching_refusal};
-ghost use Rattle.dom_parts.specs.Doc.{HoldsNode};
+ghost use Rattle.dom_mutation.specs.Doc.{name_in, owner_in, trees_in, attaching_refusal, HoldsNode};
 
 use crate::Doc;
 use crate::settling::given_up;

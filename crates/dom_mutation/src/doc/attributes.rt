@@ -5,13 +5,12 @@ ghost use Rattle.dom_base.specs.declared.Refusal.TheVariants.{InvalidCharacter};
 ghost use Rattle.dom_model.specs.Names.{begins_name, continues_name, is_name};
 ghost use Rattle.dom_model.specs.Changes.{setting_attribute, unsetting_attribute};
 ghost use Rattle.dom_model.specs.Tree.{kind_of, is_element};
-ghost use Rattle.dom_mutation.specs.Doc.{made, planned, name_in, owner_in, trees_in};
-ghost use Rattle.dom_parts.specs.Doc.{HoldsNode};
+ghost use Rattle.dom_mutation.specs.Doc.{made, planned, name_in, owner_in, trees_in, HoldsNode};
 
 use crate::Doc;
+use crate::parts::Parts;
 use crate::settling::given_up;
 use dom_base::{DomStr, Fault, Refusal};
-use dom_parts::Parts;
 use node_arena::Key;
 use std::alloc::AllocError;
 

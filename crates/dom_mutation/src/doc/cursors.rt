@@ -1,5 +1,5 @@
 //! Iterators and walkers of each owner, by their numbers (DOM Standard, 6 Traversal).
-ghost use Rattle.std.specs.Prelude.{◌≡◌, ◌↔◌, ◌⊎◌, length, true, is_some, slice_get, IfOk, IfErr, OnErr, OnOk};
+ghost use Rattle.std.specs.Prelude.{◌≡◌, ◌↔◌, ◌⊎◌, length, true, is_some, slice_get, IfOk, IfErr, OnErr};
 ghost use Rattle.std.specs.Option.{option_map, ForSome};
 ghost use Rattle.dom_base.specs.declared.Refusal.TheVariants.{Limit};
 ghost use Rattle.dom_model.specs.Command.{Command, own};
@@ -8,10 +8,10 @@ ghost use Rattle.dom_model.specs.Effects.{node_or_null};
 ghost use Rattle.dom_model.specs.World.{part_of};
 ghost use Rattle.dom_model.specs.CommandRefusals.{past_limit};
 ghost use Rattle.dom_traversal.specs.Filters.{filter_of};
-ghost use Rattle.dom_mutation.specs.Doc.{name_in, owner_in, Makes};
-ghost use Rattle.dom_parts.specs.Doc.{HoldsNode};
+ghost use Rattle.dom_mutation.specs.Doc.{name_in, owner_in, Makes, HoldsNode};
 
 use crate::Doc;
+use crate::parts::Parts;
 use dom_base::{Fault, Move, Owner};
 use dom_traversal::Filter;
 use node_arena::Key;
@@ -21,14 +21,16 @@ impl Doc {
     pub fn has_iter(&self, owner: Owner, number: u32) -> bool
         ensures { result ≡ is_some (slice_get (part_of self.now.world owner).iterators number) }
     {
-        self.parts.has_iter(owner, number)
+        let parts = &self.parts;
+        parts.cursors.has_iter(owner, number)
     }
 
     /// Whether an owner has a walker of a number.
     pub fn has_walker(&self, owner: Owner, number: u32) -> bool
         ensures { result ≡ is_some (slice_get (part_of self.now.world owner).walkers number) }
     {
-        self.parts.has_walker(owner, number)
+        let parts = &self.parts;
+        parts.cursors.has_walker(owner, number)
     }
 
     /// Adds an iterator of an owner just before its root, and gives its number (DOM Standard, createNodeIterator). It is
@@ -43,7 +45,9 @@ impl Doc {
         ensures other { IfErr result (λ fault. (fault ≡ Fault.Refused Limit) ⊎ (fault ≡ Fault.Memory)) }
         ensures err { OnErr result (self.new ≡ self.old) }
     {
-        self.parts.iter_make(owner, root, filter)
+        let parts = &mut self.parts;
+        parts.trees.forest.law_nodes_stand_once();
+        parts.cursors.add_iter(owner, root, filter)
     }
 
     /// Adds a walker of an owner at its root, and gives its number (DOM Standard, createTreeWalker). It is refused with
@@ -58,62 +62,77 @@ impl Doc {
         ensures other { IfErr result (λ fault. (fault ≡ Fault.Refused Limit) ⊎ (fault ≡ Fault.Memory)) }
         ensures err { OnErr result (self.new ≡ self.old) }
     {
-        self.parts.walk_make(owner, root, filter)
+        let parts = &mut self.parts;
+        parts.cursors.add_walker(owner, root, filter)
     }
 
     /// Moves an iterator behind the next node that its filter accepts, and answers that node; where there is none, it
     /// stays (DOM Standard, nextNode).
+    /// It asks that the owner has an iterator of this number: `has_iter` is the test.
     pub fn iter_next(&mut self, owner: Owner, number: u32) -> Option<Key>
         requires { is_some (slice_get (part_of self.old.world owner).iterators number) ≡ true }
         ensures names { self.new.names ≡ self.old.names }
         ensures node { ForSome result (HoldsNode self.old) }
         ensures world { Makes owner (Command.iterator_next number) (node_or_null (option_map (name_in self.old) result)) self.old.world self.new.world }
     {
-        self.parts.iter_next(owner, number)
+        let parts = &mut self.parts;
+        parts.cursors.iter_next(owner, &parts.trees.forest, number)
     }
 
     /// Moves an iterator before the node before it that its filter accepts, and answers that node; where there is none, it
     /// stays (DOM Standard, previousNode).
+    /// It asks that the owner has an iterator of this number: `has_iter` is the test.
     pub fn iter_previous(&mut self, owner: Owner, number: u32) -> Option<Key>
         requires { is_some (slice_get (part_of self.old.world owner).iterators number) ≡ true }
         ensures names { self.new.names ≡ self.old.names }
         ensures node { ForSome result (HoldsNode self.old) }
         ensures world { Makes owner (Command.iterator_previous number) (node_or_null (option_map (name_in self.old) result)) self.old.world self.new.world }
     {
-        self.parts.iter_previous(owner, number)
+        let parts = &mut self.parts;
+        parts
+            .cursors
+            .iter_previous(owner, &parts.trees.forest, number)
     }
 
     /// The reference of an iterator, and whether it stands before that one (DOM Standard, referenceNode and
     /// pointerBeforeReferenceNode).
+    /// It asks that the owner has an iterator of this number: `has_iter` is the test.
     pub fn iter_at(&self, owner: Owner, number: u32) -> (Key, bool)
         requires { is_some (slice_get (part_of self.now.world owner).iterators number) ≡ true }
         ensures node { HoldsNode self.now result.0 }
         ensures value { Makes owner (Command.iterator_at number) (reference (name_in self.now result.0) result.1) self.now.world self.now.world }
     {
-        self.parts.iter_at(owner, number)
+        let parts = &self.parts;
+        parts.cursors.iter_at(owner, number)
     }
 
     /// Moves a walker, and answers its new current node; where there is no node to move to, it stays (DOM Standard,
     /// interface TreeWalker).
+    /// It asks that the owner has a walker of this number: `has_walker` is the test.
     pub fn walk(&mut self, owner: Owner, number: u32, step: Move) -> Option<Key>
         requires { is_some (slice_get (part_of self.old.world owner).walkers number) ≡ true }
         ensures names { self.new.names ≡ self.old.names }
         ensures node { ForSome result (HoldsNode self.old) }
         ensures world { Makes owner (Command.walk number step) (node_or_null (option_map (name_in self.old) result)) self.old.world self.new.world }
     {
-        self.parts.walk(owner, number, step)
+        remember_root(&mut self.parts, owner, number);
+        let parts = &mut self.parts;
+        parts.cursors.walk(owner, &parts.trees.forest, number, step)
     }
 
     /// The current node of a walker (DOM Standard, currentNode).
+    /// It asks that the owner has a walker of this number: `has_walker` is the test.
     pub fn walk_at(&self, owner: Owner, number: u32) -> Key
         requires { is_some (slice_get (part_of self.now.world owner).walkers number) ≡ true }
         ensures node { HoldsNode self.now result }
         ensures value { Makes owner (Command.walker_at number) (a_node (name_in self.now result)) self.now.world self.now.world }
     {
-        self.parts.walk_at(owner, number)
+        let parts = &self.parts;
+        parts.cursors.walker_at(owner, number)
     }
 
     /// Makes a node of its owner the current one of a walker (DOM Standard, currentNode).
+    /// It asks that the owner has a walker of this number: `has_walker` is the test.
     pub fn walk_set(&mut self, owner: Owner, number: u32, current: Key)
         requires there { is_some (slice_get (part_of self.old.world owner).walkers number) ≡ true }
         requires current_is_node { HoldsNode self.old current }
@@ -121,6 +140,17 @@ impl Doc {
         ensures names { self.new.names ≡ self.old.names }
         ensures world { Makes owner (Command.walker_set number (own (name_in self.old current).number)) nothing self.old.world self.new.world }
     {
-        self.parts.walk_set(owner, number, current);
+        let parts = &mut self.parts;
+        parts.cursors.set_walker(owner, number, current);
     }
+}
+
+/// Has the forest remember that a walker's current node stands in the tree of its root: the move asks for this, and most moves
+/// go to a node near by, from which the next one asks again (own rule). Nothing is changed that can be seen.
+fn remember_root(parts: &mut Parts, owner: Owner, number: u32)
+    requires { is_some (slice_get (part_of parts.old.world owner).walkers number) ≡ true }
+    ensures { parts.new ≡ parts.old }
+{
+    let (root, current) = parts.cursors.walker_ends(owner, number);
+    parts.trees.forest.remember_ancestor(root, current);
 }

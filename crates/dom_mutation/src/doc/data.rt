@@ -5,14 +5,13 @@ ghost use Rattle.dom_model.specs.Tree.{kind_of, has_data};
 ghost use Rattle.dom_model.specs.TextChanges.{replacing_data, replacing_all_data};
 ghost use Rattle.dom_model.specs.World.{part_of};
 ghost use Rattle.dom_model.specs.CommandRefusals.{past_end};
-ghost use Rattle.dom_mutation.specs.Doc.{made, planned, name_in, owner_in, trees_in};
-ghost use Rattle.dom_parts.specs.Doc.{HoldsNode};
+ghost use Rattle.dom_mutation.specs.Doc.{made, planned, name_in, owner_in, trees_in, HoldsNode};
 
 use crate::Doc;
 use crate::character_data::replacing_data;
+use crate::parts::DataChange;
 use crate::settling::given_up;
 use dom_base::{DomStr, Fault, Refusal};
-use dom_parts::DataChange;
 use node_arena::Key;
 use std::alloc::AllocError;
 

@@ -7,8 +7,7 @@ ghost use Rattle.dom_model.specs.Changes.{pre_insert_plan, reference_child, inse
 ghost use Rattle.dom_base.specs.declared.Refusal.{Refusal as RefusalOf};
 ghost use Rattle.dom_model.specs.Validity.{pre_insert_refusal};
 ghost use Rattle.dom_tree.specs.Forest.{err_of};
-ghost use Rattle.dom_mutation.specs.Doc.{made, planned, name_in, owner_in, trees_in, MayMove, IsChild};
-ghost use Rattle.dom_parts.specs.Doc.{HoldsNode};
+ghost use Rattle.dom_mutation.specs.Doc.{made, planned, name_in, owner_in, trees_in, MayMove, IsChild, HoldsNode};
 
 use crate::Doc;
 use crate::inserting::{inserting, reference_child};
@@ -39,6 +38,7 @@ impl Doc {
             (option_map (name_in self.old) child) ≡ Some r) }
         ensures unchanged { (r : RefusalOf) → result ≡ Err (Fault.Refused r) → self.new ≡ self.old }
     {
+        // An `Option<Key>` that is passed on and used again is passed under a second name, since the first one counts as lent.
         let at = child;
         if let Err(refusal) = self.check_insert(parent, node, at) {
             return Err(Fault::Refused(refusal));
@@ -85,7 +85,8 @@ impl Doc {
         ensures { err_of result ≡ pre_insert_refusal (trees_in self.now parent) (name_in self.now parent) (name_in self.now node)
             (option_map (name_in self.now) child) }
     {
-        self.parts.check_insert(parent, node, child)
+        let parts = &self.parts;
+        parts.trees.forest.check_insert(parent, node, child)
     }
 
     /// The Standard's *reference child*, before which a node is put: the child given, or the node's next sibling where that is the node

@@ -2,8 +2,7 @@
 ghost use Rattle.std.specs.Prelude.{◌≡◌, OnOk};
 ghost use Rattle.dom_model.specs.TextChanges.{normalizing};
 ghost use Rattle.dom_model.specs.World.{part_of};
-ghost use Rattle.dom_mutation.specs.Doc.{made, name_in, owner_in};
-ghost use Rattle.dom_parts.specs.Doc.{HoldsNode};
+ghost use Rattle.dom_mutation.specs.Doc.{made, name_in, owner_in, HoldsNode};
 
 use crate::Doc;
 use crate::normalizing::{normalize_each, texts_below};

@@ -9,10 +9,10 @@ ghost use Rattle.dom_model.specs.Turns.{notified};
 ghost use Rattle.dom_model.specs.World.{part_of, with_part, is_there};
 ghost use Rattle.dom_model.specs.CommandRefusals.{past_limit};
 ghost use Rattle.dom_observers.specs.Views.{words_of};
-ghost use Rattle.dom_mutation.specs.Doc.{name_in, owner_in, change_in, notice_in, notices_of, NamesNodes, Makes, MakesSaying};
-ghost use Rattle.dom_parts.specs.Doc.{HoldsNode};
+ghost use Rattle.dom_mutation.specs.Doc.{name_in, owner_in, change_in, notice_in, notices_of, NamesNodes, Makes, MakesSaying, HoldsNode};
 
 use crate::Doc;
+use crate::parts::give_up_observers;
 use dom_base::{Fault, Owner};
 use dom_observers::{Options, Record};
 use node_arena::Key;
@@ -23,11 +23,13 @@ impl Doc {
     pub fn has_observer(&self, owner: Owner, number: u32) -> bool
         ensures { result ≡ is_some (slice_get (part_of self.now.world owner).record_queues number) }
     {
-        self.parts.has_observer(owner, number)
+        let parts = &self.parts;
+        parts.observers.has(owner, number)
     }
 
     /// Adds an observer of an owner, and gives its number (DOM Standard, constructor of MutationObserver). It is refused
     /// with `Limit` where the owner has a million observers, and with `Memory` where memory is refused.
+    /// It asks that the owner is there: `is_there` is the test.
     pub fn observer_make(&mut self, owner: Owner) -> Result<u32, Fault>
         requires { is_there self.old.world owner ≡ true }
         ensures names { self.new.names ≡ self.old.names }
@@ -36,12 +38,14 @@ impl Doc {
         ensures other { IfErr result (λ fault. (fault ≡ Fault.Refused Limit) ⊎ (fault ≡ Fault.Memory)) }
         ensures err { OnErr result (self.new ≡ self.old) }
     {
-        self.parts.observer_make(owner)
+        let parts = &mut self.parts;
+        parts.observers.make(owner)
     }
 
     /// Registers an observer on a node of its owner, or gives its registration there other options (DOM Standard,
     /// observe()). It is refused with `TypeFault` where the options ask for no kind of change, and with `Memory` where
     /// memory is refused.
+    /// It asks that the owner has an observer of this number: `has_observer` is the test.
     pub fn observe(
         &mut self,
         owner: Owner,
@@ -59,21 +63,28 @@ impl Doc {
         ensures other { IfErr result (λ fault. (fault ≡ Fault.Refused TypeFault) ⊎ (fault ≡ Fault.Memory)) }
         ensures err { OnErr result (self.new ≡ self.old) }
     {
-        self.parts.observe(owner, number, node, options)
+        let parts = &mut self.parts;
+        parts.trees.forest.law_nodes_stand_once();
+        parts
+            .observers
+            .observe(&parts.trees.forest, owner, number, node, options)
     }
 
     /// Takes the registrations of an observer away, transient ones too, and empties its record queue (DOM Standard,
     /// disconnect()). The observer stays pending where it was.
+    /// It asks that the owner has an observer of this number: `has_observer` is the test.
     pub fn disconnect(&mut self, owner: Owner, number: u32)
         requires { is_some (slice_get (part_of self.old.world owner).record_queues number) ≡ true }
         ensures names { self.new.names ≡ self.old.names }
         ensures world { Makes owner (Command.disconnect number) nothing self.old.world self.new.world }
     {
-        self.parts.disconnect(owner, number);
+        let parts = &mut self.parts;
+        let _ = parts.observers.disconnect(owner, number);
     }
 
     /// Empties the record queue of an observer, and gives the records in it, in order (DOM Standard, takeRecords()). The
     /// observer stays pending where it was.
+    /// It asks that the owner has an observer of this number: `has_observer` is the test.
     pub fn take_records(&mut self, owner: Owner, number: u32) -> Vec<Record>
         requires { is_some (slice_get (part_of self.old.world owner).record_queues number) ≡ true }
         ensures names { self.new.names ≡ self.old.names }
@@ -81,12 +92,17 @@ impl Doc {
         ensures world { MakesSaying owner (Command.take number) (map (λ r. recorded number (change_in self.old r)) result.items)
             (a_count (length result.items)) self.old.world self.new.world }
     {
-        self.parts.take_records(owner, number)
+        let parts = &mut self.parts;
+        let Some(records) = parts.observers.take(owner, number) else {
+            unreachable!()
+        };
+        records
     }
 
     /// Empties an owner's set of pending observers, and gives each with the records of its queue, in order; their queues
     /// are then empty, and their transient registrations gone (DOM Standard, notify mutation observers). After a refusal
     /// of memory no owner has an observer.
+    /// It asks that the owner is there: `is_there` is the test.
     pub fn notify(&mut self, owner: Owner) -> Result<Vec<(u32, Vec<Record>)>, AllocError>
         requires { is_there self.old.world owner ≡ true }
         ensures names { self.new.names ≡ self.old.names }
@@ -94,6 +110,14 @@ impl Doc {
         ensures nodes { IfOk result (λ list. AllByRecursion (λ n. AllByRecursion (NamesNodes self.old) n.1.items) list.items) }
         ensures world { OnOk result (self.new.world ≡ with_part self.old.world (notified (part_of self.old.world owner))) }
     {
-        self.parts.notify(owner)
+        let parts = &mut self.parts;
+        let notices = match parts.observers.notify(owner) {
+            Ok(notices) => notices,
+            Err(error) => {
+                give_up_observers(&mut parts.observers, parts.alloc);
+                return Err(error);
+            }
+        };
+        Ok(notices)
     }
 }

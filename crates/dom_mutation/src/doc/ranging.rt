@@ -10,10 +10,8 @@ ghost use Rattle.dom_model.specs.Part.{range_at};
 ghost use Rattle.dom_model.specs.Ranges.{at, from_to};
 ghost use Rattle.dom_model.specs.Steps.{set_range};
 ghost use Rattle.dom_model.specs.World.{part_of};
-ghost use Rattle.dom_mutation.specs.Doc.{name_in, owner_in, stepped, Makes};
-ghost use Rattle.dom_mutation.specs.Ready.{IsReady, MayStand};
+ghost use Rattle.dom_mutation.specs.Doc.{name_in, owner_in, stepped, Makes, HoldsNode};
 ghost use Rattle.dom_mutation.specs.Ready.{MayStand};
-ghost use Rattle.dom_parts.specs.Doc.{HoldsNode};
 
 use crate::Doc;
 use dom_base::{Fault, Owner, Refusal};
@@ -25,12 +23,14 @@ impl Doc {
     pub fn has_range(&self, owner: Owner, number: u32) -> bool
         ensures { result ≡ is_some (range_at (part_of self.now.world owner) number) }
     {
-        self.parts.has_range(owner, number)
+        let parts = &self.parts;
+        parts.ranges.points(owner, number).is_some()
     }
 
     /// Makes a live range of an owner with both ends at offset 0 of the owner's first node, and gives its number (DOM
     /// Standard, new Range()). It is refused with `Limit` where the owner has made a million ranges, dropped ones counted,
-    /// and with `Memory` where memory is refused (own rules).
+    /// and with `Memory` where memory is refused (own rules). It asks for that first node, which `Forest::find` gives, and `range_set_start`
+    /// and `range_set_end` then take any node of the owner.
     pub fn range_make(&mut self, owner: Owner, first: Key) -> Result<u32, Fault>
         requires first_is_node { HoldsNode self.old first }
         requires is_first { name_in self.old first ≡ node_of owner 0 }
@@ -40,13 +40,15 @@ impl Doc {
         ensures other { IfErr result (λ fault. (fault ≡ Fault.Refused Limit) ⊎ (fault ≡ Fault.Memory)) }
         ensures err { OnErr result (self.new ≡ self.old) }
     {
-        self.parts.laws();
-        self.parts.range_make(owner, first)
+        self.laws();
+        let parts = &mut self.parts;
+        parts.ranges.make(owner, first)
     }
 
     /// Gives a live range another start, at an offset in a node of its owner; the end goes there too where it stands in
     /// another tree or would be before it (DOM Standard, setStart()). It is refused with `IndexSize` where the offset is past
     /// the node's length.
+    /// It asks that the owner has a range of this number: `has_range` is the test.
     pub fn range_set_start(
         &mut self,
         owner: Owner,
@@ -64,13 +66,18 @@ impl Doc {
         ensures other { IfErr result (λ refusal. refusal ≡ RefusalOf.IndexSize) }
         ensures err { OnErr result (self.new ≡ self.old) }
     {
-        self.parts.laws();
-        self.parts.range_set_start(owner, number, node, offset)
+        self.laws();
+        let parts = &mut self.parts;
+        parts.trees.forest.law_nodes_stand_once();
+        parts
+            .ranges
+            .set_start(owner, number, &parts.trees.forest, node, offset)
     }
 
     /// Gives a live range another end, at an offset in a node of its owner; the start goes there too where it stands in
     /// another tree or would be after it (DOM Standard, setEnd()). It is refused with `IndexSize` where the offset is past the
     /// node's length.
+    /// It asks that the owner has a range of this number: `has_range` is the test.
     pub fn range_set_end(
         &mut self,
         owner: Owner,
@@ -87,22 +94,29 @@ impl Doc {
         ensures other { IfErr result (λ refusal. refusal ≡ RefusalOf.IndexSize) }
         ensures err { OnErr result (self.new ≡ self.old) }
     {
-        self.parts.laws();
-        self.parts.range_set_end(owner, number, node, offset)
+        self.laws();
+        let parts = &mut self.parts;
+        parts.trees.forest.law_nodes_stand_once();
+        parts
+            .ranges
+            .set_end(owner, number, &parts.trees.forest, node, offset)
     }
 
     /// Sets both ends of a live range to its start, or to its end (DOM Standard, collapse()).
+    /// It asks that the owner has a range of this number: `has_range` is the test.
     pub fn range_collapse(&mut self, owner: Owner, number: u32, to_start: bool)
         requires { is_some (range_at (part_of self.old.world owner) number) ≡ true }
         ensures names { self.new.names ≡ self.old.names }
         ensures world { Makes owner (Command.range_collapse number to_start) nothing self.old.world self.new.world }
     {
-        self.parts.laws();
-        self.parts.range_collapse(owner, number, to_start);
+        self.laws();
+        let parts = &mut self.parts;
+        let _ = parts.ranges.collapse(owner, number, to_start);
     }
 
     /// Gives a live range both ends, at offsets in nodes of its owner, whichever comes first: the elementary step by which an
     /// operation on a range sets its ends (own rule).
+    /// It asks that the owner has a range of this number: `has_range` is the test.
     pub fn range_put(&mut self, owner: Owner, number: u32, points: Points)
         requires there { is_some (range_at (part_of self.old.world owner) number) ≡ true }
         requires start_is_node { HoldsNode self.old points.start.0 }
@@ -115,20 +129,24 @@ impl Doc {
             (set_range number (from_to (at (name_in self.old points.start.0) points.start.1) (at (name_in self.old points.end.0) points.end.1)))
             self.old }
     {
-        self.parts.laws();
-        self.parts.range_put(owner, number, points);
+        self.laws();
+        let parts = &mut self.parts;
+        parts.ranges.write(owner, number, points);
     }
 
     /// Drops a live range, whose number is not given again (own rule).
+    /// It asks that the owner has a range of this number: `has_range` is the test.
     pub fn range_remove(&mut self, owner: Owner, number: u32)
         requires { is_some (range_at (part_of self.old.world owner) number) ≡ true }
         ensures names { self.new.names ≡ self.old.names }
         ensures world { Makes owner (Command.range_drop number) nothing self.old.world self.new.world }
     {
-        self.parts.range_remove(owner, number);
+        let parts = &mut self.parts;
+        let _ = parts.ranges.remove(owner, number);
     }
 
     /// The ends of a live range, each a node of its owner and an offset (DOM Standard, interface AbstractRange).
+    /// It asks that the owner has a range of this number: `has_range` is the test.
     pub fn range_points(&self, owner: Owner, number: u32) -> Points
         requires { is_some (range_at (part_of self.now.world owner) number) ≡ true }
         ensures start_is_node { HoldsNode self.now result.start.0 }
@@ -139,6 +157,10 @@ impl Doc {
             (boundaries (at (name_in self.now result.start.0) result.start.1) (at (name_in self.now result.end.0) result.end.1)) self.now.world
             self.now.world }
     {
-        self.parts.range_points(owner, number)
+        let parts = &self.parts;
+        let Some(points) = parts.ranges.points(owner, number) else {
+            unreachable!()
+        };
+        points
     }
 }

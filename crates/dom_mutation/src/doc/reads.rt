@@ -2,19 +2,23 @@
 ghost use Rattle.std.specs.Prelude.{◌≡◌, ℕ, ◌≤◌, true, false, count_by};
 ghost use Rattle.std.specs.Option.{option_map, ForSome};
 ghost use Rattle.dom_model.specs.Names.{name_eq};
-ghost use Rattle.dom_model.specs.Tree.{nodes, kind_of, parent_of, length_of, index_of, has_node};
+ghost use Rattle.dom_model.specs.Tree.{nodes, kind_of, parent_of, length_of, index_of, has_node, is_document, root_of};
 ghost use Rattle.dom_base.specs.declared.NodeName.{NodeName as Name};
 ghost use Rattle.dom_base.specs.declared.Owner.{Owner as OwnerOf};
 ghost use Rattle.dom_model.specs.World.{part_of, is_there, is_connected};
 ghost use Rattle.dom_model.specs.CommandRefusals.{past_limit};
 ghost use Rattle.dom_worlds.specs.Worlds.{IsPart};
-ghost use Rattle.dom_mutation.specs.Doc.{name_in, owner_in, trees_in};
-ghost use Rattle.dom_mutation.specs.Hosting.{IsAlone};
+ghost use Rattle.dom_mutation.specs.Doc.{name_in, owner_in, trees_in, HoldsNode};
+ghost use Rattle.dom_slots.specs.Hosts.{HostsAreNodes};
+ghost use Rattle.dom_slots.specs.Shadows.{shadows};
+ghost use Rattle.dom_tree.specs.Forest.{IsNode, name_of};
+ghost use Rattle.dom_mutation.specs.Hosting.{IsAlone, outermost_root};
 ghost use Rattle.dom_mutation.specs.Ready.{IsReady};
-ghost use Rattle.dom_parts.specs.Doc.{HoldsNode};
 
 use crate::Doc;
 use dom_base::Kind;
+use dom_slots::Slots;
+use dom_tree::Forest;
 use node_arena::Key;
 
 impl Doc {
@@ -56,7 +60,8 @@ impl Doc {
         requires { HoldsNode self.now node }
         ensures { result ≡ index_of (trees_in self.now node) (name_in self.now node) }
     {
-        self.parts.index(node)
+        let parts = &self.parts;
+        parts.trees.forest.index(node)
     }
 
     /// Whether a node's shadow-including root is a document (DOM Standard, concept: connected). Above a node's root there are at most as
@@ -65,7 +70,11 @@ impl Doc {
         requires { HoldsNode self.now node }
         ensures { result ≡ is_connected self.now.world (name_in self.now node) }
     {
-        self.parts.is_connected(node)
+        let parts = &self.parts;
+        parts.trees.forest.law_nodes_stand_once();
+        let depth = parts.trees.forest.name(node).owner.depth();
+        let root = outermost_root(&parts.trees.forest, &parts.trees.slots, node, depth);
+        is_document(parts.trees.forest.kind(root))
     }
 
     /// The parent of a node, which a root has not (DOM Standard, concept: parent).
@@ -77,4 +86,33 @@ impl Doc {
     {
         self.parts.parent(node)
     }
+}
+
+/// The root of a node's tree, or where that has a host the root of the host's tree, and so on, from host to host, so often at
+/// most (DOM Standard, concept: shadow-including root).
+fn outermost_root(forest: &Forest, slots: &Slots, node: Key, depth: u8) -> Key
+    requires node_is_node { IsNode forest.now node }
+    requires hosts { HostsAreNodes forest.now.names slots.now.hosts }
+    ensures node { IsNode forest.now result }
+    ensures value { name_of forest.now result ≡ outermost_root (shadows forest.now slots.now.hosts) depth
+        (root_of forest.now.trees (name_of forest.now node)) }
+{
+    forest.law_nodes_stand_once();
+    let mut root = forest.root(node);
+    let mut left = depth;
+    while left > 0 {
+        let Some(host) = slots.host_of(root) else {
+            return root;
+        };
+        root = forest.root(host);
+        left -= 1;
+    }
+    root
+}
+
+/// Whether a kind is that of documents.
+fn is_document(kind: Kind) -> bool
+    ensures { result ≡ is_document kind }
+{
+    matches!(kind, Kind::Document)
 }

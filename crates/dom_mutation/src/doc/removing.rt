@@ -4,8 +4,7 @@ ghost use Rattle.dom_base.specs.declared.Refusal.{Refusal as RefusalOf};
 ghost use Rattle.dom_base.specs.declared.Refusal.TheVariants.{Hierarchy, NotSupported};
 ghost use Rattle.dom_model.specs.Tree.{kind_of, is_document};
 ghost use Rattle.dom_model.specs.Changes.{remove_plan, adopt_plan, observed};
-ghost use Rattle.dom_mutation.specs.Doc.{made, name_in, owner_in, trees_in, adoption_refusal};
-ghost use Rattle.dom_parts.specs.Doc.{HoldsNode};
+ghost use Rattle.dom_mutation.specs.Doc.{made, name_in, owner_in, trees_in, adoption_refusal, HoldsNode};
 
 use crate::Doc;
 use crate::removing::{SuppressObserversFlag, adopting, removing};

@@ -6,15 +6,14 @@ ghost use Rattle.dom_model.specs.Tree.{is_inclusive_ancestor};
 ghost use Rattle.dom_model.specs.Validity.{replace_refusal};
 ghost use Rattle.dom_model.specs.World.{part_of};
 ghost use Rattle.dom_worlds.specs.Bounds.{HasBounds};
-ghost use Rattle.dom_mutation.specs.Doc.{made, planned, name_in, owner_in, trees_in, IsChild};
-ghost use Rattle.dom_parts.specs.Doc.{AreNodes, HoldsNode};
+ghost use Rattle.dom_mutation.specs.Doc.{made, planned, name_in, owner_in, trees_in, IsChild, AreNodes, HoldsNode};
 
 use crate::Doc;
 use crate::inserting::{children, inserting, is_fragment, reference_child};
+use crate::parts::Parts;
 use crate::removing::{SuppressObserversFlag, removing};
 use crate::settling::given_up;
 use dom_base::Fault;
-use dom_parts::Parts;
 use node_arena::Key;
 use smallvec::SmallVec;
 use std::alloc::AllocError;
@@ -69,6 +68,7 @@ fn replacing(parts: &mut Parts, parent: Key, node: Key, child: Key) -> Result<()
     let prev = parts.prev(child);
     let added = placed_nodes(parts, node)?;
     removing(parts, SuppressObserversFlag::Suppressed, child)?;
+    // An `Option<Key>` that is passed on and used again is passed under a second name, since the first one counts as lent.
     let before = reference;
     inserting(
         parts,

@@ -7,8 +7,7 @@ ghost use Rattle.dom_model.specs.TextChanges.{splitting};
 ghost use Rattle.dom_model.specs.Tree.{kind_of, is_text};
 ghost use Rattle.dom_model.specs.World.{part_of};
 ghost use Rattle.dom_model.specs.CommandRefusals.{past_end};
-ghost use Rattle.dom_mutation.specs.Doc.{made, name_in, owner_in, trees_in, splitting_refusal};
-ghost use Rattle.dom_parts.specs.Doc.{HoldsNode};
+ghost use Rattle.dom_mutation.specs.Doc.{made, name_in, owner_in, trees_in, splitting_refusal, HoldsNode};
 
 use crate::Doc;
 use crate::splitting::split;

@@ -4,8 +4,7 @@ ghost use Rattle.dom_base.specs.declared.Refusal.TheVariants.{Limit};
 ghost use Rattle.dom_model.specs.TextChanges.{setting_text};
 ghost use Rattle.dom_model.specs.World.{part_of};
 ghost use Rattle.dom_model.specs.CommandRefusals.{past_limit, made_by_text};
-ghost use Rattle.dom_mutation.specs.Doc.{made, name_in, owner_in, texts_made};
-ghost use Rattle.dom_parts.specs.Doc.{HoldsNode};
+ghost use Rattle.dom_mutation.specs.Doc.{made, name_in, owner_in, texts_made, HoldsNode};
 
 use crate::Doc;
 use crate::texts::replace_children;

@@ -1,7 +1,8 @@
 use Rattle.dom_mutation.proofs.Cited.{[], ◌∷◌, None, map, sym, ap, ◌∙◌, subst, on_ok_weaker, inclusive_ancestors, Part, child_list, queue_record, in_turn}
-use Rattle.dom_mutation.proofs.Cited.{suppressed, remove_plan, DocState, name_in, owner_in, trees_in, IsAlone, alone_made}
-use Rattle.dom_mutation.proofs.Cited.{keeps-each, keeps-removing, own_moves}
+use Rattle.dom_mutation.proofs.Cited.{suppressed, remove_plan, DocState, name_in, owner_in, trees_in, IsAlone, keeps-each, keeps-removing}
 use Rattle.dom_mutation.proofs.inserting.empty.Goals as goal
+use Rattle.dom_mutation.proofs.Made.{alone_made}
+use Rattle.dom_mutation.proofs.OwnPlans.{own_moves}
 
 pub returns-clause-paths : goal.returns-clause-paths
 returns-clause-paths c =

@@ -1,11 +1,12 @@
-use Rattle.dom_mutation.proofs.Cited.{◌≡◌, ◌<◌, ℕ, List, length, map, flat_map, refl, subst, sym, ap, ◌∙◌, on_ok_weaker, NodeName, Plan, ◌and_then◌}
-use Rattle.dom_mutation.proofs.Cited.{in_turn, steps_of, observed}
-use Rattle.dom_mutation.proofs.Cited.{remove_plan, DomString, replacing_data, joins, node_in, DocState, name_in, owner_in, planned, trees_in}
-use Rattle.dom_mutation.proofs.Cited.{planned_then, keeps-and_then, keeps-replacing_data, made-joins, own_moves, own_rules}
+use Rattle.dom_mutation.proofs.Cited.{◌≡◌, ◌<◌, ℕ, List, length, map, flat_map, refl, subst, sym, ap, ◌∙◌, on_ok_weaker, NodeName, Plan, ◌and_then◌, in_turn}
+use Rattle.dom_mutation.proofs.Cited.{steps_of, observed, remove_plan, DomString, replacing_data, joins, node_in, DocState, name_in, owner_in, planned}
+use Rattle.dom_mutation.proofs.Cited.{trees_in, keeps-and_then, keeps-replacing_data, made-joins}
 use Rattle.dom_mutation.proofs.Joined.{own_nodes}
 use Rattle.dom_mutation.proofs.Joining.{IsGrown, grown_for}
 use Rattle.dom_mutation.proofs.normalizing.joining.Goals.{In_ok-gather}
 use Rattle.dom_mutation.proofs.normalizing.joining.Goals as goal
+use Rattle.dom_mutation.proofs.Made.{planned_then}
+use Rattle.dom_mutation.proofs.OwnPlans.{own_moves, own_rules}
 
 pub join_each-requires-clause-nexts_are_nodes : goal.join_each-requires-clause-nexts_are_nodes
 join_each-requires-clause-nexts_are_nodes c =

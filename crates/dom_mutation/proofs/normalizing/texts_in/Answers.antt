@@ -1,5 +1,4 @@
-use Rattle.dom_mutation.proofs.Cited.{List, ℕ, [], ◌∷◌, ◌++◌, if◌then◌else◌, needs_normalizing, subst, sym, ap, ◌∙◌, is_text}
-use Rattle.dom_mutation.proofs.Cited.{kind_of, name_at}
+use Rattle.dom_mutation.proofs.Cited.{List, ℕ, [], ◌∷◌, ◌++◌, if◌then◌else◌, needs_normalizing, subst, sym, ap, ◌∙◌, is_text, kind_of, name_at}
 use Rattle.dom_tree.specs.Definitions.{NamedTrees}
 use Rattle.node_arena.specs.Spots.{key_in}
 use Rattle.dom_mutation.proofs.Joined.{Gathers, found_own, gathers_first, gathers_fewer, gathers_other, gathers_text, near_own, needs_own, stands_own, text_own}

@@ -1,6 +1,7 @@
-use Rattle.dom_mutation.proofs.Cited.{ap, ◌∙◌, on_ok_weaker, remove_plan, changing_document, observed, name_in, owner_in, planned, planned_then}
-use Rattle.dom_mutation.proofs.Cited.{keeps-removing, own_moves}
+use Rattle.dom_mutation.proofs.Cited.{ap, ◌∙◌, on_ok_weaker, remove_plan, changing_document, observed, name_in, owner_in, planned, keeps-removing}
 use Rattle.dom_mutation.proofs.removing.adopting.Goals as goal
+use Rattle.dom_mutation.proofs.Made.{planned_then}
+use Rattle.dom_mutation.proofs.OwnPlans.{own_moves}
 
 pub returns : goal.returns
 returns c =

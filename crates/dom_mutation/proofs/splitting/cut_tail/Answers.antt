@@ -1,7 +1,9 @@
 use Rattle.dom_mutation.proofs.Cited.{◌≡◌, ℕ, length, arith, [], option_map, ap, sym, ◌∙◌, on_ok_weaker, parent_of, placing_tail, replacing_data, DocState}
-use Rattle.dom_mutation.proofs.Cited.{name_in, owner_in, trees_in, planned, planned_then, keeps-placing_tail, own_rules}
+use Rattle.dom_mutation.proofs.Cited.{name_in, owner_in, trees_in, planned, keeps-placing_tail}
 use Rattle.dom_mutation.proofs.splitting.cut_tail.Goals.{in-Some+in_ok-placing_tail, in_default}
 use Rattle.dom_mutation.proofs.splitting.cut_tail.Goals as goal
+use Rattle.dom_mutation.proofs.Made.{planned_then}
+use Rattle.dom_mutation.proofs.OwnPlans.{own_rules}
 
 pub returns : goal.returns
 returns c =

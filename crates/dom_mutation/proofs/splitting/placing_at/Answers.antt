@@ -1,9 +1,11 @@
 use Rattle.dom_mutation.proofs.Cited.{ℕ, option_map, sym, ap, subst, ◌∙◌, arith, HasBounds, Plan, ◌and_then◌, observed, insert_plan, doing, split_at, index_of}
-use Rattle.dom_mutation.proofs.Cited.{part_of, DocState, name_in, owner_in, planned, stepped, trees_in, planned_then, keeps-inserting, own_moves}
+use Rattle.dom_mutation.proofs.Cited.{part_of, DocState, name_in, owner_in, planned, stepped, trees_in, keeps-inserting}
 use Rattle.dom_mutation.proofs.Replaced.{next_is_near}
 use Rattle.dom_mutation.proofs.Tails.{tail_may}
 use Rattle.dom_mutation.proofs.BoundedDocs.{index_limited}
 use Rattle.dom_mutation.proofs.splitting.placing_at.Goals as goal
+use Rattle.dom_mutation.proofs.Made.{planned_then}
+use Rattle.dom_mutation.proofs.OwnPlans.{own_moves}
 
 pub inserting-requires-clause-may_move : goal.inserting-requires-clause-may_move
 inserting-requires-clause-may_move c =

@@ -1,10 +1,12 @@
 use Rattle.dom_mutation.proofs.Cited.{◌≡◌, subst, ℕ, [], ◌∷◌, List, None, map, ap, sym, ◌∙◌, on_ok_weaker, NodeName, Plan, ◌and_then◌, doing, in_turn}
 use Rattle.dom_mutation.proofs.Cited.{suppressed, remove_plan, insert_plan, child_list, queue_record, DocState, AreNodes, name_in, owner_in, planned, stepped}
-use Rattle.dom_mutation.proofs.Cited.{planned_then, keeps-and_then, keeps-each, keeps-inserting, keeps-removing, own_moves}
+use Rattle.dom_mutation.proofs.Cited.{keeps-and_then, keeps-each, keeps-inserting, keeps-removing}
 use Rattle.dom_mutation.proofs.Nodes.{nodes_kept, own_nodes}
 use Rattle.dom_mutation.proofs.Emptied.{text_may}
 use Rattle.dom_mutation.proofs.BoundedDocs.{bounds_cleared, bounds_at}
 use Rattle.dom_mutation.proofs.texts.put_text.Goals as goal
+use Rattle.dom_mutation.proofs.Made.{planned_then}
+use Rattle.dom_mutation.proofs.OwnPlans.{own_moves}
 
 pub inserting-requires-clause-may_move : goal.inserting-requires-clause-may_move
 inserting-requires-clause-may_move c =

@@ -1,5 +1,5 @@
 use Rattle.dom_range_ops.proofs.Cited.{refl, sym, ◌∙◌, plan_of_range, both_at, deleting, at, set_range, name_in, ready-planned, stands-then, ready-deleting, ℕ}
-use Rattle.dom_parts.specs.Definitions.{stepped}
+use Rattle.dom_mutation.specs.Definitions.{stepped}
 use Rattle.dom_range_ops.proofs.DeletionPlans.{deletion-done, deletion-there, deletion-owner}
 use Rattle.dom_range_ops.proofs.InsertedRanges.{range-there}
 use Rattle.dom_range_ops.proofs.deleting.delete.Goals as goal

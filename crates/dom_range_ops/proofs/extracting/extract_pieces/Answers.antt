@@ -1,6 +1,6 @@
 use Rattle.dom_range_ops.proofs.Cited.{◌≡◌, true, arith, refl, sym, ap, ◌∙◌, subst, NodeName, Owner, doing, both_at, own_document, new_fragment_node, next_name}
 use Rattle.dom_range_ops.proofs.Cited.{at, make, set_range, part_of, is_there, DocState, made, name_in, AreReady, IsAlone, stands-then}
-use Rattle.dom_parts.specs.Definitions.{stepped}
+use Rattle.dom_mutation.specs.Definitions.{stepped}
 use Rattle.dom_range_ops.proofs.TakingExtracts.{Fragment, into-node, pieces-kept, may-after, names-then, name-then, node-then, range-then, extracted}
 use Rattle.dom_range_ops.proofs.extracting.extract_pieces.Goals.{In_ok-into}
 use Rattle.dom_range_ops.proofs.extracting.extract_pieces.Goals as goal

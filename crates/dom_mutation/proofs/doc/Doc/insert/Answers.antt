@@ -1,6 +1,5 @@
-use Rattle.dom_mutation.proofs.Cited.{◌≡◌, false, sym, ap, subst, ◌∙◌, option_map, Owner, kind_of, is_shadow, part_of, err_of}
+use Rattle.dom_mutation.proofs.Cited.{◌≡◌, false, sym, ap, subst, ◌∙◌, option_map, Owner, kind_of, is_shadow, part_of, err_of, insertion-tested}
 use Rattle.dom_mutation.specs.Definitions.{name_in, trees_in}
-use Rattle.dom_mutation.proofs.Cited.{insertion-tested}
 use Rattle.dom_mutation.proofs.doc.Doc.insert.Goals as goal
 
 pub insert_unchecked-requires-clause-open : goal.insert_unchecked-requires-clause-open

@@ -1,6 +1,5 @@
-use Rattle.dom_mutation.proofs.Cited.{◌≡◌, ℕ, List, NodeName, DocState, IsPart, filter, true, ◌&&◌}
-use Rattle.dom_mutation.proofs.Cited.{all-then, and_parts, needs_normalizing, normalizing-needed, part_of, world_after, map, ap, ◌∙◌}
-use Rattle.dom_mutation.proofs.Cited.{in_turn, normalizing, normalizing_text, is_text, kind_of, descendants}
+use Rattle.dom_mutation.proofs.Cited.{◌≡◌, ℕ, List, NodeName, DocState, IsPart, filter, true, ◌&&◌, all-then, and_parts, needs_normalizing, normalizing-needed}
+use Rattle.dom_mutation.proofs.Cited.{part_of, world_after, map, ap, ◌∙◌, in_turn, normalizing, normalizing_text, is_text, kind_of, descendants}
 use Rattle.dom_mutation.specs.Definitions.{made, name_in, owner_in, trees_in, planned}
 use Rattle.dom_mutation.proofs.NormalizedEach.{listed_texts}
 use Rattle.dom_mutation.proofs.ReadyCalls.{planned-done}

@@ -1,13 +1,15 @@
 use Rattle.dom_mutation.proofs.Cited.{◌≡◌, ◌∷◌, [], ℕ, List, Option, map, option_map, sym, ap, subst, ◌∙◌, on_ok_weaker, NodeName, Plan, ◌and_then◌, doing}
 use Rattle.dom_mutation.proofs.Cited.{suppressed, remove_plan, insert_plan, placed_nodes, reference_child, child_list, queue_record, next_sibling}
-use Rattle.dom_mutation.proofs.Cited.{previous_sibling, part_of, DocState, AreNodes, name_in, owner_in, planned, stepped, trees_in, planned_then}
-use Rattle.dom_mutation.proofs.Cited.{keeps-and_then, keeps-inserting, keeps-removing, own_moves}
+use Rattle.dom_mutation.proofs.Cited.{previous_sibling, part_of, DocState, AreNodes, name_in, owner_in, planned, stepped, trees_in}
+use Rattle.dom_mutation.proofs.Cited.{keeps-and_then, keeps-inserting, keeps-removing}
 use Rattle.dom_mutation.proofs.BoundedDocs.{bounds_removed, bounds_at}
 use Rattle.dom_mutation.proofs.Nodes.{nodes_kept}
 use Rattle.dom_mutation.proofs.Replaced.{next_is_near, stays_removed}
 use Rattle.dom_mutation.proofs.Turns.{Stays, may_now, child_now}
 use Rattle.dom_mutation.proofs.doc.replacing.replacing.Goals.{In_ok-removing}
 use Rattle.dom_mutation.proofs.doc.replacing.replacing.Goals as goal
+use Rattle.dom_mutation.proofs.Made.{planned_then}
+use Rattle.dom_mutation.proofs.OwnPlans.{own_moves}
 
 pub reference_child-reference-requires-clause-child_is_child : goal.reference_child-reference-requires-clause-child_is_child
 reference_child-reference-requires-clause-child_is_child c =

@@ -1,0 +1,6 @@
+use Rattle.dom_mutation.proofs.Cited.{◌∙◌}
+use Rattle.dom_mutation.proofs.CursorCommands.{walk_is}
+use Rattle.dom_mutation.proofs.doc.Doc.has_walker.Goals as goal
+
+pub returns : goal.returns
+returns c = c.has_walker.ensures ∙ walk_is c.parts.inside.trees.forest c.parts.invariant (c.parts.view_is ∙ c.self.view_is) c.args.owner c.args.number
