@@ -6,3 +6,5 @@ mod Visiting
 mod Placing
 mod Staying
 mod Typed
+mod Listing
+mod Taking

@@ -1,51 +1,54 @@
--- The places of a node's entries in a table, and the entries in them.
-use Rattle.dom_dispatch.proofs.Cited.{◌≡◌, ℕ, ◌+◌, ◌<◌, ◌||◌, Bool, true, false, not, List, [], ◌∷◌, ◌++◌, length, get_or, take, filter, Option, Some, None}
-use Rattle.dom_dispatch.proofs.Cited.{zero, suc, refl, sym, ap, subst, ◌∙◌, arith, append_assoc, append-nil, length-append, nat_eq, is_some, filter_map}
-use Rattle.dom_dispatch.proofs.Cited.{slice_get, slice_index_or, slice_set, remove, if◌then◌else◌, list_any, cons_option, option_flatten, option_map_or}
-use Rattle.dom_dispatch.proofs.Cited.{or-false, or-true, set-append_seam, cond-true, cond-false, eqb-true, map-append, length_push, take_more, list_any-append}
-use Rattle.dom_dispatch.proofs.Cited.{slice_get_within, slice_get-get_or, get_or_from_slice_get, filter_map-append, filter-append, filter_more, any-filter_same}
-use Rattle.dom_dispatch.proofs.Cited.{by_cases, filter-map, Listener, Entry, listener_of, listeners_in, present, entry_at, is_of_node, places_at, places_from}
-use Rattle.dom_dispatch.proofs.Cited.{passes_in, IsIndexed, Places}
+-- The places of listeners in a table, and the entries in them.
+use Rattle.dom_dispatch.proofs.Cited.{◌≡◌, ◌≢◌, ◌⊎◌, inl, inr, ℕ, ◌+◌, ◌<◌, ◌&&◌, ◌||◌, Bool, true, false, cond, not, List, [], ◌∷◌, ◌++◌, length, take}
+use Rattle.dom_dispatch.proofs.Cited.{filter, find, Option, Some, None, IfSome, zero, suc, refl, sym, ap, subst, ◌∙◌, arith, append_assoc, append-nil}
+use Rattle.dom_dispatch.proofs.Cited.{nat_eq, is_some, slice_get, slice_set, if◌then◌else◌, list_any, cons_option, option_flatten, option_map_or}
+use Rattle.dom_dispatch.proofs.Cited.{cond-true, cond-false, ne_eqb, eqb_tells, map-append, length_push}
+use Rattle.dom_dispatch.proofs.Cited.{take_more, slice_get_within, get_or_from_slice_get, filter_map-append}
+use Rattle.dom_dispatch.proofs.Cited.{filter-append, any-filter_same, AllByRecursion, unwrap_or}
+use Rattle.dom_dispatch.proofs.Cited.{first_in, rest_in, places_in, PlaceList, by_cases, filter-map, Listener, Entry}
+use Rattle.dom_dispatch.proofs.Cited.{listener_of, listeners_in, present, entry_at, picked}
+use Rattle.dom_dispatch.proofs.Cited.{and_parts, and_from, beq, text_eq, is_listener, hears_at, passes, passes_in, is_of_type, places_from}
+use Rattle.dom_dispatch.proofs.Cited.{IsIndexed, Places, Word}
 use Rattle.dom_dispatch.proofs.Narrowing.{filter-wider}
 
 -- what stands behind others
-get-seam : {X : Type 0} (xs : List X) (y : X) (ys : List X) → slice_get (xs ++ y ∷ ys) (length xs) ≡ Some y
+pub get-seam : {X : Type 0} (xs : List X) (y : X) (ys : List X) → slice_get (xs ++ y ∷ ys) (length xs) ≡ Some y
 get-seam [] y ys = refl
 get-seam (x ∷ xs) y ys = get-seam xs y ys
 
--- and is taken out there
-remove-seam : {X : Type 0} (xs : List X) (y : X) (ys : List X) → remove (xs ++ y ∷ ys) (length xs) ≡ xs ++ ys
-remove-seam [] y ys = refl
-remove-seam (x ∷ xs) y ys = ap (λ zs. x ∷ zs) (remove-seam xs y ys)
+-- what is read of an entry that may not be there
+pub flat : (o : Option (Option Entry)) → option_flatten o ≡ unwrap_or o None
+flat None = refl
+flat (Some o) = refl
 
--- the places along two lists
-pub places-append : (k n : ℕ) (xs ys : List (Option Entry)) → places_from k n (xs ++ ys) ≡ places_from k n xs ++ places_from k (n + length xs) ys
-places-append k n [] ys = ap (λ m. places_from k m ys) (omega arith)
-places-append k n (x ∷ xs) ys = by (is_of_node k x) (places-append k (n + 1) xs ys ∙ ap (λ m. places_from k (n + 1) xs ++ places_from k m ys) (omega arith))
+-- what passes two tests
+pub filter-both : {X : Type 0} (p q r : X → Bool) → ((x : X) → r x ≡ (p x && q x)) → (xs : List X) → filter q (filter p xs) ≡ filter r xs
+filter-both p q r both [] = refl
+filter-both p q r both (x ∷ xs) = by (p x) (filter-both p q r both xs) ∙ sym (ap (λ b. if b then x ∷ filter r xs else filter r xs) (both x))
   where
-    by : (b : Bool) → places_from k (n + 1) (xs ++ ys) ≡ places_from k (n + 1) xs ++ places_from k (n + length (x ∷ xs)) ys
-        → (if b then n ∷ places_from k (n + 1) (xs ++ ys) else places_from k (n + 1) (xs ++ ys)) ≡
-        (if b then n ∷ places_from k (n + 1) xs else places_from k (n + 1) xs) ++ places_from k (n + length (x ∷ xs)) ys
-    by true rest = ap (λ ps. n ∷ ps) rest
+    by : (b : Bool) → filter q (filter p xs) ≡ filter r xs →
+        filter q (if b then x ∷ filter p xs else filter p xs) ≡ (if b && q x then x ∷ filter r xs else filter r xs)
+    by true rest = ap (λ ys. if q x then x ∷ ys else ys) rest
     by false rest = rest
 
--- the places with one entry more
-pub places-more : (k : ℕ) (es : List (Option Entry)) (e : Entry) {before now : List ℕ} → before ≡ places_from k 0 es →
-    now ≡ (if nat_eq e.node k then before ++ length es ∷ [] else before)
-    → now ≡ places_from k 0 (es ++ Some e ∷ [])
-places-more k es e was is =
-    is ∙ ap (λ ps. if nat_eq e.node k then ps ++ length es ∷ [] else ps) was ∙ by (nat_eq e.node k)
-    ∙ sym (places-append k 0 es (Some e ∷ []) ∙ ap (λ m. places_from k 0 es ++ places_from k m (Some e ∷ [])) (omega arith))
+-- all fit, if one does and all others do
+pub all-but : (P : ℕ → Type 0) (i : ℕ) → P i → (js : List ℕ) → AllByRecursion P (filter (λ j. not (nat_eq j i)) js) → AllByRecursion P js
+all-but P i it [] all = tt
+all-but P i it (j ∷ js) all = by (eqb_tells j i) (all-but P i it js)
   where
-    by : (b : Bool) → (if b then places_from k 0 es ++ length es ∷ [] else places_from k 0 es) ≡ places_from k 0 es ++ (if b then length es ∷ [] else [])
-    by true = refl
-    by false = sym (append-nil (places_from k 0 es))
+    rest : List ℕ
+    rest = filter (λ k. not (nat_eq k i)) js
 
--- ---- the entries of a node
+    by : ((nat_eq j i ≡ true) × (j ≡ i)) ⊎ ((nat_eq j i ≡ false) × (j ≢ i)) → (AllByRecursion P rest → AllByRecursion P js) → AllByRecursion P (j ∷ js)
+    by (inl same) behind = (
+      subst P (sym same.1) it,
+      behind (subst (λ b. AllByRecursion P (if not b then j ∷ rest else rest)) same.0 all),
+    )
+    by (inr other) behind =
+        let both : AllByRecursion P (j ∷ rest) = subst (λ b. AllByRecursion P (if not b then j ∷ rest else rest)) other.0 all in
+        (both.0, behind both.1)
 
--- the entries in some places
-abbrev pub picked : List (Option Entry) → List ℕ → List Entry
-picked es places = filter_map (entry_at es) places
+-- ---- the entries in places
 
 -- with one place more
 picked-next : (es : List (Option Entry)) (places : List ℕ) (i place : ℕ) → slice_get places i ≡ Some place →
@@ -55,212 +58,219 @@ picked-next es places i place there =
     ap (λ x. take i places ++ x ∷ []) (get_or_from_slice_get places i place place there))
     ∙ filter_map-append (entry_at es) (take i places) (place ∷ [])
 
-module _ (p : Listener ℕ → Bool) (es : List (Option Entry)) (places : List ℕ) (i place : ℕ) (there : slice_get places i ≡ Some place) where
-  -- those that pass a test
-  kept-split : filter p (listeners_in (picked es (take (i + 1) places))) ≡ filter p (listeners_in (picked es (take i places))) ++
-      filter p (listeners_in (cons_option (entry_at es place) []))
-  kept-split =
-      ap (λ xs. filter p (listeners_in xs)) (picked-next es places i place there)
-      ∙ ap (filter p) (map-append listener_of (picked es (take i places)) (cons_option (entry_at es place) []))
-      ∙ filter-append p (listeners_in (picked es (take i places))) (listeners_in (cons_option (entry_at es place) []))
+module _ (p : Listener ℕ → Bool) (es : List (Option Entry)) where
+  module _ (places : List ℕ) (i place : ℕ) (there : slice_get places i ≡ Some place) where
+    -- those that pass a test
+    kept-split : filter p (listeners_in (picked es (take (i + 1) places))) ≡ filter p (listeners_in (picked es (take i places))) ++
+        filter p (listeners_in (cons_option (entry_at es place) []))
+    kept-split =
+        ap (λ xs. filter p (listeners_in xs)) (picked-next es places i place there)
+        ∙ ap (filter p) (map-append listener_of (picked es (take i places)) (cons_option (entry_at es place) []))
+        ∙ filter-append p (listeners_in (picked es (take i places))) (listeners_in (cons_option (entry_at es place) []))
 
-  -- none passes a test, if the one in that place doesn't
-  pub none-next : list_any p (listeners_in (picked es (take i places))) ≡ false → passes_in p es place ≡ false →
-      list_any p (listeners_in (picked es (take (i + 1) places))) ≡ false
-  none-next none not_it =
-      ap (λ xs. list_any p (listeners_in xs)) (picked-next es places i place there)
-      ∙ ap (list_any p) (map-append listener_of (picked es (take i places)) (cons_option (entry_at es place) []))
-      ∙ list_any-append p (listeners_in (picked es (take i places))) (listeners_in (cons_option (entry_at es place) []))
-      ∙ (λ j. none j || (alone (entry_at es place) ∙ not_it) j)
+    -- are the same, if there is none in that place or the one in it doesn't
+    pub kept-same : passes_in p es place ≡ false →
+        filter p (listeners_in (picked es (take (i + 1) places))) ≡ filter p (listeners_in (picked es (take i places)))
+    kept-same not_it = kept-split ∙ ap (λ ls. filter p (listeners_in (picked es (take i places))) ++ ls) (alone (entry_at es place) not_it) ∙
+        append-nil (filter p (listeners_in (picked es (take i places))))
+      where
+        alone : (o : Option Entry) → passes p o ≡ false → filter p (listeners_in (cons_option o [])) ≡ []
+        alone None h = refl
+        alone (Some e) h = cond-false (p (listener_of e)) (listener_of e ∷ []) [] h
+
+    -- and that one comes to them, if it passes
+    pub kept-next : (e : Entry) → entry_at es place ≡ Some e → p (listener_of e) ≡ true →
+        filter p (listeners_in (picked es (take (i + 1) places))) ≡ filter p (listeners_in (picked es (take i places))) ++ listener_of e ∷ []
+    kept-next e at it =
+        kept-split ∙ ap (λ ls. filter p (listeners_in (picked es (take i places))) ++ ls)
+        (ap (λ o. filter p (listeners_in (cons_option o []))) at ∙ cond-true (p (listener_of e)) (listener_of e ∷ []) [] it)
+
+  -- those in two lists of places
+  pub kept-append : (xs ys : List ℕ) → filter p (listeners_in (picked es (xs ++ ys))) ≡ filter p (listeners_in (picked es xs)) ++
+      filter p (listeners_in (picked es ys))
+  kept-append xs ys =
+      ap (λ zs. filter p (listeners_in zs)) (filter_map-append (entry_at es) xs ys) ∙ ap (filter p) (map-append listener_of (picked es xs) (picked es ys))
+      ∙ filter-append p (listeners_in (picked es xs)) (listeners_in (picked es ys))
+
+  -- whether one of them has such a listener
+  found-any : (places : List ℕ) → is_some (find (passes_in p es) places) ≡ list_any p (listeners_in (picked es places))
+  found-any [] = refl
+  found-any (i ∷ places) = by (entry_at es i) (found-any places)
     where
-      alone : (o : Option Entry) → list_any p (listeners_in (cons_option o [])) ≡ option_map_or (λ (e : Entry). p (listener_of e)) o false
-      alone None = refl
-      alone (Some e) = or-false (p (listener_of e))
+      first : (b : Bool) → is_some (find (passes_in p es) places) ≡ list_any p (listeners_in (picked es places)) →
+          is_some (cond b (Some i) (find (passes_in p es) places)) ≡ (b || list_any p (listeners_in (picked es places)))
+      first true rest = refl
+      first false rest = rest
 
-  -- those that pass it are the same, if there is none or the one in that place doesn't
-  pub kept-same : passes_in p es place ≡ false → filter p (listeners_in (picked es (take (i + 1) places))) ≡ filter p (listeners_in (picked es (take i places)))
-  kept-same not_it = kept-split ∙ ap (λ ls. filter p (listeners_in (picked es (take i places))) ++ ls) (alone (entry_at es place) not_it) ∙
-      append-nil (filter p (listeners_in (picked es (take i places))))
+      by : (o : Option Entry) → is_some (find (passes_in p es) places) ≡ list_any p (listeners_in (picked es places)) →
+          is_some (cond (passes p o) (Some i) (find (passes_in p es) places)) ≡ list_any p (listeners_in (cons_option o (picked es places)))
+      by None rest = rest
+      by (Some e) rest = first (p (listener_of e)) rest
+
+-- what is found passes
+pub found-passes : (q : ℕ → Bool) (xs : List ℕ) → IfSome (find q xs) (λ x. q x ≡ true)
+found-passes q [] = tt
+found-passes q (x ∷ xs) = by_cases (q x)
+    (λ e. subst (λ b. IfSome (cond b (Some x) (find q xs)) (λ y. q y ≡ true)) (sym e) e)
+    (λ e. subst (λ b. IfSome (cond b (Some x) (find q xs)) (λ y. q y ≡ true)) (sym e) (found-passes q xs))
+
+-- ---- the places of the listeners that pass a test
+
+module _ (q : Listener ℕ → Bool) where
+  -- along two lists
+  pub places-append : (n : ℕ) (xs ys : List (Option Entry)) → places_from q n (xs ++ ys) ≡ places_from q n xs ++ places_from q (n + length xs) ys
+  places-append n [] ys = ap (λ m. places_from q m ys) (omega arith)
+  places-append n (x ∷ xs) ys = by (passes q x) (places-append (n + 1) xs ys ∙ ap (λ m. places_from q (n + 1) xs ++ places_from q m ys) (omega arith))
     where
-      alone : (o : Option Entry) → option_map_or (λ (e : Entry). p (listener_of e)) o false ≡ false → filter p (listeners_in (cons_option o [])) ≡ []
-      alone None h = refl
-      alone (Some e) h = cond-false (p (listener_of e)) (listener_of e ∷ []) [] h
-
-  -- and that one comes to them, if it passes
-  pub kept-next : (e : Entry) → entry_at es place ≡ Some e → p (listener_of e) ≡ true →
-      filter p (listeners_in (picked es (take (i + 1) places))) ≡ filter p (listeners_in (picked es (take i places))) ++ listener_of e ∷ []
-  kept-next e at it =
-      kept-split ∙ ap (λ ls. filter p (listeners_in (picked es (take i places))) ++ ls)
-      (ap (λ o. filter p (listeners_in (cons_option o []))) at ∙ cond-true (p (listener_of e)) (listener_of e ∷ []) [] it)
-
-module _ (k : ℕ) where
-  -- whether an entry is the node's
-  abbrev is_own : Entry → Bool
-  is_own e = nat_eq e.node k
-
-  -- the node's places behind some others, with one of these less
-  moved : (done : List (Option Entry)) (o : Option Entry) (es : List (Option Entry))
-      → picked ((done ++ o ∷ []) ++ es) (places_from k (length (done ++ o ∷ [])) es) ≡ picked (done ++ o ∷ es) (places_from k (length done + 1) es)
-  moved done o es = λ j. picked (append_assoc done (o ∷ []) es j) (places_from k (length_push done o j) es)
+      by : (b : Bool) → places_from q (n + 1) (xs ++ ys) ≡ places_from q (n + 1) xs ++ places_from q (n + length (x ∷ xs)) ys
+          → (if b then n ∷ places_from q (n + 1) (xs ++ ys) else places_from q (n + 1) (xs ++ ys)) ≡
+          (if b then n ∷ places_from q (n + 1) xs else places_from q (n + 1) xs) ++ places_from q (n + length (x ∷ xs)) ys
+      by true rest = ap (λ ps. n ∷ ps) rest
+      by false rest = rest
 
   -- what is in them, behind some others
-  picked-behind : (done es : List (Option Entry)) → picked (done ++ es) (places_from k (length done) es) ≡ filter is_own (present es)
+  abbrev is_own : Entry → Bool
+  is_own e = q (listener_of e)
+
+  moved : (done : List (Option Entry)) (o : Option Entry) (es : List (Option Entry))
+      → picked ((done ++ o ∷ []) ++ es) (places_from q (length (done ++ o ∷ [])) es) ≡ picked (done ++ o ∷ es) (places_from q (length done + 1) es)
+  moved done o es = λ j. picked (append_assoc done (o ∷ []) es j) (places_from q (length_push done o j) es)
+
+  picked-behind : (done es : List (Option Entry)) → picked (done ++ es) (places_from q (length done) es) ≡ filter is_own (present es)
   picked-behind done [] = refl
   picked-behind done (None ∷ es) = sym (moved done None es) ∙ picked-behind (done ++ None ∷ []) es
-  picked-behind done (Some e ∷ es) = by (nat_eq e.node k) (sym (moved done (Some e) es) ∙ picked-behind (done ++ Some e ∷ []) es)
+  picked-behind done (Some e ∷ es) = by (q (listener_of e)) (sym (moved done (Some e) es) ∙ picked-behind (done ++ Some e ∷ []) es)
     where
-      by : (b : Bool) → picked (done ++ Some e ∷ es) (places_from k (length done + 1) es) ≡ filter is_own (present es)
-          → picked (done ++ Some e ∷ es) (if b then length done ∷ places_from k (length done + 1) es else places_from k (length done + 1) es) ≡
+      by : (b : Bool) → picked (done ++ Some e ∷ es) (places_from q (length done + 1) es) ≡ filter is_own (present es)
+          → picked (done ++ Some e ∷ es) (if b then length done ∷ places_from q (length done + 1) es else places_from q (length done + 1) es) ≡
           (if b then e ∷ filter is_own (present es) else filter is_own (present es))
       by true rest = λ j. cons_option (option_flatten (get-seam done (Some e) es j)) (rest j)
       by false rest = rest
 
-  -- what is in them: the node's entries
-  pub picked-own : (es : List (Option Entry)) → listeners_in (picked es (places_from k 0 es)) ≡ filter (λ l. nat_eq l.node k) (listeners_in (present es))
-  picked-own es = ap listeners_in (picked-behind [] es) ∙ sym (filter-map (λ l. nat_eq l.node k) listener_of (present es))
+  picked-own : (es : List (Option Entry)) → listeners_in (picked es (places_from q 0 es)) ≡ filter q (listeners_in (present es))
+  picked-own es = ap listeners_in (picked-behind [] es) ∙ sym (filter-map q listener_of (present es))
 
-  module _ (p : Listener ℕ → Bool) (narrow : (l : Listener ℕ) → p l ≡ true → nat_eq l.node k ≡ true) (es : List (Option Entry)) where
-    -- a test that only the node's pass
-    pub picked-kept : filter p (listeners_in (picked es (places_from k 0 es))) ≡ filter p (listeners_in (present es))
-    picked-kept = ap (filter p) (picked-own es) ∙ filter-wider p (λ l. nat_eq l.node k) narrow (listeners_in (present es))
-
-    -- whether one passes it
-    pub picked-any : list_any p (listeners_in (picked es (places_from k 0 es))) ≡ list_any p (listeners_in (present es))
-    picked-any = ap (list_any p) (picked-own es) ∙ any-filter_same p (λ l. nat_eq l.node k) true narrow (listeners_in (present es))
-
-  -- ---- one place of a node
-
-  -- The list on both sides of one of a node's entries: that in the place j, of the node's entries the one of this number.
-  pub record IsParted (n : ℕ) (es : List (Option Entry)) (at j : ℕ) : Type 0 where
-    pub before : List (Option Entry)
-    pub after : List (Option Entry)
-    pub entry : Entry
-    pub whole : es ≡ before ++ Some entry ∷ after
-    pub own : nat_eq entry.node k ≡ true
-    pub place : j ≡ n + length before
-    pub number : length (places_from k n before) ≡ at
-
-  -- a list parted at an entry is so with one place more in front
-  further : (n : ℕ) (o : Option Entry) {b : Bool} → is_of_node k o ≡ b → {es : List (Option Entry)} {i j : ℕ} → IsParted (n + 1) es i j →
-      IsParted n (o ∷ es) (if b then suc i else i) j
-  further n o {b} is {i} s = record {
-    before = o ∷ s.before;
-    after = s.after;
-    entry = s.entry;
-    whole = ap (λ xs. o ∷ xs) s.whole;
-    own = s.own;
-    place = omega (arith, s.place);
-    number = ap (λ c. length (if c then n ∷ places_from k (n + 1) s.before else places_from k (n + 1) s.before)) is ∙ count b;
-  }
-    where
-      count : (b : Bool) → length (if b then n ∷ places_from k (n + 1) s.before else places_from k (n + 1) s.before) ≡ (if b then suc i else i)
-      count true = ap suc s.number
-      count false = s.number
-
-  parted-from : (n : ℕ) (es : List (Option Entry)) (at j : ℕ) → slice_get (places_from k n es) at ≡ Some j → IsParted n es at j
-  parted-from n [] at j h = cc
-  parted-from n (None ∷ es) at j h = further n None refl (parted-from (n + 1) es at j h)
-  parted-from n (Some e ∷ es) at j h = by_cases (nat_eq e.node k)
-      (λ is. first (λ i g. parted-from (n + 1) es i j g) is at
-      (ap (λ (b : Bool). slice_get (if b then n ∷ places_from k (n + 1) es else places_from k (n + 1) es) at) (sym is) ∙ h))
-      (λ is. further n (Some e) is
-      (parted-from (n + 1) es at j (ap (λ (b : Bool). slice_get (if b then n ∷ places_from k (n + 1) es else places_from k (n + 1) es) at)
-      (sym is) ∙ h)))
-    where
-      first : ((i : ℕ) → slice_get (places_from k (n + 1) es) i ≡ Some j → IsParted (n + 1) es i j) → nat_eq e.node k ≡ true → (at : ℕ) →
-          slice_get (n ∷ places_from k (n + 1) es) at ≡ Some j → IsParted n (Some e ∷ es) at j
-      first again is zero g = let same : n ≡ j =
-          cc in record { before = []; after = es; entry = e; whole = refl; own = is; place = omega (arith, same); number = refl }
-      first again is (suc i) g = further n (Some e) is (again i g)
-
-  pub parted : (es : List (Option Entry)) (at j : ℕ) → slice_get (places_from k 0 es) at ≡ Some j → IsParted 0 es at j
-  parted es at j h = parted-from 0 es at j h
-
-  -- so is it at a place of the node that was read
-  pub parted-at : (es : List (Option Entry)) (p : Places) {ps : List ℕ} (at : ℕ) → IsIndexed p es → at < length (places_at p k) → ps ≡ places_at p k →
-      (slice_get (places_at p k) at ≡ Some (slice_index_or ps at 0)) × IsParted 0 es at (slice_index_or ps at 0)
-  parted-at es p {ps} at indexed within read =
-      let there = slice_get-get_or (places_at p k) at 0 within ∙ ap (λ xs. Some (slice_index_or xs at 0)) (sym read) in
-      (there, parted es at (slice_index_or ps at 0) (subst (λ xs. slice_get xs at ≡ Some (slice_index_or ps at 0)) (indexed k) there))
-
-  module _ (es : List (Option Entry)) (at j : ℕ) (s : IsParted 0 es at j) where
-    -- the place, by what is in front of it
-    spot : j ≡ length s.before
-    spot = omega (arith, s.place)
-
-    -- it is one of the list's
-    pub parted-within : j < length es
-    parted-within = omega (arith, s.place, ap length s.whole ∙ length-append s.before (Some s.entry ∷ s.after))
-
-    -- the list without the entry
-    without : slice_set es j None ≡ s.before ++ None ∷ s.after
-    without = (λ i. slice_set (s.whole i) (spot i) None) ∙ set-append_seam s.before (Some s.entry) s.after None
-
-    -- the entry is there
-    pub parted-entry : entry_at es j ≡ Some s.entry
-    parted-entry = (λ i. option_flatten (slice_get (s.whole i) (spot i))) ∙ ap option_flatten (get-seam s.before (Some s.entry) s.after)
-
-    -- one entry less is there
-    pub parted-fewer : length (present (slice_set es j None)) + 1 ≡ length (present es)
-    parted-fewer =
-        let less = ap (λ xs. length (present xs)) without ∙ ap length (filter_map-append (λ o. o) s.before (None ∷ s.after)) ∙
-        length-append (present s.before) (present s.after) in
-        let all = ap (λ xs. length (present xs)) s.whole ∙ ap length (filter_map-append (λ o. o) s.before (Some s.entry ∷ s.after)) ∙
-        length-append (present s.before) (s.entry ∷ present s.after) in
-        omega (arith, less, all)
-
-    -- those that fail a test which it passes stay
-    pub parted-others : (p : Listener ℕ → Bool) → p (listener_of s.entry) ≡ true
-        → filter (λ l. not (p l)) (listeners_in (present (slice_set es j None))) ≡ filter (λ l. not (p l)) (listeners_in (present es))
-    parted-others p is =
-        let q : Listener ℕ → Bool = λ l. not (p l) in
-        let tail : List (Listener ℕ) = listeners_in (present s.after) in
-        ap (λ xs. filter q (listeners_in (present xs))) without ∙ split q (None ∷ s.after)
-        ∙ ap (λ ls. filter q (listeners_in (present s.before)) ++ ls)
-        (sym (cond-false (q (listener_of s.entry)) (listener_of s.entry ∷ filter q tail) (filter q tail) (ap not is)))
-        ∙ sym (ap (λ xs. filter q (listeners_in (present xs))) s.whole ∙ split q (Some s.entry ∷ s.after))
+  -- Where just these are among some places, all that pass a narrower test are in those.
+  module _ (p : Listener ℕ → Bool) (narrow : (l : Listener ℕ) → p l ≡ true → q l ≡ true) (es : List (Option Entry)) where
+    narrowed : (places : List ℕ) → filter p (listeners_in (picked es places)) ≡ filter p (listeners_in (picked es (filter (passes_in q es) places)))
+    narrowed [] = refl
+    narrowed (i ∷ places) = by (entry_at es i) refl (narrowed places)
       where
-        split : (q : Listener ℕ → Bool) (ys : List (Option Entry)) →
-            filter q (listeners_in (present (s.before ++ ys))) ≡ filter q (listeners_in (present s.before)) ++ filter q (listeners_in (present ys))
-        split q ys =
-            ap (λ xs. filter q (listeners_in xs)) (filter_map-append (λ o. o) s.before ys) ∙
-            ap (filter q) (map-append listener_of (present s.before) (present ys))
-            ∙ filter-append q (listeners_in (present s.before)) (listeners_in (present ys))
+        kept : List ℕ
+        kept = filter (passes_in q es) places
 
-    -- the places of each node without it
-    pub parted-places : (m : ℕ) → (if nat_eq k m then remove (places_from m 0 es) at else places_from m 0 es) ≡ places_from m 0 (slice_set es j None)
-    parted-places m = by_cases (nat_eq k m)
-        (λ e. cond-true (nat_eq k m) (remove (places_from m 0 es) at) (places_from m 0 es) e ∙
-        subst (λ x. remove (places_from x 0 es) at ≡ places_from x 0 (slice_set es j None)) (eqb-true k m e) here)
-        (λ e. cond-false (nat_eq k m) (remove (places_from m 0 es) at) (places_from m 0 es) e ∙ elsewhere m e)
-      where
-        -- the places behind it
-        behind : ℕ → List ℕ
-        behind x = places_from x (length s.before + 1) s.after
+        -- what stands in the place, and that of the others the same pass
+        by : (o : Option Entry) → entry_at es i ≡ o → filter p (listeners_in (picked es places)) ≡ filter p (listeners_in (picked es kept)) →
+            filter p (listeners_in (picked es (i ∷ places))) ≡ filter p (listeners_in (picked es (if passes_in q es i then i ∷ kept else kept)))
+        by None e rest =
+            ap (λ o. filter p (listeners_in (cons_option o (picked es places)))) e ∙ rest
+            ∙ sym (ap (λ o. filter p (listeners_in (picked es (if passes q o then i ∷ kept else kept)))) e)
+        by (Some x) e rest =
+            let l = listener_of x in
+            let here : filter p (listeners_in (picked es (i ∷ kept))) ≡ filter p (l ∷ listeners_in (picked es kept)) =
+            ap (λ o. filter p (listeners_in (cons_option o (picked es kept)))) e in
+            ap (λ o. filter p (listeners_in (cons_option o (picked es places)))) e
+            ∙ by_cases (p l)
+            (λ yes.
+            ap (λ ls. if p l then l ∷ ls else ls) rest ∙ sym here
+            ∙ ap (λ c. filter p (listeners_in (picked es (if c then i ∷ kept else kept)))) (sym (narrow l yes)))
+            (λ no.
+            cond-false (p l) (l ∷ filter p (listeners_in (picked es places))) (filter p (listeners_in (picked es places))) no ∙ rest
+            ∙ by_cases (q l)
+            (λ yes. sym (here ∙ cond-false (p l) (l ∷ filter p (listeners_in (picked es kept))) (filter p (listeners_in (picked es kept))) no) ∙
+            ap (λ c. filter p (listeners_in (picked es (if c then i ∷ kept else kept)))) (sym yes))
+            (λ not_it. ap (λ c. filter p (listeners_in (picked es (if c then i ∷ kept else kept)))) (sym not_it)))
+            ∙ sym (ap (λ o. filter p (listeners_in (picked es (if passes q o then i ∷ kept else kept)))) e)
 
-        less : (x : ℕ) → places_from x 0 (slice_set es j None) ≡ places_from x 0 s.before ++ behind x
-        less x = ap (places_from x 0) without ∙ places-append x 0 s.before (None ∷ s.after) ∙
-            ap (λ m. places_from x 0 s.before ++ places_from x m (None ∷ s.after)) (omega arith)
+    module _ (places : List ℕ) (just : filter (passes_in q es) places ≡ places_from q 0 es) where
+      pub listed-kept : filter p (listeners_in (picked es places)) ≡ filter p (listeners_in (present es))
+      listed-kept = narrowed places ∙ ap (λ ps. filter p (listeners_in (picked es ps))) just ∙ ap (filter p) (picked-own es) ∙
+          filter-wider p q narrow (listeners_in (present es))
 
-        all : (x : ℕ) → places_from x 0 es ≡ places_from x 0 s.before ++ (if nat_eq s.entry.node x then length s.before ∷ behind x else behind x)
-        all x = ap (places_from x 0) s.whole ∙ places-append x 0 s.before (Some s.entry ∷ s.after) ∙
-            ap (λ m. places_from x 0 s.before ++ places_from x m (Some s.entry ∷ s.after)) (omega arith)
+      -- whether one passes it
+      pub listed-any : is_some (find (passes_in p es) places) ≡ list_any p (listeners_in (present es))
+      listed-any =
+          found-any p es places ∙ sym (any-filter_same p p true (λ l h. h) (listeners_in (picked es places))) ∙ ap (list_any p) listed-kept
+          ∙ any-filter_same p p true (λ l h. h) (listeners_in (present es))
 
-        here : remove (places_from k 0 es) at ≡ places_from k 0 (slice_set es j None)
-        here =
-            (λ i. remove (all k i) (sym s.number i))
-            ∙ ap (λ ps. remove (places_from k 0 s.before ++ ps) (length (places_from k 0 s.before)))
-            (cond-true (nat_eq s.entry.node k) (length s.before ∷ behind k) (behind k) s.own)
-            ∙ remove-seam (places_from k 0 s.before) (length s.before) (behind k)
-            ∙ sym (less k)
+  -- ---- one place less
 
-        elsewhere : (x : ℕ) → nat_eq k x ≡ false → places_from x 0 es ≡ places_from x 0 (slice_set es j None)
-        elsewhere x e =
-            all x
-            ∙ ap (λ ps. places_from x 0 s.before ++ ps)
-            (cond-false (nat_eq s.entry.node x) (length s.before ∷ behind x) (behind x)
-            (ap (λ y. nat_eq y x) (eqb-true s.entry.node k s.own) ∙ e))
-            ∙ sym (less x)
+  -- what is in front of all is none of them
+  past : (n : ℕ) (es : List (Option Entry)) (m : ℕ) → m < n → filter (λ j. not (nat_eq j m)) (places_from q n es) ≡ places_from q n es
+  past n [] m h = refl
+  past n (o ∷ es) m h = by (passes q o) (past (n + 1) es m (omega (arith, h)))
+    where
+      rest : List ℕ
+      rest = places_from q (n + 1) es
+
+      by : (b : Bool) → filter (λ j. not (nat_eq j m)) rest ≡ rest →
+          filter (λ j. not (nat_eq j m)) (if b then n ∷ rest else rest) ≡ (if b then n ∷ rest else rest)
+      by true same =
+          cond-true (not (nat_eq n m)) (n ∷ filter (λ j. not (nat_eq j m)) rest) (filter (λ j. not (nat_eq j m)) rest)
+          (ap not (ne_eqb n m (λ e. omega (arith, e, h)))) ∙ ap (λ ps. n ∷ ps) same
+      by false same = same
+
+  pub places-less : (n : ℕ) (es : List (Option Entry)) (i m : ℕ) → m ≡ n + i → filter (λ j. not (nat_eq j m)) (places_from q n es) ≡
+      places_from q n (slice_set es i None)
+  places-less n [] zero m is = refl
+  places-less n [] (suc i) m is = refl
+  places-less n (o ∷ es) zero m is = by (passes q o)
+    where
+      rest : List ℕ
+      rest = places_from q (n + 1) es
+
+      here : nat_eq n m ≡ true
+      here = elim (eqb_tells n m) [ inl same ↦ same.0 | inr other ↦ absurd (other.1 (omega (arith, is))) ]
+
+      by : (b : Bool) → filter (λ j. not (nat_eq j m)) (if b then n ∷ rest else rest) ≡ rest
+      by true =
+          cond-false (not (nat_eq n m)) (n ∷ filter (λ j. not (nat_eq j m)) rest) (filter (λ j. not (nat_eq j m)) rest) (ap not here)
+          ∙ past (n + 1) es m (omega (arith, is))
+      by false = past (n + 1) es m (omega (arith, is))
+  places-less n (o ∷ es) (suc i) m is = by (passes q o) (places-less (n + 1) es i m (omega (arith, is)))
+    where
+      rest : List ℕ
+      rest = places_from q (n + 1) es
+
+      by : (b : Bool) → filter (λ j. not (nat_eq j m)) rest ≡ places_from q (n + 1) (slice_set es i None) →
+          filter (λ j. not (nat_eq j m)) (if b then n ∷ rest else rest) ≡
+          (if b then n ∷ places_from q (n + 1) (slice_set es i None) else places_from q (n + 1) (slice_set es i None))
+      by true again =
+          cond-true (not (nat_eq n m)) (n ∷ filter (λ j. not (nat_eq j m)) rest) (filter (λ j. not (nat_eq j m)) rest)
+          (ap not (ne_eqb n m (λ e. omega (arith, e, is)))) ∙ ap (λ ps. n ∷ ps) again
+      by false again = again
+
+-- ---- narrower tests
+
+-- what a listener that hears, or one of a type, label and capture, is
+pub hears-of : (x : ℕ) (event : Word) (capturing : Bool) (l : Listener ℕ) → hears_at x event capturing l ≡ true → is_of_type x event l ≡ true
+hears-of x event capturing l h =
+    let parts = and_parts (nat_eq l.node x) (text_eq l.words.event event && beq l.words.capture capturing) h in
+    and_from (nat_eq l.node x) (text_eq l.words.event event) parts.0 (and_parts (text_eq l.words.event event) (beq l.words.capture capturing) parts.1).0
+
+pub listens-of : (x : ℕ) (event label : Word) (capture : Bool) (l : Listener ℕ) → is_listener nat_eq x event label capture l ≡ true →
+    is_of_type x event l ≡ true
+listens-of x event label capture l h =
+    let parts = and_parts (nat_eq l.node x) (text_eq l.words.event event && (text_eq l.words.label label && beq l.words.capture capture)) h in
+    and_from (nat_eq l.node x) (text_eq l.words.event event) parts.0
+    (and_parts (text_eq l.words.event event) (text_eq l.words.label label && beq l.words.capture capture) parts.1).0
+
+-- whether a node has a listener of a type, label and capture, as its places of this type say it
+module _ (p : Places) (es : List (Option Entry)) (indexed : IsIndexed p es) (x : ℕ) (list : PlaceList) (at : Some list ≡ slice_get p.rows.items x) where
+  pub node-any : (event label : Word) (capture : Bool) → is_some (find (passes_in (is_listener nat_eq x event label capture) es)
+      (first_in list ++ rest_in list event)) ≡ list_any (is_listener nat_eq x event label capture) (listeners_in (present es))
+  node-any event label capture =
+      listed-any (is_of_type x event) (is_listener nat_eq x event label capture) (listens-of x event label capture) es (first_in list ++ rest_in list event)
+      (ap (filter (passes_in (is_of_type x event) es)) (ap (λ o. option_map_or (λ ls. places_in ls event) o []) at) ∙ indexed.listed x event)
+
+-- what passes a test in a place passes a wider one
+pub wider-passes : (p q : Listener ℕ → Bool) → ((l : Listener ℕ) → p l ≡ true → q l ≡ true) → (es : List (Option Entry)) (i : ℕ) →
+    passes_in p es i ≡ true → passes_in q es i ≡ true
+wider-passes p q wider es i h = by (entry_at es i) h
+  where
+    by : (o : Option Entry) → passes p o ≡ true → passes q o ≡ true
+    by None h = h
+    by (Some e) h = wider (listener_of e) h
 
 -- where none passes a test, all fail it
 pub none-pass : (p : Listener ℕ → Bool) (ls : List (Listener ℕ)) → list_any p ls ≡ false → filter (λ l. not (p l)) ls ≡ ls
@@ -269,36 +279,3 @@ none-pass p (l ∷ ls) h = by_cases (p l)
     (λ e. let here : true ≡ false = sym (ap (λ b. b || list_any p ls) e) ∙ h in cc)
     (λ e. cond-true (not (p l)) (l ∷ filter (λ x. not (p x)) ls) (filter (λ x. not (p x)) ls) (ap not e) ∙
     ap (λ xs. l ∷ xs) (none-pass p ls (sym (ap (λ b. b || list_any p ls) e) ∙ h)))
-
--- one that passes it in some place is one of those that are there
-pub passes-any : (p : Listener ℕ → Bool) (es : List (Option Entry)) (i : ℕ) → passes_in p es i ≡ true → list_any p (listeners_in (present es)) ≡ true
-passes-any p [] i h = cc
-passes-any p (None ∷ es) zero h = cc
-passes-any p (Some e ∷ es) zero h = ap (λ b. b || list_any p (listeners_in (present es))) h
-passes-any p (None ∷ es) (suc i) h = passes-any p es i h
-passes-any p (Some e ∷ es) (suc i) h = ap (λ b. p (listener_of e) || b) (passes-any p es i h) ∙ or-true (p (listener_of e))
-
--- ---- closing up
-
-module _ (es : List (Option Entry)) (i : ℕ) (o : Option Entry) (h : i < length es) (g : o ≡ get_or es i o) where
-  -- the next place has a listener, or not
-  pub counted-next : length (present (take (i + 1) es)) ≡ length (present (take i es)) + (if is_some o then 1 else 0)
-  counted-next =
-      ap (λ xs. length (present xs)) (take_more es i o h ∙ ap (λ x. take i es ++ x ∷ []) (sym g))
-      ∙ ap length (filter_map-append (λ x. x) (take i es) (o ∷ []))
-      ∙ length-append (present (take i es)) (present (o ∷ []))
-      ∙ ap (λ n. length (present (take i es)) + n) (by o)
-    where
-      by : (o : Option Entry) → length (present (o ∷ [])) ≡ (if is_some o then 1 else 0)
-      by None = refl
-      by (Some e) = refl
-
-  -- and is kept, or not
-  pub closed-next : filter is_some (take (i + 1) es) ≡ filter is_some (take i es) ++ (if is_some o then o ∷ [] else [])
-  closed-next = filter_more is_some es i o h ∙ ap (λ x. filter is_some (take i es) ++ (if is_some x then x ∷ [] else [])) (sym g)
-
--- those that are there stay
-pub closed-present : (es : List (Option Entry)) → present (filter is_some es) ≡ present es
-closed-present [] = refl
-closed-present (None ∷ es) = closed-present es
-closed-present (Some e ∷ es) = ap (λ xs. e ∷ xs) (closed-present es)

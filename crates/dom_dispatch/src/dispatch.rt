@@ -252,15 +252,12 @@ impl Listeners {
         ensures { OnOk result (listeners_in heard.new.items ≡ filter (hears_at node event.now capturing) self.now) }
     {
         heard.clear();
-        let places = self.table.places.of(node);
-        for place in places {
-            if let Some(entry) = self.table.entry(*place) {
-                if entry.hears(node, event, capturing) {
-                    heard.push_back(entry.copied()?)?;
-                }
-            }
-        }
-        Ok(())
+        let Some(places) = self.table.places.of(node) else {
+            return Ok(());
+        };
+        let table = &self.table;
+        table.hear(places.first(), node, event, capturing, heard)?;
+        table.hear(places.rest(event), node, event, capturing, heard)
     }
 
     /// The calls of listeners, one after another.

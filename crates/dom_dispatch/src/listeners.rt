@@ -67,8 +67,8 @@ impl Entry {
 }
 
 /// The listeners of all nodes, in the order of adding (DOM Standard, concept: event listener list). A node's own are found by one
-/// look. The types for which there was a listener are kept, so that an event of another type visits no node, and one that no capturing
-/// listener was for visits none while it is capturing. The memory of a dispatch is kept for the next one.
+/// look; of many, those of a type. The types for which there was a listener are kept, so that an event of another type visits no node,
+/// and one that no capturing listener was for visits none while it is capturing. The memory of a dispatch is kept for the next one.
 pub struct Listeners {
     pub(crate) table: Table,
     types: Types,
@@ -180,8 +180,8 @@ impl Listeners {
     pub(crate) fn take(&mut self, node: Key, event: &str, label: &[u8], capture: bool)
         ensures { self.new ≡ with_listener_removed nat_eq node event.now label.now capture self.old }
     {
-        while let Some(at) = self.table.find(node, event, label, capture) {
-            self.table.take(node, at);
+        while let Some(place) = self.table.find(node, event, label, capture) {
+            self.table.take(node, event, place);
         }
     }
 }

@@ -1,16 +1,17 @@
 //! Where listeners stand.
 ghost use Rattle.std.specs.Prelude.{◌≡◌, ℕ, ◌+◌, ◌*◌, ◌<◌, ◌≤◌, ◌↔◌, ◌++◌, ◌∷◌, [], Bool, nat_eq, not, true, is_some, length, filter, vec_len};
 ghost use Rattle.std.specs.Prelude.{vec_capacity, IsTrue, IfSome, IfOk, OnOk, OnErr};
-ghost use Rattle.std.specs.List.{list_any};
+ghost use Rattle.std.specs.List.{list_any, find};
 ghost use Rattle.std.specs.Option.{option_map};
 ghost use Rattle.dom_model.specs.Listeners.{Listener, is_listener};
-ghost use Rattle.dom_dispatch.specs.Entries.{listeners_in};
-ghost use Rattle.dom_dispatch.specs.Tables.{present, entry_at, places_at, passes_in, holds_at, IsIndexed};
+ghost use Rattle.dom_dispatch.specs.Entries.{listeners_in, hears_at};
+ghost use Rattle.dom_dispatch.specs.Tables.{present, entry_at, picked, passes_in, is_of_type, IsIndexed};
 
 use crate::listeners::Entry;
 use crate::places::Places;
 use node_arena::Key;
 use std::alloc::{AllocError, Global};
+use std::collections::VecDeque;
 
 /// The listeners of all nodes in the order of adding, each in a place, and for each node the places of its listeners. One that is
 /// taken away leaves its place empty.
@@ -42,22 +43,59 @@ impl Table {
         }
     }
 
-    /// Which of a node's listeners, in their order, has this type, label and capture, if one has. This looks at the node's listeners
-    /// only.
+    /// The place of the listener of a node with this type, label and capture, if there is one. This looks at the few that came first at
+    /// the node, and at those of this type only.
     pub(crate) fn find(&self, node: Key, event: &str, label: &[u8], capture: bool) -> Option<usize>
         requires indexed { IsIndexed self.now.places self.now.entries.items }
         ensures there { is_some result ≡ list_any (is_listener nat_eq node event.now label.now capture) (listeners_in (present self.now.entries.items)) }
-        ensures within { IfSome result (λ at. at < length (places_at self.now.places node)) }
-        ensures found { IfSome result (λ at. holds_at (is_listener nat_eq node event.now label.now capture) self.now.entries.items
-            (places_at self.now.places node) at ≡ true) }
+        ensures found { IfSome result (λ place. passes_in (is_listener nat_eq node event.now label.now capture) self.now.entries.items place ≡ true) }
     {
-        let places = self.places.of(node);
-        for at in 0..places.len() {
-            if self.has_in(places[at], node, event, label, capture) {
-                return Some(at);
+        let places = self.places.of(node)?;
+        match self.find_among(places.first(), node, event, label, capture) {
+            Some(place) => Some(place),
+            None => self.find_among(places.rest(event), node, event, label, capture),
+        }
+    }
+
+    /// The first of some places that has the listener of a node with this type, label and capture, if one has it.
+    fn find_among(
+        &self,
+        places: &[usize],
+        node: Key,
+        event: &str,
+        label: &[u8],
+        capture: bool,
+    ) -> Option<usize>
+        ensures { result ≡ find (passes_in (is_listener nat_eq node event.now label.now capture) self.now.entries.items) places.now }
+    {
+        places
+            .iter()
+            .copied()
+            .find(|place| self.has_in(*place, node, event, label, capture))
+    }
+
+    /// Puts copies of the listeners in some places that are of a node and hear events of this type, while they are capturing or while they
+    /// are not, behind what is there.
+    #[inline(always)]
+    pub(crate) fn hear(
+        &self,
+        places: &[usize],
+        node: Key,
+        event: &str,
+        capturing: bool,
+        heard: &mut VecDeque<Entry>,
+    ) -> Result<(), AllocError>
+        ensures { OnOk result (listeners_in heard.new.items ≡ listeners_in heard.old.items ++
+            filter (hears_at node event.now capturing) (listeners_in (picked self.now.entries.items places.now))) }
+    {
+        for place in places {
+            if let Some(entry) = self.entry(*place) {
+                if entry.hears(node, event, capturing) {
+                    heard.push_back(entry.copied()?)?;
+                }
             }
         }
-        None
+        Ok(())
     }
 
     /// Whether the listener in a place is that of a node with this type, label and capture.
@@ -78,7 +116,8 @@ impl Table {
         ensures err { OnErr result (present self.new.entries.items ≡ present self.old.entries.items) }
     {
         self.make_room()?;
-        self.places.push(entry.node, self.entries.len())?;
+        let event = entry.words.kind.event.as_str();
+        self.places.push(entry.node, event, self.entries.len())?;
         self.entries.push_reserved(Some(entry));
         Ok(())
     }
@@ -134,26 +173,25 @@ impl Table {
         let mut count = 0;
         for entry in &self.entries {
             if let Some(entry) = entry {
-                places.push(entry.node, count)?;
+                places.push(entry.node, entry.words.kind.event.as_str(), count)?;
                 count += 1;
             }
         }
         Ok(places)
     }
 
-    /// Takes one of a node's listeners away.
-    pub(crate) fn take(&mut self, node: Key, at: usize)
+    /// Takes the listener in a place away, which is of a node and a type.
+    pub(crate) fn take(&mut self, node: Key, event: &str, place: usize)
         requires indexed { IsIndexed self.old.places self.old.entries.items }
-        requires within { at < length (places_at self.old.places node) }
+        requires there { passes_in (is_of_type node event.now) self.old.entries.items place ≡ true }
         ensures indexed { IsIndexed self.new.places self.new.entries.items }
         // The others stay, and so do all that fail a test which this one passes.
         ensures fewer { length (present self.new.entries.items) + 1 ≡ length (present self.old.entries.items) }
-        ensures others { (p : Listener ℕ → Bool) → holds_at p self.old.entries.items (places_at self.old.places node) at ≡ true →
+        ensures others { (p : Listener ℕ → Bool) → passes_in p self.old.entries.items place ≡ true →
             filter (λ l. not (p l)) (listeners_in (present self.new.entries.items)) ≡ filter (λ l. not (p l))
             (listeners_in (present self.old.entries.items)) }
     {
-        let place = self.places.of(node)[at];
-        self.places.remove(node, at);
+        self.places.remove(node, event, place);
         self.entries[place] = None;
     }
 }

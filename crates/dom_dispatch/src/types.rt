@@ -1,18 +1,18 @@
 //! The types of events for which there was a listener.
 ghost use Rattle.std.specs.Prelude.{◌≡◌, ℕ, Bool, List, true, OnOk};
-ghost use Rattle.std.specs.HashSet.{contains_text};
+ghost use Rattle.std.specs.BTreeSet.{contains_text};
 ghost use Rattle.dom_dispatch.specs.Tables.{is_noted};
 
 use std::alloc::{AllocError, Global};
-use std::collections::HashSet;
+use std::collections::BTreeSet;
 
 /// The types of events for which there was a listener: those of capturing listeners, and those of the others. A type stays when its
-/// listeners go. Where there was no capturing listener at all, no text is hashed to know it.
+/// listeners go. Where there was no capturing listener at all, no text is compared to know it.
 #[derive(Drop)]
 pub(crate) struct Types {
     any_capturing: bool,
-    capturing: HashSet<String>,
-    others: HashSet<String>,
+    capturing: BTreeSet<String>,
+    others: BTreeSet<String>,
 }
 
 impl Types {
@@ -20,8 +20,8 @@ impl Types {
     pub(crate) fn new(alloc: Global) -> Self {
         Types {
             any_capturing: false,
-            capturing: HashSet::new(alloc),
-            others: HashSet::new(alloc),
+            capturing: BTreeSet::new(alloc),
+            others: BTreeSet::new(alloc),
         }
     }
 
@@ -57,7 +57,7 @@ impl Types {
 }
 
 /// Adds a type to those for which there was a listener.
-fn note(alloc: Global, types: &mut HashSet<String>, event: &str) -> Result<(), AllocError>
+fn note(alloc: Global, types: &mut BTreeSet<String>, event: &str) -> Result<(), AllocError>
     ensures kept { (text : List ℕ) → contains_text types.old text ≡ true → contains_text types.new text ≡ true }
     ensures noted { OnOk result (contains_text types.new event.now ≡ true) }
 {

@@ -1,36 +1,46 @@
-use Rattle.dom_dispatch.proofs.Cited.{◌≡◌, ℕ, ◌&&◌, Bool, true, false, nat_eq, take, sym, ap, ◌∙◌, arith, slice_index_or, beq, list_any, option_map_or}
-use Rattle.dom_dispatch.proofs.Cited.{take_all, slice_get-get_or, and_parts, Listener, is_listener, text_eq, listeners_in, places_from, passes_in, holds_at}
-use Rattle.dom_dispatch.proofs.Placing.{picked, picked-any, none-next, passes-any}
+use Rattle.dom_dispatch.proofs.Cited.{◌≡◌, ℕ, ◌++◌, Bool, true, [], filter, find, find-append, is_some, IfSome, ap, sym, subst, ◌∙◌, nat_eq, option_map_or}
+use Rattle.dom_dispatch.proofs.Cited.{option_or, Listener, is_listener, is_of_type, passes_in, places_at, places_from, places_in, rest_in}
+use Rattle.dom_dispatch.proofs.Placing.{found-passes, listed-any, listens-of, node-any}
 use Rattle.dom_dispatch.proofs.table.Table.find.Goals as goal
 
-pub returns-then-has_in-clause-found : goal.returns-then-has_in-clause-found
-returns-then-has_in-clause-found c =
-    let p : Listener ℕ → Bool = is_listener nat_eq c.args.node c.args.event.now c.args.label.now c.args.capture in
+pub returns-in_err-places-clause-there : goal.returns-in_err-places-clause-there
+returns-in_err-places-clause-there c =
     let es = c.args.self.now.entries.items in
-    ap (λ ps. holds_at p es ps c.loop-at.at) (sym c.of-places.ensures)
-    ∙ ap (λ o. option_map_or (passes_in p es) o false) (slice_get-get_or c.of-places.result.now c.loop-at.at 0 c.loop-at-test.true)
-    ∙ sym c.has_in.ensures
-    ∙ c.if-has_in.true
+    let event = c.args.event.now in
+    let p : Listener ℕ → Bool = is_listener nat_eq c.args.node event c.args.label.now c.args.capture in
+    let q : Listener ℕ → Bool = is_of_type c.args.node event in
+    let none : places_at c.args.self.now.places c.args.node event ≡ [] = ap (λ o. option_map_or (λ list. places_in list event) o [])
+    (sym c.in_err-places.ensures) in
+    let just : filter (passes_in q es) [] ≡ places_from q 0 es = ap (filter (passes_in q es)) (sym none) ∙ c.requires.indexed.listed c.args.node event in
+    ap is_some c.from_residual.ensures ∙ listed-any q p (listens-of c.args.node event c.args.label.now c.args.capture) es [] just
 
-pub returns-then-has_in-clause-there : goal.returns-then-has_in-clause-there
-returns-then-has_in-clause-there c =
-    let p : Listener ℕ → Bool = is_listener nat_eq c.args.node c.args.event.now c.args.label.now c.args.capture in
-    sym (passes-any p c.args.self.now.entries.items (slice_index_or c.of-places.result.now c.loop-at.at 0) (sym c.has_in.ensures ∙ c.if-has_in.true))
-
-pub loop-at-preserved : goal.loop-at-preserved
-loop-at-preserved c =
-    let p : Listener ℕ → Bool = is_listener nat_eq c.args.node c.args.event.now c.args.label.now c.args.capture in
-    none-next p c.args.self.now.entries.items c.of-places.result.now c.loop-at.at (slice_index_or c.of-places.result.now c.loop-at.at 0)
-    (slice_get-get_or c.of-places.result.now c.loop-at.at 0 c.loop-at-test.true) c.loop-at.invariant (sym c.has_in.ensures ∙ c.if-has_in.false)
-
-pub returns-clause-there : goal.returns-clause-there
-returns-clause-there c =
-    let p : Listener ℕ → Bool = is_listener nat_eq c.args.node c.args.event.now c.args.label.now c.args.capture in
+pub returns-in-Some-clause-there : goal.returns-in-Some-clause-there
+returns-in-Some-clause-there c =
     let es = c.args.self.now.entries.items in
-    let narrow : (l : Listener ℕ) → p l ≡ true → nat_eq l.node c.args.node ≡ true =
-    λ l h. (and_parts (nat_eq l.node c.args.node)
-    (text_eq l.words.event c.args.event.now && (text_eq l.words.label c.args.label.now && beq l.words.capture c.args.capture)) h).0 in
-    let all : take c.loop-at.at c.of-places.result.now ≡ places_from c.args.node 0 es =
-    take_all c.loop-at.at c.of-places.result.now (omega (arith, c.loop-at-test.false)) ∙ c.of-places.ensures ∙
-    c.requires.indexed c.args.node in
-    sym (sym (picked-any c.args.node p narrow es) ∙ sym (ap (λ ps. list_any p (listeners_in (picked es ps))) all) ∙ c.loop-at.invariant)
+    let event = c.args.event.now in
+    let test = passes_in (is_listener nat_eq c.args.node event c.args.label.now c.args.capture) es in
+    let list = c.in_ok-places.places.now in
+    sym (ap is_some (ap (λ js. find test (js ++ rest_in list event)) (sym c.first.ensures) ∙ find-append test c.first.result.now (rest_in list event)) ∙
+    ap (λ o. is_some (option_or o (find test (rest_in list event)))) (sym c.in-Some.ensures))
+    ∙ node-any c.args.self.now.places es c.requires.indexed c.args.node list c.in_ok-places.ensures event c.args.label.now c.args.capture
+
+pub returns-in-Some-clause-found : goal.returns-in-Some-clause-found
+returns-in-Some-clause-found c =
+    let test = passes_in (is_listener nat_eq c.args.node c.args.event.now c.args.label.now c.args.capture) c.args.self.now.entries.items in
+    subst (λ o. IfSome o (λ place. test place ≡ true)) (sym c.in-Some.ensures) (found-passes test c.first.result.now)
+
+pub returns-in-None-clause-there : goal.returns-in-None-clause-there
+returns-in-None-clause-there c =
+    let es = c.args.self.now.entries.items in
+    let event = c.args.event.now in
+    let test = passes_in (is_listener nat_eq c.args.node event c.args.label.now c.args.capture) es in
+    let list = c.in_ok-places.places.now in
+    ap is_some (c.find_among-in-None.ensures ∙ ap (find test) c.rest.ensures)
+    ∙ sym (ap is_some (ap (λ js. find test (js ++ rest_in list event)) (sym c.first.ensures) ∙ find-append test c.first.result.now (rest_in list event)) ∙
+    ap (λ o. is_some (option_or o (find test (rest_in list event)))) (sym c.in-None.ensures))
+    ∙ node-any c.args.self.now.places es c.requires.indexed c.args.node list c.in_ok-places.ensures event c.args.label.now c.args.capture
+
+pub returns-in-None-clause-found : goal.returns-in-None-clause-found
+returns-in-None-clause-found c =
+    let test = passes_in (is_listener nat_eq c.args.node c.args.event.now c.args.label.now c.args.capture) c.args.self.now.entries.items in
+    subst (λ o. IfSome o (λ place. test place ≡ true)) (sym c.find_among-in-None.ensures) (found-passes test c.rest.result.now)

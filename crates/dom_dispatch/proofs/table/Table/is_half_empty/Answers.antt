@@ -1,5 +1,5 @@
 use Rattle.dom_dispatch.proofs.Cited.{◌≡◌, ◌+◌, length, get_or, take, ap, subst, sym, ◌∙◌, arith, if◌then◌else◌, present}
-use Rattle.dom_dispatch.proofs.Placing.{counted-next}
+use Rattle.dom_dispatch.proofs.Taking.{counted-next}
 use Rattle.dom_dispatch.proofs.table.Table.is_half_empty.Goals.{then-is_some, else-is_some}
 use Rattle.dom_dispatch.proofs.table.Table.is_half_empty.Goals as goal
 

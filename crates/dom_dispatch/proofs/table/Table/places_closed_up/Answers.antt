@@ -1,6 +1,7 @@
-use Rattle.dom_dispatch.proofs.Cited.{◌≡◌, ◌+◌, ◌∷◌, ◌++◌, [], nat_eq, Some, filter, length, get_or, take, ap, subst, sym, ◌∙◌, arith, append-nil, is_some}
-use Rattle.dom_dispatch.proofs.Cited.{if◌then◌else◌, length_push, places_at, places_from}
-use Rattle.dom_dispatch.proofs.Placing.{closed-next, places-more}
+use Rattle.dom_dispatch.proofs.Cited.{◌≡◌, ◌&&◌, ◌+◌, ◌∷◌, ◌++◌, [], ℕ, List, nat_eq, Some, filter, length, get_or, take, ap, subst, sym, ◌∙◌, arith, rules}
+use Rattle.dom_dispatch.proofs.Cited.{append-nil}
+use Rattle.dom_dispatch.proofs.Cited.{is_some, if◌then◌else◌, length_push, text_eq, listener_of, is_of_type, places_at, MayPut, IsIndexed}
+use Rattle.dom_dispatch.proofs.Taking.{closed-next, indexed-more, put-same}
 use Rattle.dom_dispatch.proofs.table.Table.places_closed_up.Goals.{in-Some+in_ok-push, in_default}
 use Rattle.dom_dispatch.proofs.table.Table.places_closed_up.Goals as goal
 
@@ -18,21 +19,23 @@ loop-entry-preserved c =
       | in-Some+in_ok-push w ↦
           let e = w.in-Some.entry in
           let kept = c.loop-entry.places in
+          let new = w.push.new.self in
           let more : filter is_some (take (i + 1) es) ≡ done ++ Some e ∷ [] = next ∙ ap (λ x. done ++ (if is_some x then x ∷ [] else [])) w.in-Some.is in
+          let named : w.as_str.result.now ≡ (listener_of e).words.event = search rules in
+          let put : (k : ℕ) (t : List ℕ) → MayPut (is_of_type k t (listener_of e)) (length done) (places_at kept k t) (places_at new k t) =
+          λ k t. put-same (ap (λ text. nat_eq e.node k && text_eq text t) named) inv.counted (w.in_ok-push.ensures.ok k t) in
           record {
             counted = w.count-is ∙ ap (λ n. n + 1) inv.counted ∙ sym (ap length more ∙ length_push done (Some e));
             within = omega (arith, w.count-is, inv.within);
-            indexed = λ k.
-                ap (λ p. places_at p k) w.places-is
-                ∙ places-more k done e (inv.indexed k)
-                (w.in_ok-push.ensures.ok k ∙ ap (λ n. if nat_eq e.node k then places_at kept k ++ n ∷ [] else places_at kept k) inv.counted)
-                ∙ ap (places_from k 0) (sym more);
+            indexed = subst (λ p. IsIndexed p (filter is_some (take (i + 1) es))) (sym w.places-is)
+                (subst (IsIndexed new) (sym more) (indexed-more done e kept new inv.indexed put));
           }
       | in_default w ↦
           let fewer : filter is_some (take (i + 1) es) ≡ done = next ∙ ap (λ x. done ++ (if is_some x then x ∷ [] else [])) w.in_default.is ∙ append-nil done in
           record {
             counted = w.count-is ∙ inv.counted ∙ sym (ap length fewer);
             within = omega (arith, w.count-is, inv.within);
-            indexed = λ k. ap (λ p. places_at p k) w.places-is ∙ inv.indexed k ∙ ap (places_from k 0) (sym fewer);
+            indexed = subst (λ p. IsIndexed p (filter is_some (take (i + 1) es))) (sym w.places-is)
+                (subst (IsIndexed c.loop-entry.places) (sym fewer) inv.indexed);
           }
     ]
