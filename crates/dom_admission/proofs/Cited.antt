@@ -1,5 +1,5 @@
 -- What the proofs of this crate cite of std, of the definitions, and of the crates below.
-pub use Rattle.dom_base.proofs.Std.{[], ap, append-nil, append_assoc, Bool, Err, false, filter_map, find, flat_map, fold, ForSome, get_or_from_slice_get}
+pub use Rattle.dom_base.proofs.Std.{[], ap, Bool, Err, false, filter_map, find, flat_map, fold, ForSome, get_or_from_slice_get}
 pub use Rattle.dom_base.proofs.Std.{if◌then◌else◌, inl, inr, is_some, IsErrAnd, length, List, list_all, map, None, not, Ok, Option, option_map, option_map_or}
 pub use Rattle.dom_base.proofs.Std.{option_or, or-false, refl, Result, slice_get, slice_get_within, Some, subst, suc, sym, take, true, unwrap_or, zero, ℕ, ◌&&◌}
 pub use Rattle.dom_base.proofs.Std.{◌++◌, ◌<◌, ◌||◌, ◌↔◌, ◌∙◌, ◌∷◌, ◌≡◌, ◌⊎◌}
@@ -12,7 +12,5 @@ pub use Rattle.dom_admission.specs.declared.admission.Operand.TheVariants.{Slot}
 pub use Rattle.dom_mutation.specs.Definitions.{DocState, made, MakesSaying, name_in, owner_in, trees_in}
 pub use Rattle.dom_reader.specs.Views.{word_view}
 pub use Rattle.dom_reader.specs.declared.line.NodeWord.{NodeWord}
-pub use Rattle.dom_text.proofs.OutputLaws.{output_text-append}
-pub use Rattle.dom_text.specs.Definitions.{output_text}
 pub use Rattle.dom_tree.proofs.Owned.{read_own}
 pub use Rattle.dom_tree.specs.Definitions.{AreOwned, IsReadOwn, name_at, trees_of_owner}

@@ -1,6 +1,6 @@
 -- How a command is handled: it passes the tests that all commands share, then it changes its owner's part and answers, or only answers.
 use Rattle.dom_admission.proofs.Cited.{◌≡◌, ℕ, Bool, true, false, not, unwrap_or, List, [], ◌∷◌, ◌++◌, map, Option, Some, None, Result, Ok, Err, refl, sym, ap}
-use Rattle.dom_admission.proofs.Cited.{subst, ◌∙◌, append_assoc, is_some, if◌then◌else◌, IsErrAnd, append-nil, option_or, output_text, output_text-append}
+use Rattle.dom_admission.proofs.Cited.{subst, ◌∙◌, is_some, if◌then◌else◌, IsErrAnd, option_or}
 use Rattle.dom_admission.proofs.Cited.{DocState, MakesSaying, made, name_in, owner_in, Operand, IsDone, IsHandled, let_pass, is_there_as, has_foreign}
 use Rattle.dom_admission.proofs.Cited.{are_there, are_fitting, early_refusal, with_turn, turned, opened_turn, name_at}
 use Rattle.dom_model.proofs.Model.{Fault, Refused, Memory, Refusal, Busy, Foreign, Unknown, WrongKind, NodeName, Owner, Plan, named, owner_eq, Effect, answers}
@@ -52,15 +52,16 @@ module _ (t : Option Owner) (d s : DocState) (seen : turned t d ≡ s) (o : Owne
   thing_there is ok = rw (← seen) at (one_there (passes s.world o (n ∷ []) is ok))
 
 -- a line that doesn't pass is refused, and nothing is changed
-module _ (w : World) (o : Owner) (c : Command) (names : List Operand) (text : List ℕ) where
+module _ {S : Type 0} (adds : S → List Output → S → Type 0) (w : World) (o : Owner) (c : Command) (names : List Operand)
+    (told : S) where
   pub refused : {f : Fault} {r : Result (Unit {0}) Fault} (q : Result (Unit {0}) Fault) → IsNaming o c names →
-      r ≡ let_pass (early_refusal w o names) → r ≡ Err f → IsErrAnd q (λ e. e ≡ f) → IsHandled o c w w text text q
+      r ≡ let_pass (early_refusal w o names) → r ≡ Err f → IsErrAnd q (λ e. e ≡ f) → IsHandled adds o c w w told told q
   refused (Ok x) naming is err h = absurd h
   refused (Err e) naming is err h =
       by (early_refusal w o names) (refusal-naming w o c names naming) e (sym is ∙ err ∙ ap Err (sym h))
     where
       by : (early : Option Refusal) → refusal w o c ≡ option_or early (own_refusal (part_of w o) c) → (e : Fault) → let_pass early ≡ Err e →
-          IsHandled o c w w text text (Err e)
+          IsHandled adds o c w w told told (Err e)
       by None is e h = absurd cc
       by (Some r) is (Refused k) h =
           let same : r ≡ k = cc in
@@ -87,42 +88,50 @@ abbrev pub effecting : World → Owner → Command → Run World
 effecting w o c = let u = opening_turn w o in effect_in u o (effect (part_of u o) c)
 
 -- a refusal of a command's own, which changed nothing, or want of memory
-module _ (run : Run World) (old new : World) (text : List ℕ) where
+module _ {S : Type 0} (adds : S → List Output → S → Type 0) (run : Run World) (old new : World) (told : S) where
   pub faulted : {own : Option Refusal} {f : Fault} (q : Result (Unit {0}) Fault) →
       IsErrAnd q (λ e. e ≡ f) → ((r : Refusal) → f ≡ Refused r → own ≡ Some r) → ((r : Refusal) → f ≡ Refused r → new ≡ old) →
-      IsDone own run old new text text q
+      IsDone adds own run old new told told q
   faulted (Ok x) h own same = absurd h
   faulted (Err (Refused r)) h own same = (own r (sym h), same r (sym h), refl)
   faulted (Err Memory) h own same = tt
 
--- How a command ended: with this world, from a text to another.
-module _ (new : World) (before after : List ℕ) (r : Result (Unit {0}) Fault) where
+-- How a command ended: with this world, from what was answered before to what is answered after.
+module _ {S : Type 0} (adds : S → List Output → S → Type 0) (new : World) (before after : S) (r : Result (Unit {0}) Fault) where
   -- what is done by a command that may act is its own refusal, or its run
-  pub handled : {w : World} {o : Owner} {c : Command} → MayAct w o c → IsDone (own_refusal (part_of w o) c) (accepted w o c) w new before after r →
-      IsHandled o c w new before after r
-  handled {w = w} {o = o} {c = c} may done = subst (λ e. IsDone e (accepted w o c) w new before after r) (sym may.own) done
+  pub handled : {w : World} {o : Owner} {c : Command} → MayAct w o c → IsDone adds (own_refusal (part_of w o) c) (accepted w o c) w new before after r →
+      IsHandled adds o c w new before after r
+  handled {w = w} {o = o} {c = c} may done = subst (λ e. IsDone adds e (accepted w o c) w new before after r) (sym may.own) done
 
-  -- a command without a refusal of its own does what its ending does, and says lines before
-  module _ (run : Run World) (old mid : World) where
-    said_before : {between : List ℕ} {own : Option Refusal} {goal : Run World} (lines : List Output) → own ≡ None →
-        (run.0, lines ++ run.1) ≡ goal → between ≡ before ++ output_text lines → IsDone None run mid new between after r →
-        IsDone own goal old new before after r
-    said_before {between = between} {own = own} {goal = goal} lines none e put h = by r h
+  -- a command without a refusal of its own does what its ending does
+  pub finished : {own : Option Refusal} {run goal : Run World} (old mid : World) → own ≡ None → run ≡ goal →
+      IsDone adds None run mid new before after r → IsDone adds own goal old new before after r
+  finished {own = own} {run = run} {goal = goal} old mid none e done = by r done
+    where
+      by : (q : Result (Unit {0}) Fault) → IsDone adds None run mid new before after q → IsDone adds own goal old new before after q
+      by (Ok x) h = (none, h.1 ∙ ap (λ (run : Run World). run.0) e, subst (λ (run : Run World). adds before run.1 after) e h.2)
+      by (Err (Refused q)) h = let no : None ≡ Some q = h.0 in absurd cc
+      by (Err Memory) h = tt
+
+-- what comes after some answers comes after what was before them too, with these in front
+abbrev pub Joins : {S : Type 0} → (S → List Output → S → Type 0) → Type 0
+Joins {S = S} adds = (a b c : S) (xs ys : List Output) → adds a xs b → adds b ys c → adds a (xs ++ ys) c
+
+-- a command that answers before its ending does
+module _ {S : Type 0} (adds : S → List Output → S → Type 0) (more : Joins adds) (new : World) (before after : S) (r : Result (Unit {0}) Fault) where
+  module _ {between : S} {own : Option Refusal} {goal : Run World} (old mid : World) (run : Run World) (lines : List Output) where
+    said_before : own ≡ None → (run.0, lines ++ run.1) ≡ goal → adds before lines between → IsDone adds None run mid new between after r →
+        IsDone adds own goal old new before after r
+    said_before none e put h = by r h
       where
-        by : (q : Result (Unit {0}) Fault) → IsDone None run mid new between after q → IsDone own goal old new before after q
+        by : (q : Result (Unit {0}) Fault) → IsDone adds None run mid new between after q → IsDone adds own goal old new before after q
         by (Ok x) h = (
           none,
           h.1 ∙ ap (λ (run : Run World). run.0) e,
-          h.2 ∙ ap (λ text. text ++ output_text run.1) put ∙ append_assoc before (output_text lines) (output_text run.1) ∙
-              ap (λ text. before ++ text) (sym (output_text-append lines run.1)) ∙ ap (λ (run : Run World). before ++ output_text run.1) e,
+          subst (λ (run : Run World). adds before run.1 after) e (more before between after lines run.1 put h.2),
         )
         by (Err (Refused q)) h = let no : None ≡ Some q = h.0 in absurd cc
         by (Err Memory) h = tt
-
-  -- it says none
-  pub finished : {own : Option Refusal} {run goal : Run World} (old mid : World) → own ≡ None → run ≡ goal → IsDone None run mid new before after r →
-      IsDone own goal old new before after r
-  finished {run = run} old mid none e done = said_before run old mid [] none e (sym (append-nil before)) done
 
 -- ---- commands of one part
 
@@ -137,85 +146,92 @@ effect_turned : (t : Option Owner) (w : World) (o : Owner) (e : Effect) → effe
 effect_turned t w o (Effect.tables p lines v) = refl
 effect_turned t w o (Effect.changes steps v) = ap (λ (u : World). (u, says o (replied v) ∷ [])) (after_turned t o w steps)
 
+-- In a world with an open turn, a command of one part that has no refusal of its own: what it does there by what it does in the world alone.
+module _ (t : Option Owner) (w mid : World) (o : Owner) (c : Command) where
+  runs_turned : (reply : Value) (lines : List Said) → accepted (with_turn t w) o c ≡ effecting (with_turn t w) o c →
+      (mid, map (says o) lines ++ says o (replied reply) ∷ []) ≡ effect_in w o (effect (part_of w o) c) →
+      (opening_turn (with_turn t mid) o, map (says o) lines ++ says o (replied reply) ∷ []) ≡ accepted (with_turn t w) o c
+  runs_turned reply lines runs does =
+      let e = effect (part_of w o) c in
+      let run : Run World → Run World = λ q. (with_turn (opened_turn t o) q.0, q.1) in
+      ap (λ (u : World). (u, map (says o) lines ++ says o (replied reply) ∷ [])) (opened t mid o) ∙ ap run does
+      ∙ sym (runs ∙ ap (λ (u : World). effect_in u o (effect (part_of u o) c)) (opened t w o) ∙ effect_turned (opened_turn t o) w o e)
+
 -- In a state with these documents, a command of one part that is not refused.
-module _ (t : Option Owner) (d s : DocState) (seen : turned t d ≡ s) {o : Owner} {c : Command} (may : MayAct s.world o c) (new : World)
-    (before after : List ℕ) (r : Result (Unit {0}) Fault) where
+module _ {S : Type 0} (adds : S → List Output → S → Type 0) (t : Option Owner) (d s : DocState) (seen : turned t d ≡ s) {o : Owner} {c : Command}
+    (may : MayAct s.world o c) (new : World) (before after : S) (r : Result (Unit {0}) Fault) where
   -- what is done in the world of its documents is done in its world
-  pub in_state : IsDone (own_refusal (part_of d.world o) c) (accepted (with_turn t d.world) o c) (with_turn t d.world) new before after r →
-      IsHandled o c s.world new before after r
+  pub in_state : IsDone adds (own_refusal (part_of d.world o) c) (accepted (with_turn t d.world) o c) (with_turn t d.world) new before after r →
+      IsHandled adds o c s.world new before after r
   in_state h =
-      handled new before after r may
-      (subst (λ (u : DocState). IsDone (own_refusal (part_of u.world o) c) (accepted u.world o c) u.world new before after r) seen h)
+      handled adds new before after r may
+      (subst (λ (u : DocState). IsDone adds (own_refusal (part_of u.world o) c) (accepted u.world o c) u.world new before after r) seen h)
 
   module _ {mid : World} (none : own_refusal (part_of d.world o) c ≡ None)
       (runs : accepted (with_turn t d.world) o c ≡ effecting (with_turn t d.world) o c) where
-    -- it does this, and says lines before its reply
-    performs : {between : List ℕ} (reply : Value) (lines : List Said) → (mid, map (says o) lines ++ says o (replied reply) ∷ []) ≡ effect_in d.world o
-        (effect (part_of d.world o) c) → between ≡ before ++ output_text (map (says o) lines) →
-        IsDone None (opening_turn (with_turn t mid) o, says o (replied reply) ∷ []) (with_turn t mid) new between after r →
-        IsHandled o c s.world new before after r
-    performs reply lines does put done =
-        let e = effect (part_of d.world o) c in
-        let run : Run World → Run World = λ q. (with_turn (opened_turn t o) q.0, q.1) in
-        in_state
-        (said_before new before after r (opening_turn (with_turn t mid) o, says o (replied reply) ∷ []) (with_turn t d.world) (with_turn t mid)
-        (map (says o) lines) none
-        (ap (λ (u : World). (u, map (says o) lines ++ says o (replied reply) ∷ [])) (opened t mid o) ∙ ap run does
-        ∙ sym (runs ∙ ap (λ (u : World). effect_in u o (effect (part_of u o) c)) (opened t d.world o) ∙ effect_turned (opened_turn t o) d.world o e))
-        put done)
+    -- it does this, and says nothing before its reply
+    performs : (reply : Value) → (mid, says o (replied reply) ∷ []) ≡ effect_in d.world o (effect (part_of d.world o) c) →
+        IsDone adds None (opening_turn (with_turn t mid) o, says o (replied reply) ∷ []) (with_turn t mid) new before after r →
+        IsHandled adds o c s.world new before after r
+    performs reply does done =
+        in_state (finished adds new before after r (with_turn t d.world) (with_turn t mid) none (runs_turned t d.world mid o c reply [] runs does) done)
 
-    -- it changes its owner's tables alone, and says lines
-    pub keeps_saying : {between : List ℕ} {lines : List Said} {reply v : Value} → MakesSaying o c lines v d.world mid → reply ≡ v →
-        between ≡ before ++ output_text (map (says o) lines) →
-        IsDone None (opening_turn (with_turn t mid) o, says o (replied reply) ∷ []) (with_turn t mid) new between after r →
-        IsHandled o c s.world new before after r
-    keeps_saying {lines = lines} {reply = reply} makes is put done =
-        performs reply lines (ap (λ (u : World). (u, map (says o) lines ++ says o (replied reply) ∷ [])) makes.1
-        ∙ ap (λ a. (with_part d.world (part_of mid o), map (says o) lines ++ says o (replied a) ∷ [])) is ∙ sym (ap (effect_in d.world o) makes.0)) put done
-
-    -- it says none
+    -- it changes its owner's tables alone
     pub keeps : {reply v : Value} → MakesSaying o c [] v d.world mid → reply ≡ v →
-        IsDone None (opening_turn (with_turn t mid) o, says o (replied reply) ∷ []) (with_turn t mid) new before after r →
-        IsHandled o c s.world new before after r
-    keeps makes is done = keeps_saying makes is (sym (append-nil before)) done
+        IsDone adds None (opening_turn (with_turn t mid) o, says o (replied reply) ∷ []) (with_turn t mid) new before after r →
+        IsHandled adds o c s.world new before after r
+    keeps {reply = reply} makes is done =
+        performs reply (ap (λ (u : World). (u, says o (replied reply) ∷ [])) makes.1
+        ∙ ap (λ a. (with_part d.world (part_of mid o), says o (replied a) ∷ [])) is ∙ sym (ap (effect_in d.world o) makes.0)) done
 
     -- it makes the steps of a plan
     pub plans : {steps : List Step} {reply : Value} → changes steps reply ≡ effect (part_of d.world o) c → mid ≡ world_after o d.world steps →
-        IsDone None (opening_turn (with_turn t mid) o, says o (replied reply) ∷ []) (with_turn t mid) new before after r →
-        IsHandled o c s.world new before after r
+        IsDone adds None (opening_turn (with_turn t mid) o, says o (replied reply) ∷ []) (with_turn t mid) new before after r →
+        IsHandled adds o c s.world new before after r
     plans {reply = reply} is made done =
-        performs reply [] (ap (λ (u : World). (u, says o (replied reply) ∷ [])) made ∙ ap (effect_in d.world o) is) (sym (append-nil before)) done
+        performs reply (ap (λ (u : World). (u, says o (replied reply) ∷ [])) made ∙ ap (effect_in d.world o) is) done
+
+    -- it changes its owner's tables alone, and says lines before its reply
+    pub keeps_saying : {between : S} {lines : List Said} {reply v : Value} → Joins adds → MakesSaying o c lines v d.world mid → reply ≡ v →
+        adds before (map (says o) lines) between →
+        IsDone adds None (opening_turn (with_turn t mid) o, says o (replied reply) ∷ []) (with_turn t mid) new between after r →
+        IsHandled adds o c s.world new before after r
+    keeps_saying {lines = lines} {reply = reply} more makes is put done =
+        in_state (said_before adds more new before after r (with_turn t d.world) (with_turn t mid)
+        (opening_turn (with_turn t mid) o, says o (replied reply) ∷ []) (map (says o) lines) none
+        (runs_turned t d.world mid o c reply lines runs (ap (λ (u : World). (u, map (says o) lines ++ says o (replied reply) ∷ [])) makes.1
+        ∙ ap (λ a. (with_part d.world (part_of mid o), map (says o) lines ++ says o (replied a) ∷ [])) is ∙ sym (ap (effect_in d.world o) makes.0))) put done)
 
   -- it answers what its owner's tables say, and changes nothing
   pub tells : {reply v : Value} → own_refusal (part_of d.world o) c ≡ None → accepted (with_turn t d.world) o c ≡ effecting (with_turn t d.world) o c →
       MakesSaying o c [] v d.world d.world → reply ≡ v →
-      IsDone None (opening_turn s.world o, says o (replied reply) ∷ []) s.world new before after r → IsHandled o c s.world new before after r
+      IsDone adds None (opening_turn s.world o, says o (replied reply) ∷ []) s.world new before after r → IsHandled adds o c s.world new before after r
   tells {reply = reply} none runs makes is done =
       keeps none runs makes is
-      (subst (λ (u : DocState). IsDone None (opening_turn u.world o, says o (replied reply) ∷ []) u.world new before after r) (sym seen) done)
+      (subst (λ (u : DocState). IsDone adds None (opening_turn u.world o, says o (replied reply) ∷ []) u.world new before after r) (sym seen) done)
 
 -- it makes the steps of a plan on the node of a key
-module _ (plan : NodeName → Plan) (t : Option Owner) (d s : DocState) (seen : turned t d ≡ s) {o : Owner} {c : Command} (may : MayAct s.world o c)
-    (new : World) (before after : List ℕ) (r : Result (Unit {0}) Fault) (w : NodeWord) (key : ℕ) where
+module _ {S : Type 0} (adds : S → List Output → S → Type 0) (plan : NodeName → Plan) (t : Option Owner) (d s : DocState) (seen : turned t d ≡ s)
+    {o : Owner} {c : Command} (may : MayAct s.world o c) (new : World) (before after : S) (r : Result (Unit {0}) Fault) (w : NodeWord) (key : ℕ) where
   pub makes : {mid : World} {reply : Value} → name_at s.names key ≡ named (part_of s.world o) w → own_refusal (part_of d.world o) c ≡ None →
       accepted (with_turn t d.world) o c ≡ effecting (with_turn t d.world) o c →
       changes (plan (named (part_of d.world o) w) (part_of d.world o)) reply ≡ effect (part_of d.world o) c →
       mid ≡ made (owner_in d key) (plan (name_in d key)) d.world →
-      IsDone None (opening_turn (with_turn t mid) o, says o (replied reply) ∷ []) (with_turn t mid) new before after r →
-      IsHandled o c s.world new before after r
+      IsDone adds None (opening_turn (with_turn t mid) o, says o (replied reply) ∷ []) (with_turn t mid) new before after r →
+      IsHandled adds o c s.world new before after r
   makes is none runs does by done =
       let node = key_of t d s seen o w key is in
-      plans t d s seen may new before after r none runs does (by ∙ (λ j. made (node.mine j) (plan (node.name j)) d.world)) done
+      plans adds t d s seen may new before after r none runs does (by ∙ (λ j. made (node.mine j) (plan (node.name j)) d.world)) done
 
 -- it is refused by its own tests, which changed nothing, or memory was refused
-module _ (t : Option Owner) (d s : DocState) (seen : turned t d ≡ s) {o : Owner} {c : Command} (may : MayAct s.world o c) (mid : DocState)
-    (text : List ℕ) where
+module _ {S : Type 0} (adds : S → List Output → S → Type 0) (t : Option Owner) (d s : DocState) (seen : turned t d ≡ s) {o : Owner} {c : Command}
+    (may : MayAct s.world o c) (mid : DocState) (told : S) where
   pub faults : {f : Fault} (q : Result (Unit {0}) Fault) → IsErrAnd q (λ e. e ≡ f) →
       ((r : Refusal) → f ≡ Refused r → own_refusal (part_of d.world o) c ≡ Some r) → ((r : Refusal) → f ≡ Refused r → mid ≡ d) →
-      IsHandled o c s.world (with_turn t mid.world) text text q
+      IsHandled adds o c s.world (with_turn t mid.world) told told q
   faults q err own same =
-      in_state t d s seen may (with_turn t mid.world) text text q
-      (faulted (accepted (with_turn t d.world) o c) (with_turn t d.world) (with_turn t mid.world) text q err own
+      in_state adds t d s seen may (with_turn t mid.world) told told q
+      (faulted adds (accepted (with_turn t d.world) o c) (with_turn t d.world) (with_turn t mid.world) told q err own
       (λ r h. ap (λ (u : DocState). with_turn t u.world) (same r h)))
 
 -- ---- commands that only answer
@@ -253,26 +269,20 @@ pub opened-there : (w : World) (o : Owner) → is_there w o ≡ true → is_ther
 opened-there w o h = sym (opened-same (λ u. is_there u o) w o (λ t. refl)) ∙ h
 
 -- a command that may act and has no refusal of its own
-module _ {w : World} {o : Owner} {c : Command} (may : MayAct w o c) (new : World) (before after : List ℕ) (r : Result (Unit {0}) Fault)
-    (none : own_refusal (part_of w o) c ≡ None) where
+module _ {S : Type 0} (adds : S → List Output → S → Type 0) {w : World} {o : Owner} {c : Command} (may : MayAct w o c) (new : World) (before after : S)
+    (r : Result (Unit {0}) Fault) (none : own_refusal (part_of w o) c ≡ None) where
   -- it only answers
   pub asks : {reply value : Value} → accepted w o c ≡ (opening_turn w o, says o (replied value) ∷ []) → reply ≡ value →
-      IsDone None (opening_turn w o, says o (replied reply) ∷ []) w new before after r → IsHandled o c w new before after r
+      IsDone adds None (opening_turn w o, says o (replied reply) ∷ []) w new before after r → IsHandled adds o c w new before after r
   asks runs is done =
-      handled new before after r may (finished new before after r w w none (ap (λ a. (opening_turn w o, says o (replied a) ∷ [])) is ∙ sym runs) done)
+      handled adds new before after r may (finished adds new before after r w w none (ap (λ a. (opening_turn w o, says o (replied a) ∷ [])) is ∙ sym runs) done)
 
   -- it answers what its owner's part says
   pub reads : {reply : Value} → accepted w o c ≡ effecting w o c → answers (part_of w o) reply ≡ effect (part_of w o) c →
-      IsDone None (opening_turn w o, says o (replied reply) ∷ []) w new before after r → IsHandled o c w new before after r
+      IsDone adds None (opening_turn w o, says o (replied reply) ∷ []) w new before after r → IsHandled adds o c w new before after r
   reads {reply = reply} runs is done =
       let u = opening_turn w o in
       asks
       (runs ∙ ap (effect_in u o) (sym (subst (λ p. answers p reply ≡ effect p c) (opened-part w o) is))
       ∙ ap (λ (v : World). (v, says o (replied reply) ∷ [])) (with_part-same u o (opened-there w o may.there)))
       refl done
-
--- a command that only answers is refused by its own tests, or memory was refused
-pub unanswered : {w : World} {o : Owner} {c : Command} → MayAct w o c → (text : List ℕ) {f : Fault} (q : Result (Unit {0}) Fault) →
-    IsErrAnd q (λ e. e ≡ f) → ((r : Refusal) → f ≡ Refused r → own_refusal (part_of w o) c ≡ Some r) → IsHandled o c w w text text q
-unanswered {w = w} {o = o} {c = c} may text q err own =
-    handled w text text q may (faulted (accepted w o c) w w text q err own (λ r h. refl))

@@ -1,9 +1,9 @@
 -- How the line of a dispatch is let pass.
-use Rattle.dom_commands.proofs.Cited.{◌≡◌, ℕ, Bool, true, false, not, List, [], ◌∷◌, Option, Some, None, Result, Ok, Err, refl, sym, ap, ◌∙◌, IsErrAnd}
+use Rattle.dom_commands.proofs.Cited.{◌≡◌, Bool, true, false, not, List, [], ◌∷◌, Option, Some, None, Result, Ok, Err, refl, sym, ap, ◌∙◌, IsErrAnd}
 use Rattle.dom_commands.proofs.Cited.{option_or, NodeWord, word_view, Operand, Any, IsHandled, let_pass, may_act, IsNaming, refusal-naming, namings}
 use Rattle.dom_model.proofs.Model.{Fault, Refused, Memory, NodeName, Owner, Page, Component, Refusal, Syntax, Busy, Foreign, Unknown, Command, EventWords}
 use Rattle.dom_model.proofs.Model.{names_foreign, is_command_of, own_refusal, part_refusal, named, related_refusal, is_busy, refusal, Part, first_refusal}
-use Rattle.dom_model.proofs.Model.{World, part_of, is_there, owner-part_of}
+use Rattle.dom_model.proofs.Model.{Output, World, part_of, is_there, owner-part_of}
 use Rattle.dom_admission.specs.Refusals.{early_refusal}
 
 -- An owner's command, by what it names.
@@ -55,13 +55,13 @@ module _ (w : World) (o : Owner) (x y : NodeWord) (e : EventWords) where
 -- ---- what is refused, and what is not
 
 -- a line that is refused changes nothing
-module _ (w : World) (o : Owner) (c : Command) where
-  pub refused_line : (text : List ℕ) {f : Fault} (q : Result (Unit {0}) Fault) → let_pass (refusal w o c) ≡ Err f →
-      IsErrAnd q (λ e. e ≡ f) → IsHandled o c w w text text q
-  refused_line text (Ok x) h err = absurd err
-  refused_line text (Err e) h err = by (refusal w o c) refl e (h ∙ ap Err (sym err))
+module _ {S : Type 0} (adds : S → List Output → S → Type 0) (w : World) (o : Owner) (c : Command) where
+  pub refused_line : (told : S) {f : Fault} (q : Result (Unit {0}) Fault) → let_pass (refusal w o c) ≡ Err f →
+      IsErrAnd q (λ e. e ≡ f) → IsHandled adds o c w w told told q
+  refused_line told (Ok x) h err = absurd err
+  refused_line told (Err e) h err = by (refusal w o c) refl e (h ∙ ap Err (sym err))
     where
-      by : (r : Option Refusal) → refusal w o c ≡ r → (f : Fault) → let_pass r ≡ Err f → IsHandled o c w w text text (Err f)
+      by : (r : Option Refusal) → refusal w o c ≡ r → (f : Fault) → let_pass r ≡ Err f → IsHandled adds o c w w told told (Err f)
       by None is f h = absurd cc
       by (Some r) is (Refused q) h =
           let same : r ≡ q = cc in

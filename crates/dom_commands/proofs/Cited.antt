@@ -6,14 +6,14 @@ pub use Rattle.dom_base.proofs.Std.{None, none-some, not, Ok, OnOk, Option, opti
 pub use Rattle.dom_base.proofs.Std.{refl, Result, reverse, rules, same_Some, slice_get, slice_get_past, Some, subst, suc, sym, take, true}
 pub use Rattle.dom_base.proofs.Std.{true≢false, unwrap_or, zero, ℕ, ◌&&◌, ◌++◌, ◌<◌, ◌||◌, ◌∙◌, ◌∷◌, ◌≡◌, ◌≢◌, ◌≤◌}
 pub use Rattle.dom_admission.proofs.Finding.{key_of, owner-named, read_at}
-pub use Rattle.dom_admission.proofs.Handling.{faults, may_act, MayAct, opened-part, opened-there, plans, refused, tells, thing_there, with_part-same}
+pub use Rattle.dom_admission.proofs.Handling.{faults, Joins, may_act, MayAct, opened-part, opened-there, plans, refused, tells, thing_there, with_part-same}
 pub use Rattle.dom_admission.proofs.OwnRefusals.{lone_passes, lone_refuses, none_stopped, refuses}
 pub use Rattle.dom_admission.proofs.Refusing.{IsNaming, namings, refusal-naming}
 pub use Rattle.dom_admission.specs.Handled.{BeginsWith, IsDone, IsHandled, KeepsNames, let_pass}
 pub use Rattle.dom_admission.specs.declared.admission.Operand.{Operand}
 pub use Rattle.dom_admission.specs.declared.admission.Operand.TheVariants.{Any, Range}
 pub use Rattle.dom_commands.specs.CommandGroups.{is_plain}
-pub use Rattle.dom_commands.specs.Machine.{AreAtNodes, AreThere, IsAtRest, KeepsListeners, line_shown, machine_now, MachineNow, NamesNodes, path_shown}
+pub use Rattle.dom_commands.specs.Machine.{AreAtNodes, AreThere, IsAtRest, KeepsListeners, line_shown, machine_now, MachineNow, NamesNodes, path_named}
 pub use Rattle.dom_commands.specs.RangeWorlds.{HasFirstNodes}
 pub use Rattle.dom_commands.specs.WithListeners.{heard, hearing, own_listeners}
 pub use Rattle.dom_dispatch.proofs.Naming.{listened-named, unlistened-named}
@@ -30,8 +30,6 @@ pub use Rattle.dom_reader.specs.Views.{command_view, event_view, listener_view, 
 pub use Rattle.dom_reader.specs.declared.line.NodeWord.{NodeWord}
 pub use Rattle.dom_slots.proofs.Hosted.{key-test}
 pub use Rattle.dom_slots.specs.Definitions.{IsShownBy, ShadowHost, shadows, ShadowTrees}
-pub use Rattle.dom_text.proofs.OutputLaws.{output_text-append}
-pub use Rattle.dom_text.specs.Definitions.{output_text}
 pub use Rattle.dom_tree.proofs.Owned.{read_own}
 pub use Rattle.dom_tree.specs.Definitions.{name_at, NamedTrees, TellApart}
 pub use Rattle.dom_worlds.proofs.CommandLemmas.{accepted-facts, attach-may}

@@ -1,11 +1,11 @@
--- The end of a turn: the tasks run, one after another, and their lines are put.
+-- The end of a turn: the tasks run, one after another, and what they tell is put.
 use Rattle.dom_commands.proofs.Cited.{OnOk, AllByRecursion, true, false, ◌≡◌, ℕ, List, [], ◌∷◌, ◌++◌, drop, map, filter, Some, None, Result}
-use Rattle.dom_commands.proofs.Cited.{Ok, Err, append_assoc, sym, ap, ◌∙◌, refl, subst, none-some, same_Some, IsBounded, IsThere, task_owner}
-use Rattle.dom_commands.proofs.Cited.{all-then, stays-running, Stands, at_end-stands, told-stands, dispatch-stands, output_text, name_at, DocState}
-use Rattle.dom_commands.proofs.Cited.{IsListenerAt, heard, own_listeners, MachineNow, machine_now, IsAtRest, AreAtNodes, AreThere, output_text-append}
+use Rattle.dom_commands.proofs.Cited.{Ok, Err, sym, ap, ◌∙◌, refl, subst, none-some, same_Some, IsBounded, IsThere, task_owner}
+use Rattle.dom_commands.proofs.Cited.{all-then, stays-running, Stands, at_end-stands, told-stands, dispatch-stands, Joins, name_at, DocState}
+use Rattle.dom_commands.proofs.Cited.{IsListenerAt, heard, own_listeners, MachineNow, machine_now, IsAtRest, AreAtNodes, AreThere}
 use Rattle.dom_model.proofs.Model.{Owner, NodeName, Listener, Word, first_of, EventWords, Part, Run, run_each, ending_turn, running_task, notifying, notified}
-use Rattle.dom_model.proofs.Model.{notified_lines, is_owned_by, without_signals, slotchange, firing_slotchange, World, Task, part_of, with_part, is_there}
-use Rattle.dom_model.proofs.Model.{dispatch_in}
+use Rattle.dom_model.proofs.Model.{notified_lines, Output, is_owned_by, without_signals, slotchange, firing_slotchange, World, Task, part_of, with_part}
+use Rattle.dom_model.proofs.Model.{dispatch_in, is_there}
 use Rattle.dom_commands.proofs.Bounded.{bounded-dispatch, bounded-told}
 use Rattle.dom_commands.proofs.ListenerWorlds.{FitsIn, part-heard, with_part-heard, there-heard}
 use Rattle.dom_commands.proofs.Listening.{OwnersAreThere, fits-own}
@@ -13,22 +13,21 @@ use Rattle.dom_commands.proofs.Machines.{seen_at}
 
 -- ---- runs, one after another
 
-module _ {A : Type 0} (f : World → A → Run World) where
-  -- Where runs for items stand, after some of them: the world and the text so far, and the items left.
-  pub record Ran (was now : World) (all left : List A) (before after : List ℕ) : Type 0 where
+module _ {S : Type 0} (adds : S → List Output → S → Type 0) {A : Type 0} (f : World → A → Run World) where
+  -- Where runs for items stand, after some of them: the world so far, and the items left. Whatever tells the rest tells all of them.
+  pub record Ran (was now : World) (all left : List A) (before after : S) : Type 0 where
     pub world : (run_each f now left).0 ≡ (run_each f was all).0
-    pub text : after ++ output_text (run_each f now left).1 ≡ before ++ output_text (run_each f was all).1
+    pub told : (end : S) → adds after (run_each f now left).1 end → adds before (run_each f was all).1 end
 
   -- one more
-  pub ran_more : {was now then : World} {all rest : List A} {x : A} {before after next : List ℕ} → Ran was now all (x ∷ rest) before after →
-      then ≡ (f now x).0 → next ≡ after ++ output_text (f now x).1 → Ran was then all rest before next
-  ran_more {now = now} {rest = rest} {x = x} {after = after} {next = next} ran world text =
+  pub ran_more : {was now then : World} {all rest : List A} {x : A} {before after next : S} → Joins adds → Ran was now all (x ∷ rest) before after →
+      then ≡ (f now x).0 → adds after (f now x).1 next → Ran was then all rest before next
+  ran_more {now = now} {rest = rest} {x = x} {after = after} {next = next} more ran world told =
       let r = f now x in
       record {
         world = ap (λ v. (run_each f v rest).0) world ∙ ran.world;
-        text = ap (λ v. next ++ output_text (run_each f v rest).1) world ∙ ap (λ t. t ++ output_text (run_each f r.0 rest).1) text
-            ∙ append_assoc after (output_text r.1) (output_text (run_each f r.0 rest).1)
-            ∙ ap (λ (t : List ℕ). after ++ t) (sym (output_text-append r.1 (run_each f r.0 rest).1)) ∙ ran.text;
+        told = λ end h. ran.told end (more after next end r.1 (run_each f r.0 rest).1 told
+            (subst (λ v. adds next (run_each f v rest).1 end) world h));
       }
 
 -- ---- the queue
@@ -117,10 +116,10 @@ pub ended_world : {T E : Type 0} {q p : Run World} (r : Result T E) (u : World) 
 ended_world (Ok x) u same e = e ∙ ap (λ (z : Run World). z.0) same
 ended_world (Err x) u same e = tt
 
-pub ended_text : {T E : Type 0} {q p : Run World} (r : Result T E) (before after : List ℕ) → q ≡ p → OnOk r (after ≡ before ++ output_text q.1) →
-    OnOk r (after ≡ before ++ output_text p.1)
-ended_text (Ok x) before after same e = e ∙ ap (λ (z : Run World). before ++ output_text z.1) same
-ended_text (Err x) before after same e = tt
+pub ended_telling : {S : Type 0} (adds : S → List Output → S → Type 0) {T E : Type 0} {q p : Run World} (r : Result T E) (before after : S) → q ≡ p →
+    OnOk r (adds before q.1 after) → OnOk r (adds before p.1 after)
+ended_telling adds (Ok x) before after same e = subst (λ (z : Run World). adds before z.1 after) same e
+ended_telling adds (Err x) before after same e = tt
 
 -- ---- a notification, in a world with listeners
 
@@ -181,11 +180,10 @@ module _ (w v : World) (o : Owner) (told : v ≡ with_part (without_signals w o)
   notify_world u (Ok x) e = e ∙ ap (λ (q : Run World). q.0) signalled_run
   notify_world u (Err x) e = tt
 
-  pub notify_text : {T E : Type 0} (before mid after : List ℕ) → mid ≡ before ++ output_text (notified_lines (part_of w o)) → (r : Result T E) →
-      OnOk r (after ≡ mid ++ output_text (run_each firing_slotchange v slots).1) → OnOk r (after ≡ before ++ output_text (notifying w o).1)
-  notify_text before mid after first (Err x) e = tt
-  notify_text before mid after first (Ok x) e =
-      let lines = notified_lines (part_of w o) in
-      let more = (run_each firing_slotchange (with_part (without_signals w o) (notified (part_of w o))) (filter (is_owned_by o) w.signalled)).1 in
-      e ∙ ap (λ (q : Run World). mid ++ output_text q.1) signalled_run ∙ ap (λ (t : List ℕ). t ++ output_text more) first
-      ∙ append_assoc before (output_text lines) (output_text more) ∙ ap (λ (t : List ℕ). before ++ t) (sym (output_text-append lines more))
+  module _ {S : Type 0} (adds : S → List Output → S → Type 0) {T E : Type 0} (more : Joins adds) (before mid after : S) where
+    pub notify_telling : adds before (notified_lines (part_of w o)) mid →
+        (r : Result T E) → OnOk r (adds mid (run_each firing_slotchange v slots).1 after) → OnOk r (adds before (notifying w o).1 after)
+    notify_telling first (Err x) e = tt
+    notify_telling first (Ok x) e =
+        let rest = (run_each firing_slotchange (with_part (without_signals w o) (notified (part_of w o))) (filter (is_owned_by o) w.signalled)).1 in
+        more before mid after (notified_lines (part_of w o)) rest first (subst (λ (q : Run World). adds mid q.1 after) signalled_run e)

@@ -1,11 +1,11 @@
 -- The commands on listeners, in a world with listeners.
 use Rattle.dom_commands.proofs.Cited.{◌≡◌, ◌≢◌, ℕ, ◌<◌, Bool, true, false, List, [], ◌∷◌, ◌++◌, length, Option, Some, None, Result, Ok, Err, refl, sym, ap}
-use Rattle.dom_commands.proofs.Cited.{subst, ◌∙◌, true≢false, nat_eq, is_some, IsErrAnd, AllByRecursion, IsReached, IsWhole, which_way, either_way, output_text}
+use Rattle.dom_commands.proofs.Cited.{subst, ◌∙◌, true≢false, nat_eq, is_some, IsErrAnd, AllByRecursion, IsReached, IsWhole, which_way, either_way}
 use Rattle.dom_commands.proofs.Cited.{name_at, TellApart, IsListenerAt, IsDone, IsHandled, heard, own_listeners, MachineNow, machine_now, IsAtRest}
 use Rattle.dom_commands.proofs.Cited.{KeepsListeners, DocState, owner-named, MayAct, opened-there}
 use Rattle.dom_model.proofs.Model.{Fault, Refused, Memory, NodeName, Owner, Command, NodeWord, own, foreign, ListenerWords, own_refusal, effect, named, refusal}
 use Rattle.dom_model.proofs.Model.{accepted, effect_in, keeps, Listener, with_listener_added, with_listener_removed, Word, name_eq, node_of, says, replied}
-use Rattle.dom_model.proofs.Model.{nothing, Part, Run, opening_turn, is_page_turn, World, part_of, is_there, owner-part_of}
+use Rattle.dom_model.proofs.Model.{nothing, Output, Part, Run, opening_turn, is_page_turn, World, part_of, is_there, owner-part_of}
 use Rattle.dom_commands.proofs.Dispatching.{written-heard}
 use Rattle.dom_commands.proofs.ListenerWorlds.{FitsIn, part-heard, there-heard}
 use Rattle.dom_commands.proofs.HeardCommands.{refusal-heard, opening-heard, fits-opening}
@@ -60,11 +60,11 @@ module _ (s : DocState) (ls : List (Listener ℕ)) (m : MachineNow) (seen : mach
       refusal-heard (own_listeners s.names ls) s.world (fits-own s.names s.world there ls (seen_at s ls m seen sound)) o c
 
   -- it is refused before it begins
-  pub stopped : (text : List ℕ) (f : Fault) (q : Result (Unit {0}) Fault) → IsErrAnd q (λ e. e ≡ f) → IsHandled o c s.world s.world text text q →
-      IsHandled o c m.world m.world text text q
-  stopped text f (Ok x) err h = absurd err
-  stopped text f (Err (Refused r)) err h = (refusal-seen ∙ h.0, refl, refl)
-  stopped text f (Err Memory) err h = tt
+  pub stopped : {S : Type 0} (adds : S → List Output → S → Type 0) (told : S) (f : Fault) (q : Result (Unit {0}) Fault) → IsErrAnd q (λ e. e ≡ f) →
+      IsHandled adds o c s.world s.world told told q → IsHandled adds o c m.world m.world told told q
+  stopped adds told f (Ok x) err h = absurd err
+  stopped adds told f (Err (Refused r)) err h = (refusal-seen ∙ h.0, refl, refl)
+  stopped adds told f (Err Memory) err h = tt
 
   -- it may act, and has no refusal of its own
   pub unrefused : MayAct s.world o c → own_refusal (part_of s.world o) c ≡ None → refusal m.world o c ≡ None
@@ -90,46 +90,50 @@ pub record ChangesListeners (names : List NodeName) (ls now : List (Listener ℕ
   pub others : (q : Owner) → o ≢ q → own_listeners names now q ≡ own_listeners names ls q
 
 -- such a command is handled in the world with listeners
-pub listens : {names : List NodeName} {ls now : List (Listener ℕ)} {w : World} {o : Owner} {c : Command} → ChangesListeners names ls now w o c →
-    (end : World) (before after : List ℕ) (r : Result (Unit {0}) Fault) → IsDone None (opening_turn w o, says o (replied nothing) ∷ []) w end before after r →
-    IsHandled o c (heard (own_listeners names ls) w) (heard (own_listeners names now) end) before after r
-listens changing end before after (Err (Refused q)) done = let no : None ≡ Some q = done.0 in absurd cc
-listens changing end before after (Err Memory) done = tt
-listens {names = names} {ls = ls} {now = now} {w = w} {o = o} {c = c} changing end before after (Ok x) done =
-    let of = own_listeners names ls in
-    let to = own_listeners names now in
-    let here = changing.may.there in
-    let v = opening_turn w o in
-    let fits : FitsIn of w = fits-own names w changing.there ls changing.at in
-    let fits_v : FitsIn of v = fits-opening of w o fits in
-    let fits_to : FitsIn to v = fits-opening to w o (fits-own names w changing.there now changing.at_now) in
-    let reached_v : IsReached false (heard of v) =
-    subst (IsReached false) (opening-heard of w o) (reached-opening (heard of w) o (there-heard of w o ∙ here) changing.reached) in
-    let p = part_of (heard of v) o in
-    let hears : p.listeners ≡ of o = ap (λ (q : Part). q.listeners) (part-heard of v fits_v o) ∙ ap of (owner-part_of v o) in
-    let run : accepted (heard of w) o c ≡ (heard to v, says o (replied nothing) ∷ []) =
-    changing.runs (heard of w) ∙ ap (λ (u : World). effect_in u o (effect (part_of u o) c)) (opening-heard of w o) ∙
-    ap (effect_in (heard of v) o) (changing.does p (owner-part_of (heard of v) o))
-    ∙ ap (λ (u : World). (u, says o (replied nothing) ∷ []))
-    (written-heard of to v fits_v fits_to reached_v o (opened-there w o here) (changing.change p.listeners) (changing.mine ∙ ap changing.change (sym hears))
-    changing.others) in (
-      refusal-heard of w fits o c ∙ changing.may.own ∙ changing.none,
-      ap (heard to) done.1 ∙ sym (ap (λ (q : Run World). q.0) run),
-      done.2 ∙ sym (ap (λ (q : Run World). before ++ output_text q.1) run),
-    )
+module _ {S : Type 0} (adds : S → List Output → S → Type 0) where
+  pub listens : {names : List NodeName} {ls now : List (Listener ℕ)} {w : World} {o : Owner} {c : Command} →
+      ChangesListeners names ls now w o c → (end : World) (before after : S) (r : Result (Unit {0}) Fault) →
+      IsDone adds None (opening_turn w o, says o (replied nothing) ∷ []) w end before after r →
+      IsHandled adds o c (heard (own_listeners names ls) w) (heard (own_listeners names now) end) before after r
+  listens changing end before after (Err (Refused q)) done = let no : None ≡ Some q = done.0 in absurd cc
+  listens changing end before after (Err Memory) done = tt
+  listens {names = names} {ls = ls} {now = now} {w = w} {o = o} {c = c} changing end before after (Ok x) done =
+      let of = own_listeners names ls in
+      let to = own_listeners names now in
+      let here = changing.may.there in
+      let v = opening_turn w o in
+      let fits : FitsIn of w = fits-own names w changing.there ls changing.at in
+      let fits_v : FitsIn of v = fits-opening of w o fits in
+      let fits_to : FitsIn to v = fits-opening to w o (fits-own names w changing.there now changing.at_now) in
+      let reached_v : IsReached false (heard of v) =
+      subst (IsReached false) (opening-heard of w o) (reached-opening (heard of w) o (there-heard of w o ∙ here) changing.reached) in
+      let p = part_of (heard of v) o in
+      let hears : p.listeners ≡ of o = ap (λ (q : Part). q.listeners) (part-heard of v fits_v o) ∙ ap of (owner-part_of v o) in
+      let run : accepted (heard of w) o c ≡ (heard to v, says o (replied nothing) ∷ []) =
+      changing.runs (heard of w) ∙ ap (λ (u : World). effect_in u o (effect (part_of u o) c)) (opening-heard of w o) ∙
+      ap (effect_in (heard of v) o) (changing.does p (owner-part_of (heard of v) o))
+      ∙ ap (λ (u : World). (u, says o (replied nothing) ∷ []))
+      (written-heard of to v fits_v fits_to reached_v o (opened-there w o here) (changing.change p.listeners) (changing.mine ∙ ap changing.change (sym hears))
+      changing.others) in (
+        refusal-heard of w fits o c ∙ changing.may.own ∙ changing.none,
+        ap (heard to) done.1 ∙ sym (ap (λ (q : Run World). q.0) run),
+        subst (λ (q : Run World). adds before q.1 after) (sym run) done.2,
+      )
 
 -- so it is in machines that are seen as these states with these listeners
 module _ (s t : DocState) (ls ms : List (Listener ℕ)) {now : List (Listener ℕ)} {o : Owner} {c : Command}
     (changing : ChangesListeners s.names ls now s.world o c) (kept : t.names ≡ s.names) (is : ms ≡ now) where
-  pub listens_in : (m : MachineNow) → machine_now s ls ≡ m → (before after : List ℕ) (r : Result (Unit {0}) Fault) →
-      IsDone None (opening_turn s.world o, says o (replied nothing) ∷ []) s.world t.world before after r →
-      IsHandled o c m.world (machine_now t ms).world before after r
-  listens_in m seen before after r done =
-      let Done : MachineNow → List NodeName → List (Listener ℕ) → Type 0 =
-      λ n names xs. IsHandled o c n.world (heard (own_listeners names xs) t.world) before after r in
-      let here : Done (machine_now s ls) s.names now = listens changing t.world before after r done in
-      subst (λ (n : MachineNow). Done n t.names ms) seen (subst (λ (names : List NodeName). Done (machine_now s ls) names ms) (sym kept)
-      (subst (λ (xs : List (Listener ℕ)). Done (machine_now s ls) s.names xs) (sym is) here))
+  module _ {S : Type 0} (adds : S → List Output → S → Type 0) where
+    pub listens_in : (m : MachineNow) → machine_now s ls ≡ m → (before after : S)
+        (r : Result (Unit {0}) Fault) →
+        IsDone adds None (opening_turn s.world o, says o (replied nothing) ∷ []) s.world t.world before after r →
+        IsHandled adds o c m.world (machine_now t ms).world before after r
+    listens_in m seen before after r done =
+        let Done : MachineNow → List NodeName → List (Listener ℕ) → Type 0 =
+        λ n names xs. IsHandled adds o c n.world (heard (own_listeners names xs) t.world) before after r in
+        let here : Done (machine_now s ls) s.names now = listens adds changing t.world before after r done in
+        subst (λ (n : MachineNow). Done n t.names ms) seen (subst (λ (names : List NodeName). Done (machine_now s ls) names ms) (sym kept)
+        (subst (λ (xs : List (Listener ℕ)). Done (machine_now s ls) s.names xs) (sym is) here))
 
   -- and the listeners stay at nodes
   pub listens_at : (r : Result (Unit {0}) Fault) → KeepsListeners (machine_now t ms) r

@@ -1,6 +1,6 @@
 -- Commands do in a world with listeners what they do in the world, but for those that ask for listeners.
 use Rattle.dom_commands.proofs.Cited.{◌≡◌, ℕ, Bool, true, false, not, ◌&&◌, List, [], ◌∷◌, ◌++◌, length, map, Option, Some, None, Result, Ok, Err, refl, sym}
-use Rattle.dom_commands.proofs.Cited.{ap, ◌∙◌, slice_get, is_some, if◌then◌else◌, option_or, option_map_or, output_text, IsHandled, hearing, heard, is_plain}
+use Rattle.dom_commands.proofs.Cited.{ap, ◌∙◌, slice_get, is_some, if◌then◌else◌, option_or, option_map_or, subst, IsHandled, hearing, heard, is_plain}
 use Rattle.dom_model.proofs.Model.{Fault, Refused, Memory, Shadow, NodeName, Owner, Page, Component, Refusal, Syntax, Busy, Foreign, Unknown, WrongKind}
 use Rattle.dom_model.proofs.Model.{Command, NodeWord, names_foreign, nodes_exist, thing_exists, nodes_fit, is_command_of, part_refusal, effect, named, of_range}
 use Rattle.dom_model.proofs.Model.{related_refusal, is_busy, refusal, effect_in, perform, accepted, part_with_root, Effect, tables, changes, answers}
@@ -8,7 +8,7 @@ use Rattle.dom_model.proofs.Model.{plan_of_range, of_iterator, of_walker, moves_
 use Rattle.dom_model.proofs.Model.{replied, nothing, a_node, a_string, boundaries, reference, a_truth, a_list, a_component, Part, next_name, range_at, deleting}
 use Rattle.dom_model.proofs.Model.{inserting_into_range, range_text_of, Range, Run, answering, Step, Iterator, Walker, iterator_next_node}
 use Rattle.dom_model.proofs.Model.{iterator_previous_node, walker_move, node_in, opening_turn, first_refusal, World, part_of, with_part, is_there}
-use Rattle.dom_model.proofs.Model.{component_made, is_connected, assigned_nodes}
+use Rattle.dom_model.proofs.Model.{component_made, is_connected, assigned_nodes, Output}
 use Rattle.dom_worlds.proofs.PlanLemmas.{blind-pre_inserting, blind-replacing, blind-adopting, blind-splitting, blind-normalizing, blind-setting_text}
 use Rattle.dom_worlds.proofs.PlanLemmas.{blind-deleting, blind-into_range, blind-extracting}
 use Rattle.dom_commands.proofs.ListenerWorlds.{FitsIn, there-heard, part-heard, step-hearing, with_part-heard, assigned-heard, connected-heard, after-heard}
@@ -211,13 +211,14 @@ module _ (of : Owner → List (Listener NodeName)) where
     pub new : refusal w o c ≡ None → IsNew (opening_turn w o) o c
 
   -- what is handled in a world is handled in it with listeners
-  pub handled-heard : {w : World} {o : Owner} {c : Command} (v : World) → IsHeardPlain w o c → (before after : List ℕ) (r : Result (Unit {0}) Fault) →
-      IsHandled o c w v before after r → IsHandled o c (heard of w) (heard of v) before after r
-  handled-heard {w = w} {o = o} {c = c} v is before after (Ok x) h =
-      let same = accepted-heard w is.fits o c is.plain (is.new h.0) in (
-        refusal-heard w is.fits o c ∙ h.0,
-        ap (heard of) h.1 ∙ sym (ap (λ (q : Run World). q.0) same),
-        h.2 ∙ sym (ap (λ (q : Run World). before ++ output_text q.1) same),
-      )
-  handled-heard {w = w} {o = o} {c = c} v is before after (Err (Refused r)) h = (refusal-heard w is.fits o c ∙ h.0, ap (heard of) h.1, h.2)
-  handled-heard v is before after (Err Memory) h = tt
+  module _ {S : Type 0} (adds : S → List Output → S → Type 0) where
+    pub handled-heard : {w : World} {o : Owner} {c : Command} (v : World) → IsHeardPlain w o c →
+        (before after : S) (r : Result (Unit {0}) Fault) → IsHandled adds o c w v before after r → IsHandled adds o c (heard of w) (heard of v) before after r
+    handled-heard {w = w} {o = o} {c = c} v is before after (Ok x) h =
+        let same = accepted-heard w is.fits o c is.plain (is.new h.0) in (
+          refusal-heard w is.fits o c ∙ h.0,
+          ap (heard of) h.1 ∙ sym (ap (λ (q : Run World). q.0) same),
+          subst (λ (q : Run World). adds before q.1 after) (sym same) h.2,
+        )
+    handled-heard {w = w} {o = o} {c = c} v is before after (Err (Refused r)) h = (refusal-heard w is.fits o c ∙ h.0, ap (heard of) h.1, h.2)
+    handled-heard v is before after (Err Memory) h = tt

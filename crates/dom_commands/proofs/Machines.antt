@@ -5,7 +5,7 @@ use Rattle.dom_commands.proofs.Cited.{first-is_bounded, step-keeps_bounds, first
 use Rattle.dom_commands.proofs.Cited.{step-keeps_whole, host_of-made, DocState, IsListenerAt, IsHandled, BeginsWith, KeepsNames, heard, own_listeners}
 use Rattle.dom_commands.proofs.Cited.{MachineNow, machine_now, OnOk, IsAtRest, AreAtNodes, KeepsListeners, HasFirstNodes, is_plain, opened-part}
 use Rattle.dom_model.proofs.Model.{Fault, Refused, Memory, NodeName, Owner, Page, Command, Line, Listener, first_world, refusal, step, node_of, opening_turn}
-use Rattle.dom_model.proofs.Model.{Part, World, part_of, is_there, component_made, MayAttach, component_made-no_page}
+use Rattle.dom_model.proofs.Model.{Output, Part, World, part_of, is_there, component_made, MayAttach, component_made-no_page}
 use Rattle.dom_commands.proofs.Bounded.{first_nodes-unheard}
 use Rattle.dom_commands.proofs.ListenerWorlds.{FitsIn, there-heard, part-heard}
 use Rattle.dom_commands.proofs.HeardCommands.{IsNew, IsHeardPlain, handled-heard}
@@ -32,9 +32,10 @@ module _ (of : Owner → List (Listener NodeName)) (w : World) (fits : FitsIn of
   made_new o c passes = tt
 
 -- What an owner's command did from one state to another: it kept the names of nodes, and is handled in the world of the documents.
-pub record IsCarriedOut (s t : DocState) (o : Owner) (c : Command) (before after : List ℕ) (r : Result (Unit {0}) Fault) : Type 0 where
+pub record IsCarriedOut {S : Type 0} (adds : S → List Output → S → Type 0) (s t : DocState) (o : Owner) (c : Command) (before after : S)
+    (r : Result (Unit {0}) Fault) : Type 0 where
   pub names : KeepsNames s.names t.names r
-  pub handled : IsHandled o c s.world t.world before after r
+  pub handled : IsHandled adds o c s.world t.world before after r
 
 module _ (s t : DocState) (ls : List (Listener ℕ)) (there : OwnersAreThere s.names s.world) (at : AllByRecursion (IsListenerAt s.names) ls) where
   -- listeners hear in the state behind as before
@@ -42,10 +43,11 @@ module _ (s t : DocState) (ls : List (Listener ℕ)) (there : OwnersAreThere s.n
   heard_kept kept = ap (λ of. heard of t.world) (sym (own-kept s.names t.names kept ls at))
 
   -- such a command
-  pub plain_handled : {o : Owner} {c : Command} {before after : List ℕ} {r : Result (Unit {0}) Fault} → IsCarriedOut s t o c before after r →
-      IsReached false (machine_now s ls).world → is_plain c ≡ true → IsHandled o c (machine_now s ls).world (machine_now t ls).world before after r
-  plain_handled {o = o} {c = c} {before = before} {after = after} {r = r} done reached plain =
-      by r done.names (handled-heard of t.world heard_plain before after r done.handled)
+  pub plain_handled : {S : Type 0} (adds : S → List Output → S → Type 0) {o : Owner} {c : Command} {before after : S} {r : Result (Unit {0}) Fault} →
+      IsCarriedOut adds s t o c before after r → IsReached false (machine_now s ls).world → is_plain c ≡ true →
+      IsHandled adds o c (machine_now s ls).world (machine_now t ls).world before after r
+  plain_handled adds {o = o} {c = c} {before = before} {after = after} {r = r} done reached plain =
+      by r done.names (handled-heard of adds t.world heard_plain before after r done.handled)
     where
       of : Owner → List (Listener NodeName)
       of = own_listeners s.names ls
@@ -56,10 +58,10 @@ module _ (s t : DocState) (ls : List (Listener ℕ)) (there : OwnersAreThere s.n
       heard_plain : IsHeardPlain of s.world o c
       heard_plain = record { fits = fits; plain = plain; new = λ e. made_new of s.world fits reached o c e }
 
-      by : (r : Result (Unit {0}) Fault) → KeepsNames s.names t.names r → IsHandled o c (heard of s.world) (heard of t.world) before after r →
-          IsHandled o c (machine_now s ls).world (machine_now t ls).world before after r
-      by (Ok x) kept h = subst (λ (w : World). IsHandled o c (heard of s.world) w before after (Ok x)) (heard_kept kept) h
-      by (Err (Refused q)) kept h = subst (λ (w : World). IsHandled o c (heard of s.world) w before after (Err (Refused q))) (heard_kept kept) h
+      by : (r : Result (Unit {0}) Fault) → KeepsNames s.names t.names r → IsHandled adds o c (heard of s.world) (heard of t.world) before after r →
+          IsHandled adds o c (machine_now s ls).world (machine_now t ls).world before after r
+      by (Ok x) kept h = subst (λ (w : World). IsHandled adds o c (heard of s.world) w before after (Ok x)) (heard_kept kept) h
+      by (Err (Refused q)) kept h = subst (λ (w : World). IsHandled adds o c (heard of s.world) w before after (Err (Refused q))) (heard_kept kept) h
       by (Err Memory) kept h = tt
 
   -- the listeners stay at nodes

@@ -1,9 +1,9 @@
 -- The turn that a dispatch opens, and what the dispatch is to the document machine.
 use Rattle.dom_commands.proofs.Cited.{◌≡◌, ℕ, Bool, true, false, List, [], ◌∷◌, ◌++◌, Option, Some, None, Ok, refl, sym, ap, subst, ◌∙◌, append_assoc}
-use Rattle.dom_commands.proofs.Cited.{option_map, AllByRecursion, IsBounded, IsReached, IsWhole, output_text, DocState, word_view, IsListenerAt, IsHandled}
-use Rattle.dom_commands.proofs.Cited.{heard, own_listeners, machine_now, IsAtRest, output_text-append}
+use Rattle.dom_commands.proofs.Cited.{option_map, AllByRecursion, IsBounded, IsReached, IsWhole, Joins, DocState, word_view, IsListenerAt, IsHandled}
+use Rattle.dom_commands.proofs.Cited.{heard, own_listeners, machine_now, IsAtRest}
 use Rattle.dom_model.proofs.Model.{NodeName, Owner, Command, NodeWord, EventWords, named, Dispatched, dispatch_in, refusal, Listener, says, replied, a_truth}
-use Rattle.dom_model.proofs.Model.{opening_turn, World, part_of, is_there, owner-part_of}
+use Rattle.dom_model.proofs.Model.{opening_turn, Output, World, part_of, is_there, owner-part_of}
 use Rattle.dom_commands.proofs.Bounded.{bounded-opening}
 use Rattle.dom_commands.proofs.EventCommands.{named_alike, reached-opening, whole-opening}
 use Rattle.dom_commands.proofs.HeardCommands.{opening-heard}
@@ -37,30 +37,29 @@ pub opened_names : (w v : World) (o : Owner) (r : Option line.NodeWord) →
 opened_names w v o None = refl
 opened_names w v o (Some x) = ap Some (opened_name w v o (word_view x))
 
--- What a dispatch did in its owner's turn: its world, its lines, up to the text in the middle, and then its answer.
-pub record HasDispatched (w : World) (o : Owner) (x : NodeWord) (e : EventWords) (related : Option NodeWord) (end : World)
-    (before after : List ℕ) : Type 0 where
+-- What a dispatch did in its owner's turn: its world, what it tells, up to the middle, and then its answer.
+pub record HasDispatched {S : Type 0} (adds : S → List Output → S → Type 0) (w : World) (o : Owner) (x : NodeWord) (e : EventWords)
+    (related : Option NodeWord) (end : World) (before after : S) : Type 0 where
   pub dispatched : Dispatched World
   pub same : dispatched ≡ dispatch_in (opening_turn w o) (named (part_of (opening_turn w o) o) x)
       (option_map (named (part_of (opening_turn w o) o)) related) e
-  pub middle : List ℕ
+  pub middle : S
   pub answer : Bool
   pub world : end ≡ dispatched.run.0
-  pub text : middle ≡ before ++ output_text dispatched.run.1
+  pub told : adds before dispatched.run.1 middle
   pub truth : answer ≡ dispatched.answer
-  pub ending : after ≡ middle ++ output_text (says o (replied (a_truth answer)) ∷ [])
+  pub ending : adds middle (says o (replied (a_truth answer)) ∷ []) after
 
 -- it is handled, where it is not refused
-pub dispatch_handled : {w : World} {o : Owner} {x : NodeWord} {e : EventWords} {related : Option NodeWord} {end : World} {before after : List ℕ} →
-    HasDispatched w o x e related end before after → refusal w o (Command.dispatch x e related) ≡ None →
-    IsHandled o (Command.dispatch x e related) w end before after (Ok tt)
-dispatch_handled {o = o} {before = before} done none =
+pub dispatch_handled : {S : Type 0} (adds : S → List Output → S → Type 0) {w : World} {o : Owner} {x : NodeWord} {e : EventWords} {related : Option NodeWord}
+    {end : World} {before after : S} → Joins adds → HasDispatched adds w o x e related end before after →
+    refusal w o (Command.dispatch x e related) ≡ None → IsHandled adds o (Command.dispatch x e related) w end before after (Ok tt)
+dispatch_handled adds {o = o} {before = before} {after = after} more done none =
     let run = done.dispatched.run in
-    let reply = says o (replied (a_truth done.dispatched.answer)) ∷ [] in (
+    let reply : Bool → List Output = λ b. says o (replied (a_truth b)) ∷ [] in (
       none,
       done.world ∙ ap (λ (q : Dispatched World). q.run.0) done.same,
-      done.ending ∙ ap (λ (b : Bool). done.middle ++ output_text (says o (replied (a_truth b)) ∷ [])) done.truth
-          ∙ ap (λ (t : List ℕ). t ++ output_text reply) done.text ∙ append_assoc before (output_text run.1) (output_text reply)
-          ∙ ap (λ (t : List ℕ). before ++ t) (sym (output_text-append run.1 reply))
-          ∙ ap (λ (q : Dispatched World). before ++ output_text (q.run.1 ++ says o (replied (a_truth q.answer)) ∷ [])) done.same,
+      subst (λ (q : Dispatched World). adds before (q.run.1 ++ reply q.answer) after) done.same
+          (more before done.middle after run.1 (reply done.dispatched.answer) done.told
+          (subst (λ (b : Bool). adds done.middle (reply b) after) done.truth done.ending)),
     )

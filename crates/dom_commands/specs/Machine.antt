@@ -13,7 +13,6 @@ use Rattle.dom_worlds.specs.Bounds.{IsBounded}
 use Rattle.dom_worlds.specs.Reached.{IsReached}
 use Rattle.dom_worlds.specs.Tables.{IsWhole}
 use Rattle.dom_worlds.specs.Worlds.{IsThere, task_owner}
-use Rattle.dom_text.specs.Text.{list_text}
 use Rattle.dom_tree.specs.Forest.{name_at}
 use Rattle.dom_mutation.specs.Doc.{DocState}
 use Rattle.dom_dispatch.specs.declared.event.LogLine.{LogLine}
@@ -64,6 +63,6 @@ pub record NamesNodes (names : List NodeName) (l : EventLine ℕ) : Type 0 where
 abbrev pub line_shown : List NodeName → LogLine → Output
 line_shown names l = event_output (line_named names (line_in l))
 
--- the text of the path of such a line, as its owner sees it
-abbrev pub path_shown : List NodeName → LogLine → List ℕ
-path_shown names l = list_text l.owner (map (name_at names) l.path.value.items)
+-- the path of such a line
+abbrev pub path_named : List NodeName → LogLine → List NodeName
+path_named names l = map (name_at names) l.path.value.items

@@ -1,9 +1,8 @@
 //! What a line does, and the lines that answer it.
-ghost use Rattle.std.specs.Prelude.{◌≡◌, ◌++◌, ◌∷◌, [], true, false, Some, OnOk};
+ghost use Rattle.std.specs.Prelude.{◌≡◌, ◌∷◌, [], true, false, Some, OnOk};
 ghost use Rattle.std.specs.Option.{option_map};
 ghost use Rattle.dom_model.specs.Command.{command as model_command};
 ghost use Rattle.dom_model.specs.DocumentMachine.{step, run_command};
-ghost use Rattle.dom_text.specs.Text.{output_text};
 ghost use Rattle.dom_printer.specs.Replies.{refusal_output};
 ghost use Rattle.dom_reader.specs.Views.{command_view, refused_view};
 ghost use Rattle.dom_admission.specs.Handled.{IsHandled};
@@ -12,8 +11,8 @@ ghost use Rattle.dom_commands.specs.CommandGroups.{is_plain};
 
 use crate::commands;
 use crate::machine::Machine;
+use dom_answers::Answers;
 use dom_base::{Fault, Owner, Refusal};
-use dom_printer::put_refusal;
 use dom_reader::Command;
 use std::alloc::AllocError;
 use std::mem;
@@ -22,14 +21,14 @@ impl Machine {
     /// Does what an owner's line says, and puts the lines that answer it. What the command holds may be taken out of it. After an error
     /// the machine may stand between two steps. It is kept out of line, so that a command stays where it was read.
     #[inline(never)]
-    pub fn answer(
+    pub fn answer<A: Answers>(
         &mut self,
         owner: &Owner,
         command: &mut Command,
-        out: &mut Vec<u8>,
+        out: &mut A,
     ) -> Result<(), AllocError>
         requires { IsAtRest self.old }
-        ensures text { OnOk result (out.new.items ≡ out.old.items ++ output_text (step self.old.world (model_command owner.now (command_view command.old))).1) }
+        ensures told { OnOk result (A.adds out.old (step self.old.world (model_command owner.now (command_view command.old))).1 out.new) }
         ensures world { OnOk result (self.new.world ≡ (step self.old.world (model_command owner.now (command_view command.old))).0) }
         ensures sound { OnOk result (IsAtRest self.new) }
     {
@@ -40,13 +39,13 @@ impl Machine {
     /// machine may stand between two steps.
     #[cold]
     #[inline(never)]
-    pub fn answer_no_command(
+    pub fn answer_no_command<A: Answers>(
         &mut self,
         owner: Option<&Owner>,
-        out: &mut Vec<u8>,
+        out: &mut A,
     ) -> Result<(), AllocError>
         requires { IsAtRest self.old }
-        ensures text { OnOk result (out.new.items ≡ out.old.items ++ output_text (step self.old.world (refused_view (option_map (λ o. o.now) owner.entry))).1) }
+        ensures told { OnOk result (A.adds out.old (step self.old.world (refused_view (option_map (λ o. o.now) owner.entry))).1 out.new) }
         ensures world { OnOk result (self.new.world ≡ (step self.old.world (refused_view (option_map (λ o. o.now) owner.entry))).0) }
         ensures sound { OnOk result (IsAtRest self.new) }
     {
@@ -54,27 +53,31 @@ impl Machine {
     }
 
     /// A line without a command: it is refused as such.
-    fn no_command(&mut self, owner: Option<Owner>, out: &mut Vec<u8>) -> Result<(), AllocError>
+    fn no_command<A: Answers>(
+        &mut self,
+        owner: Option<Owner>,
+        out: &mut A,
+    ) -> Result<(), AllocError>
         requires { IsAtRest self.old }
-        ensures text { OnOk result (out.new.items ≡ out.old.items ++ output_text (step self.old.world (refused_view owner)).1) }
+        ensures told { OnOk result (A.adds out.old (step self.old.world (refused_view owner)).1 out.new) }
         ensures world { OnOk result (self.new.world ≡ (step self.old.world (refused_view owner)).0) }
         ensures listeners { OnOk result (AreAtNodes self.new) }
     {
         if let Some(owner) = owner {
             self.close_other_turn(&owner, out)?;
         }
-        put_refusal(out, owner, Refusal::Syntax)
+        out.refuse(owner, Refusal::Syntax)
     }
 
     /// A command of an owner: first the ending of another component's turn, and then what it does.
-    fn command(
+    fn command<A: Answers>(
         &mut self,
         owner: &Owner,
         command: &mut Command,
-        out: &mut Vec<u8>,
+        out: &mut A,
     ) -> Result<(), AllocError>
         requires { IsAtRest self.old }
-        ensures text { OnOk result (out.new.items ≡ out.old.items ++ output_text (step self.old.world (model_command owner.now (command_view command.old))).1) }
+        ensures told { OnOk result (A.adds out.old (step self.old.world (model_command owner.now (command_view command.old))).1 out.new) }
         ensures world { OnOk result (self.new.world ≡ (step self.old.world (model_command owner.now (command_view command.old))).0) }
         ensures listeners { OnOk result (AreAtNodes self.new) }
     {
@@ -83,14 +86,14 @@ impl Machine {
     }
 
     /// A command that may be made now: what it does, or its refusal.
-    fn run(
+    fn run<A: Answers>(
         &mut self,
         owner: &Owner,
         command: &mut Command,
-        out: &mut Vec<u8>,
+        out: &mut A,
     ) -> Result<(), AllocError>
         requires sound { IsAtRest self.old }
-        ensures text { OnOk result (out.new.items ≡ out.old.items ++ output_text (run_command owner.now (command_view command.old) self.old.world).1) }
+        ensures told { OnOk result (A.adds out.old (run_command owner.now (command_view command.old) self.old.world).1 out.new) }
         ensures world { OnOk result (self.new.world ≡ (run_command owner.now (command_view command.old) self.old.world).0) }
         ensures listeners { OnOk result (AreAtNodes self.new) }
     {
@@ -103,14 +106,14 @@ impl Machine {
 
     /// A command, by its handler. What it holds is taken out of its place by the handler that keeps it, so that no other command makes
     /// room for it.
-    fn perform(
+    fn perform<A: Answers>(
         &mut self,
         owner: &Owner,
         command: &mut Command,
-        out: &mut Vec<u8>,
+        out: &mut A,
     ) -> Result<(), Fault>
         requires sound { IsAtRest self.old }
-        ensures handled { IsHandled owner.now (command_view command.old) self.old.world self.new.world out.old.items out.new.items result }
+        ensures handled { IsHandled A.adds owner.now (command_view command.old) self.old.world self.new.world out.old out.new result }
         ensures listeners { KeepsListeners self.new result }
     {
         match command {
@@ -124,15 +127,15 @@ impl Machine {
 
     /// A command on listeners or events, by its handler. It is kept out of line, so that no other command makes room for these.
     #[inline(never)]
-    fn perform_heard(
+    fn perform_heard<A: Answers>(
         &mut self,
         owner: &Owner,
         command: &mut Command,
-        out: &mut Vec<u8>,
+        out: &mut A,
     ) -> Result<(), Fault>
         requires heard { is_plain (command_view command.old) ≡ false }
         requires sound { IsAtRest self.old }
-        ensures handled { IsHandled owner.now (command_view command.old) self.old.world self.new.world out.old.items out.new.items result }
+        ensures handled { IsHandled A.adds owner.now (command_view command.old) self.old.world self.new.world out.old out.new result }
         ensures listeners { KeepsListeners self.new result }
     {
         match mem::replace(command, Command::EndTurn) {
@@ -149,15 +152,15 @@ impl Machine {
     }
 
     /// A command that neither reads listeners nor changes them: they stay as they are.
-    fn perform_plain(
+    fn perform_plain<A: Answers>(
         &mut self,
         owner: &Owner,
         command: &mut Command,
-        out: &mut Vec<u8>,
+        out: &mut A,
     ) -> Result<(), Fault>
         requires plain { is_plain (command_view command.old) ≡ true }
         requires sound { IsAtRest self.old }
-        ensures handled { IsHandled owner.now (command_view command.old) self.old.world self.new.world out.old.items out.new.items result }
+        ensures handled { IsHandled A.adds owner.now (command_view command.old) self.old.world self.new.world out.old out.new result }
         ensures listeners { KeepsListeners self.new result }
     {
         self.state.law_names_tell_nodes();
@@ -168,8 +171,8 @@ impl Machine {
 /// Puts the refusal of an owner's line. It is kept out of line, so that a command that is done makes no room for it.
 #[cold]
 #[inline(never)]
-fn refuse(out: &mut Vec<u8>, owner: &Owner, refusal: Refusal) -> Result<(), AllocError>
-    ensures { OnOk result (out.new.items ≡ out.old.items ++ output_text (refusal_output (Some owner.now) refusal ∷ [])) }
+fn refuse<A: Answers>(out: &mut A, owner: &Owner, refusal: Refusal) -> Result<(), AllocError>
+    ensures { OnOk result (A.adds out.old (refusal_output (Some owner.now) refusal ∷ []) out.new) }
 {
-    put_refusal(out, Some(*owner), refusal)
+    out.refuse(Some(*owner), refusal)
 }

@@ -1,17 +1,18 @@
 //! Dispatches of events, and the lines that tell of them.
-ghost use Rattle.std.specs.Prelude.{◌≡◌, ℕ, ◌<◌, ◌++◌, ◌∷◌, [], true, All, List, length, map, IfOk, OnOk};
+ghost use Rattle.std.specs.Prelude.{◌≡◌, ℕ, ◌<◌, ◌∷◌, [], true, All, List, length, map, IfOk, OnOk};
 ghost use Rattle.std.specs.Option.{option_map, ForSome};
 ghost use Rattle.dom_base.specs.declared.NodeName.{NodeName};
+ghost use Rattle.dom_base.specs.declared.Owner.{Owner as Viewer};
 ghost use Rattle.dom_model.specs.Dispatch.{dispatch_in};
-ghost use Rattle.dom_text.specs.Text.{output_text};
 ghost use Rattle.dom_tree.specs.Forest.{name_at};
 ghost use Rattle.dom_dispatch.specs.Dispatches.{event_words, line_in, IsOwnLine, AreNumbered, HasPathOf};
-ghost use Rattle.dom_commands.specs.Machine.{AreAtNodes, IsAtRest, NamesNodes, line_shown, path_shown};
+ghost use Rattle.dom_commands.specs.Machine.{AreAtNodes, IsAtRest, NamesNodes, line_shown, path_named};
 
 use crate::machine::Machine;
 use crate::path_text::PathText;
+use dom_answers::Answers;
 use dom_dispatch::{EventInit, LogLine, Outcome};
-use dom_printer::{Event, put_event};
+use dom_printer::Event;
 use dom_tree::Forest;
 use node_arena::Key;
 use std::alloc::AllocError;
@@ -19,11 +20,11 @@ use std::alloc::AllocError;
 impl Machine {
     /// Dispatches an event at a node, puts the lines of the calls of listeners, and answers whether it was not cancelled (DOM
     /// Standard, concept: dispatch).
-    pub(crate) fn fire(
+    pub(crate) fn fire<A: Answers>(
         &mut self,
         target: Key,
         event: EventInit,
-        out: &mut Vec<u8>,
+        out: &mut A,
     ) -> Result<bool, AllocError>
         requires sound { IsAtRest self.old }
         requires target_is_node { target < length self.old.names }
@@ -31,9 +32,9 @@ impl Machine {
         ensures world { OnOk result (self.new.world ≡
             (dispatch_in self.old.world (name_at self.old.names target) (option_map (name_at self.old.names) event.related)
             (event_words event)).run.0) }
-        ensures text { OnOk result (out.new.items ≡ out.old.items ++
-            output_text (dispatch_in self.old.world (name_at self.old.names target) (option_map (name_at self.old.names) event.related)
-            (event_words event)).run.1) }
+        ensures told { OnOk result (A.adds out.old
+            (dispatch_in self.old.world (name_at self.old.names target) (option_map (name_at self.old.names) event.related)
+            (event_words event)).run.1 out.new) }
         ensures answer { IfOk result (λ answer.
             answer ≡ (dispatch_in self.old.world (name_at self.old.names target) (option_map (name_at self.old.names) event.related)
             (event_words event)).answer) }
@@ -52,27 +53,27 @@ impl Machine {
     }
 }
 
-/// Puts the lines of the calls of listeners, each as its owner sees it. The text of a path is made once for lines on end that
+/// Puts what tells of the calls of listeners, each as its owner sees it. A path is made ready once for lines on end that
 /// show the same owner the same path.
-fn put_lines(
+fn put_lines<A: Answers>(
     path: &mut PathText,
     forest: &Forest,
     lines: &[LogLine],
-    out: &mut Vec<u8>,
+    out: &mut A,
 ) -> Result<(), AllocError>
     requires nodes { All (λ l. NamesNodes forest.now.names (line_in l)) lines.now }
     requires owners { All (IsOwnLine forest.now.names) lines.now }
     requires numbered { AreNumbered lines.now }
-    ensures { OnOk result (out.new.items ≡ out.old.items ++ output_text (map (line_shown forest.now.names) lines.now)) }
+    ensures { OnOk result (A.adds out.old (map (line_shown forest.now.names) lines.now) out.new) }
 {
     let [first, ..] = lines else {
         return Ok(());
     };
     let mut shown = first;
-    path.set(forest, first)?;
+    path.set(forest, first, out)?;
     for line in lines {
         if !has_path_of(line, shown) {
-            path.set(forest, line)?;
+            path.set(forest, line, out)?;
             shown = line;
         }
         put_line(forest, line, path.text(), out)?;
@@ -82,23 +83,26 @@ fn put_lines(
 
 /// Whether a line shows the owner of another one the same path.
 fn has_path_of(line: &LogLine, other: &LogLine) -> bool
-    ensures { result ≡ true → (names : List NodeName) (paths : ℕ → List ℕ) → HasPathOf paths line.now → HasPathOf paths other.now →
-        path_shown names other.now ≡ path_shown names line.now }
+    ensures owner { result ≡ true → other.now.owner ≡ line.now.owner }
+    ensures path { result ≡ true → (names : List NodeName) (paths : ℕ → List ℕ) → HasPathOf paths line.now → HasPathOf paths other.now →
+        path_named names other.now ≡ path_named names line.now }
 {
     line.owner == other.owner && line.path_at == other.path_at
 }
 
-/// Puts the line of the call of a listener, as its owner sees it, with the text of its path.
-fn put_line(
+/// Puts what tells of the call of a listener, as its owner sees it, with its path, which was made ready.
+fn put_line<A: Answers>(
     forest: &Forest,
     line: &LogLine,
     path: &[u8],
-    out: &mut Vec<u8>,
+    out: &mut A,
 ) -> Result<(), AllocError>
     requires nodes { NamesNodes forest.now.names (line_in line.now) }
     requires owner { IsOwnLine forest.now.names line.now }
-    requires path { path.now ≡ path_shown forest.now.names line.now }
-    ensures { OnOk result (out.new.items ≡ out.old.items ++ output_text (line_shown forest.now.names line.now ∷ [])) }
+    requires path { A.shows out.old path.now line.now.owner (path_named forest.now.names line.now) }
+    ensures shown { OnOk result ((text : List ℕ) (viewer : Viewer) (path : List NodeName) → A.shows out.old text viewer path →
+        A.shows out.new text viewer path) }
+    ensures told { OnOk result (A.adds out.old (line_shown forest.now.names line.now ∷ []) out.new) }
 {
     let related = match line.related {
         Some(related) => Some(forest.name(related)),
@@ -113,5 +117,5 @@ fn put_line(
         related,
         path,
     };
-    put_event(out, &line.owner, &event)
+    out.event(&line.owner, &event)
 }

@@ -8,6 +8,7 @@ ghost use Rattle.dom_commands.specs.CommandGroups.{is_plain, is_change, is_wordy
 
 use crate::ranging::perform_on_range;
 use dom_admission::State;
+use dom_answers::Answers;
 use dom_base::{DomStr, Fault, Owner};
 use dom_node_commands::{attributes, data, making, moving, shadows};
 use dom_query_commands::cursors::{self, Cursor};
@@ -17,15 +18,15 @@ use dom_reader::{Command, NodeWord};
 use std::mem;
 
 /// A command that neither reads listeners nor changes them, by its handler.
-pub(crate) fn perform(
+pub(crate) fn perform<A: Answers>(
     state: &mut State,
     owner: &Owner,
     command: &mut Command,
-    out: &mut Vec<u8>,
+    out: &mut A,
 ) -> Result<(), Fault>
     requires plain { is_plain (command_view command.old) ≡ true }
     requires first { HasFirstNodes state.old.world }
-    ensures handled { IsHandled owner.now (command_view command.old) state.old.world state.new.world out.old.items out.new.items result }
+    ensures handled { IsHandled A.adds owner.now (command_view command.old) state.old.world state.new.world out.old out.new result }
     ensures names { KeepsNames state.old.names state.new.names result }
 {
     match command {
@@ -60,13 +61,13 @@ pub(crate) fn perform(
 
 /// `new element WORD`, with the word taken out of the command. It is kept out of line, so that no other command makes room for it.
 #[inline(never)]
-fn new_element(
+fn new_element<A: Answers>(
     state: &mut State,
     owner: &Owner,
     name: &mut String,
-    out: &mut Vec<u8>,
+    out: &mut A,
 ) -> Result<(), Fault>
-    ensures handled { IsHandled owner.now (new_element (string_bytes name.old)) state.old.world state.new.world out.old.items out.new.items result }
+    ensures handled { IsHandled A.adds owner.now (new_element (string_bytes name.old)) state.old.world state.new.world out.old out.new result }
     ensures names { KeepsNames state.old.names state.new.names result }
 {
     let alloc = state.alloc;
@@ -76,16 +77,16 @@ fn new_element(
 /// `set E WORD STR`, with the word and the string taken out of the command. It is kept out of line, so that no other command makes room for
 /// them.
 #[inline(never)]
-fn set_attribute(
+fn set_attribute<A: Answers>(
     state: &mut State,
     owner: &Owner,
     element: NodeWord,
     name: &mut String,
     value: &mut DomStr,
-    out: &mut Vec<u8>,
+    out: &mut A,
 ) -> Result<(), Fault>
-    ensures handled { IsHandled owner.now (set_attribute (word_view element) (string_bytes name.old) value.old.items) state.old.world
-        state.new.world out.old.items out.new.items result }
+    ensures handled { IsHandled A.adds owner.now (set_attribute (word_view element) (string_bytes name.old) value.old.items) state.old.world
+        state.new.world out.old out.new result }
     ensures names { KeepsNames state.old.names state.new.names result }
 {
     let alloc = state.alloc;
@@ -97,14 +98,14 @@ fn set_attribute(
 /// Another command that changes with a word or a string, which is taken out of it, by its handler. It is kept out of line, so that no other
 /// command makes room for these.
 #[inline(never)]
-fn change_in_words(
+fn change_in_words<A: Answers>(
     state: &mut State,
     owner: &Owner,
     command: &mut Command,
-    out: &mut Vec<u8>,
+    out: &mut A,
 ) -> Result<(), Fault>
     requires wordy { is_wordy_change (command_view command.old) ≡ true }
-    ensures handled { IsHandled owner.now (command_view command.old) state.old.world state.new.world out.old.items out.new.items result }
+    ensures handled { IsHandled A.adds owner.now (command_view command.old) state.old.world state.new.world out.old out.new result }
     ensures names { KeepsNames state.old.names state.new.names result }
 {
     match mem::replace(command, Command::EndTurn) {
@@ -125,16 +126,16 @@ fn change_in_words(
 
 /// A command that asks or is on live ranges, by its handler. It is in line, since most of them do little.
 #[inline(always)]
-fn ask(
+fn ask<A: Answers>(
     state: &mut State,
     owner: &Owner,
     command: &mut Command,
-    out: &mut Vec<u8>,
+    out: &mut A,
 ) -> Result<(), Fault>
     requires plain { is_plain (command_view command.old) ≡ true }
     requires unchanging { is_change (command_view command.old) ≡ false }
     requires first { HasFirstNodes state.old.world }
-    ensures handled { IsHandled owner.now (command_view command.old) state.old.world state.new.world out.old.items out.new.items result }
+    ensures handled { IsHandled A.adds owner.now (command_view command.old) state.old.world state.new.world out.old out.new result }
     ensures names { KeepsNames state.old.names state.new.names result }
 {
     match command {
@@ -163,17 +164,17 @@ fn ask(
 /// A command that asks with a text, a filter or the words of `observe`, or is on live ranges, by its handler. It is kept out of line, so that
 /// no other command makes room for these.
 #[inline(never)]
-fn ask_in_words(
+fn ask_in_words<A: Answers>(
     state: &mut State,
     owner: &Owner,
     command: &mut Command,
-    out: &mut Vec<u8>,
+    out: &mut A,
 ) -> Result<(), Fault>
     requires plain { is_plain (command_view command.old) ≡ true }
     requires unchanging { is_change (command_view command.old) ≡ false }
     requires wordy { is_short_question (command_view command.old) ≡ false }
     requires first { HasFirstNodes state.old.world }
-    ensures handled { IsHandled owner.now (command_view command.old) state.old.world state.new.world out.old.items out.new.items result }
+    ensures handled { IsHandled A.adds owner.now (command_view command.old) state.old.world state.new.world out.old out.new result }
     ensures names { KeepsNames state.old.names state.new.names result }
 {
     match mem::replace(command, Command::EndTurn) {

@@ -18,24 +18,25 @@ ghost use Rattle.dom_commands.specs.Machine.{IsAtRest, KeepsListeners};
 
 use crate::machine::Machine;
 use dom_admission::{Operand, State};
+use dom_answers::Answers;
 use dom_base::{Fault, Owner, Refusal};
 use dom_dispatch::{EventInit, ListenerInit};
-use dom_printer::{Value, put_reply};
+use dom_printer::Value;
 use dom_reader::{EventWords, ListenerWords, NodeWord};
 use node_arena::Key;
 
 impl Machine {
     /// `listen N TYPE LABEL ACTION [capture] [once] [passive]`: a node gets a listener, unless it has one with this type, label and
     /// capture.
-    pub(crate) fn listen(
+    pub(crate) fn listen<A: Answers>(
         &mut self,
         owner: Owner,
         node: NodeWord,
         words: ListenerWords,
-        out: &mut Vec<u8>,
+        out: &mut A,
     ) -> Result<(), Fault>
         requires { IsAtRest self.old }
-        ensures handled { IsHandled owner (listen (word_view node) (listener_view words)) self.old.world self.new.world out.old.items out.new.items result }
+        ensures handled { IsHandled A.adds owner (listen (word_view node) (listener_view words)) self.old.world self.new.world out.old out.new result }
         ensures listeners { KeepsListeners self.new result }
     {
         self.state.law_names_tell_nodes();
@@ -46,18 +47,18 @@ impl Machine {
     }
 
     /// `unlisten N TYPE LABEL [capture]`: the listener of a node with this type, label and capture goes, if there is one.
-    pub(crate) fn unlisten(
+    pub(crate) fn unlisten<A: Answers>(
         &mut self,
         owner: Owner,
         node: NodeWord,
         event: &str,
         label: &str,
         capture: bool,
-        out: &mut Vec<u8>,
+        out: &mut A,
     ) -> Result<(), Fault>
         requires { IsAtRest self.old }
-        ensures handled { IsHandled owner (unlisten (word_view node) event.now label.now capture) self.old.world self.new.world out.old.items
-            out.new.items result }
+        ensures handled { IsHandled A.adds owner (unlisten (word_view node) event.now label.now capture) self.old.world self.new.world out.old
+            out.new result }
         ensures listeners { KeepsListeners self.new result }
     {
         self.state.law_names_tell_nodes();
@@ -70,17 +71,17 @@ impl Machine {
 
 impl Machine {
     /// `dispatch N TYPE [bubbles] [cancelable] [composed] [related N]`: an event is dispatched at a node; whether it was not cancelled.
-    pub(crate) fn dispatch(
+    pub(crate) fn dispatch<A: Answers>(
         &mut self,
         owner: Owner,
         target: NodeWord,
         event: EventWords,
         related: Option<NodeWord>,
-        out: &mut Vec<u8>,
+        out: &mut A,
     ) -> Result<(), Fault>
         requires { IsAtRest self.old }
-        ensures handled { IsHandled owner (dispatch (word_view target) (event_view event) (option_map word_view related)) self.old.world
-            self.new.world out.old.items out.new.items result }
+        ensures handled { IsHandled A.adds owner (dispatch (word_view target) (event_view event) (option_map word_view related)) self.old.world
+            self.new.world out.old out.new result }
         ensures listeners { KeepsListeners self.new result }
     {
         self.state.law_names_tell_nodes();
@@ -89,7 +90,7 @@ impl Machine {
         let related = key_of(&self.state, owner, related);
         self.open_turn(owner);
         let answer = self.fire(target, event_init(event, related), out)?;
-        put_reply(out, &owner, &Value::Truth(answer))?;
+        out.reply(&owner, &Value::Truth(answer))?;
         Ok(())
     }
 

@@ -1,12 +1,12 @@
-//! The text of an event's path.
-ghost use Rattle.std.specs.Prelude.{◌≡◌, OnOk};
-ghost use Rattle.dom_commands.specs.Machine.{NamesNodes, path_shown};
+//! The path of an event, as it is made ready for the answers that tell of its calls.
+ghost use Rattle.std.specs.Prelude.{◌≡◌, [], OnOk};
+ghost use Rattle.dom_commands.specs.Machine.{NamesNodes, path_named};
 ghost use Rattle.dom_dispatch.specs.Dispatches.{line_in};
 
 use dom_admission::put_names;
+use dom_answers::Answers;
 use dom_base::NodeName;
 use dom_dispatch::LogLine;
-use dom_printer::put_path;
 use dom_tree::Forest;
 use std::alloc::{AllocError, Global};
 use std::marker::Model;
@@ -42,14 +42,19 @@ impl PathText {
         self.text.as_slice()
     }
 
-    /// Makes it the text of a line's path, as the line's owner sees it.
-    pub(crate) fn set(&mut self, forest: &Forest, line: &LogLine) -> Result<(), AllocError>
+    /// Makes a line's path ready, as the line's owner sees it. Where answers are text, this is its text.
+    pub(crate) fn set<A: Answers>(
+        &mut self,
+        forest: &Forest,
+        line: &LogLine,
+        out: &mut A,
+    ) -> Result<(), AllocError>
         requires { NamesNodes forest.now.names (line_in line.now) }
-        ensures { OnOk result (self.new ≡ path_shown forest.now.names line.now) }
+        ensures shown { OnOk result (A.shows out.new self.new line.now.owner (path_named forest.now.names line.now)) }
+        ensures same { OnOk result (A.adds out.old [] out.new) }
     {
         self.names.clear();
         put_names(&mut self.names, forest, line.path.as_slice())?;
-        self.text.clear();
-        put_path(&mut self.text, &line.owner, self.names.as_slice())
+        out.place_path(&mut self.text, &line.owner, self.names.as_slice())
     }
 }

@@ -8,6 +8,7 @@ ghost use Rattle.dom_admission.specs.Handled.{KeepsNames, IsHandled};
 ghost use Rattle.dom_commands.specs.CommandGroups.{is_range};
 
 use dom_admission::{Operand, State};
+use dom_answers::Answers;
 use dom_base::{Fault, Owner};
 use dom_printer::Value;
 use dom_query_commands::things::{self, Request};
@@ -15,15 +16,15 @@ use dom_range_ops::range_text;
 use dom_reader::{Command, NodeWord};
 
 /// A command on live ranges, by its handler.
-pub(crate) fn perform_on_range(
+pub(crate) fn perform_on_range<A: Answers>(
     state: &mut State,
     owner: &Owner,
     command: Command,
-    out: &mut Vec<u8>,
+    out: &mut A,
 ) -> Result<(), Fault>
     requires range { is_range (command_view command) ≡ true }
     requires first { HasFirstNodes state.old.world }
-    ensures handled { IsHandled owner.now (command_view command) state.old.world state.new.world out.old.items out.new.items result }
+    ensures handled { IsHandled A.adds owner.now (command_view command) state.old.world state.new.world out.old out.new result }
     ensures names { KeepsNames state.old.names state.new.names result }
 {
     match command {
@@ -52,9 +53,9 @@ pub(crate) fn perform_on_range(
 }
 
 /// `range-new`: a new range, with both ends at offset 0 of its owner's first node.
-fn new_range(state: &mut State, owner: Owner, out: &mut Vec<u8>) -> Result<(), Fault>
+fn new_range<A: Answers>(state: &mut State, owner: Owner, out: &mut A) -> Result<(), Fault>
     requires first { HasFirstNodes state.old.world }
-    ensures handled { IsHandled owner range_new state.old.world state.new.world out.old.items out.new.items result }
+    ensures handled { IsHandled A.adds owner range_new state.old.world state.new.world out.old out.new result }
     ensures names { KeepsNames state.old.names state.new.names result }
 {
     state.admit(owner, &[])?;
@@ -65,16 +66,16 @@ fn new_range(state: &mut State, owner: Owner, out: &mut Vec<u8>) -> Result<(), F
 
 /// `range-start R N OFFSET`: another start of a range, or `range-end R N OFFSET`: another end; its other one follows where it would stand
 /// wrongly.
-fn set_boundary(
+fn set_boundary<A: Answers>(
     state: &mut State,
     owner: Owner,
     number: u32,
     is_start: bool,
     point: (NodeWord, u32),
-    out: &mut Vec<u8>,
+    out: &mut A,
 ) -> Result<(), Fault>
-    ensures handled { IsHandled owner (if is_start then range_start number (word_view point.0) point.1 else range_end number (word_view point.0) point.1)
-        state.old.world state.new.world out.old.items out.new.items result }
+    ensures handled { IsHandled A.adds owner (if is_start then range_start number (word_view point.0) point.1 else range_end number (word_view point.0) point.1)
+        state.old.world state.new.world out.old out.new result }
     ensures names { KeepsNames state.old.names state.new.names result }
 {
     let (node, offset) = point;
@@ -94,13 +95,13 @@ fn set_boundary(
 }
 
 /// `range-text R`: the text of a range.
-fn text_of_range(
+fn text_of_range<A: Answers>(
     state: &mut State,
     owner: Owner,
     number: u32,
-    out: &mut Vec<u8>,
+    out: &mut A,
 ) -> Result<(), Fault>
-    ensures handled { IsHandled owner (range_text number) state.old.world state.new.world out.old.items out.new.items result }
+    ensures handled { IsHandled A.adds owner (range_text number) state.old.world state.new.world out.old out.new result }
     ensures names { KeepsNames state.old.names state.new.names result }
 {
     state.admit(owner, &[Operand::Range(number)])?;
@@ -109,8 +110,13 @@ fn text_of_range(
 }
 
 /// `extract R`: what a range contains goes into a new fragment, with clones of the nodes that it contains in part.
-fn extract(state: &mut State, owner: Owner, number: u32, out: &mut Vec<u8>) -> Result<(), Fault>
-    ensures handled { IsHandled owner (extract_command number) state.old.world state.new.world out.old.items out.new.items result }
+fn extract<A: Answers>(
+    state: &mut State,
+    owner: Owner,
+    number: u32,
+    out: &mut A,
+) -> Result<(), Fault>
+    ensures handled { IsHandled A.adds owner (extract_command number) state.old.world state.new.world out.old out.new result }
     ensures names { KeepsNames state.old.names state.new.names result }
 {
     state.admit(owner, &[Operand::Range(number)])?;
@@ -120,8 +126,13 @@ fn extract(state: &mut State, owner: Owner, number: u32, out: &mut Vec<u8>) -> R
 }
 
 /// `delete R`: what a range contains goes.
-fn delete(state: &mut State, owner: Owner, number: u32, out: &mut Vec<u8>) -> Result<(), Fault>
-    ensures handled { IsHandled owner (delete_command number) state.old.world state.new.world out.old.items out.new.items result }
+fn delete<A: Answers>(
+    state: &mut State,
+    owner: Owner,
+    number: u32,
+    out: &mut A,
+) -> Result<(), Fault>
+    ensures handled { IsHandled A.adds owner (delete_command number) state.old.world state.new.world out.old out.new result }
     ensures names { KeepsNames state.old.names state.new.names result }
 {
     state.admit(owner, &[Operand::Range(number)])?;
@@ -130,14 +141,14 @@ fn delete(state: &mut State, owner: Owner, number: u32, out: &mut Vec<u8>) -> Re
 }
 
 /// `insert-node R N`: a node is inserted at the start of a range, which then contains it.
-fn insert_node(
+fn insert_node<A: Answers>(
     state: &mut State,
     owner: Owner,
     number: u32,
     node: NodeWord,
-    out: &mut Vec<u8>,
+    out: &mut A,
 ) -> Result<(), Fault>
-    ensures handled { IsHandled owner (insert_node_command number (word_view node)) state.old.world state.new.world out.old.items out.new.items result }
+    ensures handled { IsHandled A.adds owner (insert_node_command number (word_view node)) state.old.world state.new.world out.old out.new result }
     ensures names { KeepsNames state.old.names state.new.names result }
 {
     state.admit(owner, &[Operand::Any(node), Operand::Range(number)])?;

@@ -1,21 +1,21 @@
 //! The ends of turns.
-ghost use Rattle.std.specs.Prelude.{◌≡◌, ◌++◌, [], OnOk};
+ghost use Rattle.std.specs.Prelude.{◌≡◌, [], OnOk};
 ghost use Rattle.dom_model.specs.Command.{end_turn};
 ghost use Rattle.dom_model.specs.Turns.{has_other_turn, ending_turn, ending_other_turn, ending_any_turn};
-ghost use Rattle.dom_text.specs.Text.{output_text};
 ghost use Rattle.dom_admission.specs.Handled.{IsHandled};
 ghost use Rattle.dom_commands.specs.Machine.{IsAtRest, KeepsListeners};
 
 use crate::machine::Machine;
+use dom_answers::Answers;
 use dom_base::{Fault, Owner};
-use dom_printer::{Value, put_reply};
+use dom_printer::Value;
 use std::alloc::AllocError;
 
 impl Machine {
     /// Ends the open turn, if there is one: the microtasks run, and their lines are put.
-    fn close_turn(&mut self, out: &mut Vec<u8>) -> Result<(), AllocError>
+    fn close_turn<A: Answers>(&mut self, out: &mut A) -> Result<(), AllocError>
         requires { IsAtRest self.old }
-        ensures text { OnOk result (out.new.items ≡ out.old.items ++ output_text (ending_turn self.old.world).1) }
+        ensures told { OnOk result (A.adds out.old (ending_turn self.old.world).1 out.new) }
         ensures world { OnOk result (self.new.world ≡ (ending_turn self.old.world).0) }
         ensures sound { OnOk result (IsAtRest self.new) }
     {
@@ -24,13 +24,13 @@ impl Machine {
     }
 
     /// Ends another component's turn, if it is open, before a line of an owner.
-    pub(crate) fn close_other_turn(
+    pub(crate) fn close_other_turn<A: Answers>(
         &mut self,
         owner: &Owner,
-        out: &mut Vec<u8>,
+        out: &mut A,
     ) -> Result<(), AllocError>
         requires { IsAtRest self.old }
-        ensures text { OnOk result (out.new.items ≡ out.old.items ++ output_text (ending_other_turn self.old.world owner.now).1) }
+        ensures told { OnOk result (A.adds out.old (ending_other_turn self.old.world owner.now).1 out.new) }
         ensures world { OnOk result (self.new.world ≡ (ending_other_turn self.old.world owner.now).0) }
         ensures sound { OnOk result (IsAtRest self.new) }
     {
@@ -41,9 +41,9 @@ impl Machine {
     }
 
     /// Ends any open turn, at the end of input.
-    pub fn close_any_turn(&mut self, out: &mut Vec<u8>) -> Result<(), AllocError>
+    pub fn close_any_turn<A: Answers>(&mut self, out: &mut A) -> Result<(), AllocError>
         requires { IsAtRest self.old }
-        ensures text { OnOk result (out.new.items ≡ out.old.items ++ output_text (ending_any_turn self.old.world).1) }
+        ensures told { OnOk result (A.adds out.old (ending_any_turn self.old.world).1 out.new) }
         ensures world { OnOk result (self.new.world ≡ (ending_any_turn self.old.world).0) }
         ensures sound { OnOk result (IsAtRest self.new) }
     {
@@ -54,15 +54,15 @@ impl Machine {
     }
 
     /// `.`: the end of a turn.
-    pub(crate) fn end_turn(&mut self, owner: Owner, out: &mut Vec<u8>) -> Result<(), Fault>
+    pub(crate) fn end_turn<A: Answers>(&mut self, owner: Owner, out: &mut A) -> Result<(), Fault>
         requires { IsAtRest self.old }
-        ensures handled { IsHandled owner end_turn self.old.world self.new.world out.old.items out.new.items result }
+        ensures handled { IsHandled A.adds owner end_turn self.old.world self.new.world out.old out.new result }
         ensures listeners { KeepsListeners self.new result }
     {
         self.state.law_names_tell_nodes();
         self.state.admit(owner, &[])?;
         self.close_turn(out)?;
-        put_reply(out, &owner, &Value::Nothing)?;
+        out.reply(&owner, &Value::Nothing)?;
         Ok(())
     }
 }

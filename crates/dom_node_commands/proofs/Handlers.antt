@@ -22,5 +22,4 @@ pub use Rattle.dom_node_commands.specs.Making.{document_for}
 pub use Rattle.dom_printer.specs.Names.{name_view}
 pub use Rattle.dom_reader.specs.Views.{word_view}
 pub use Rattle.dom_slots.specs.Definitions.{assigned_at, shadows}
-pub use Rattle.dom_text.specs.Definitions.{output_text}
 pub use Rattle.dom_tree.specs.Definitions.{name_at}

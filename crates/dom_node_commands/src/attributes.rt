@@ -10,22 +10,23 @@ ghost use Rattle.dom_admission.specs.Handled.{KeepsNames, IsHandled};
 
 use crate::NOTHING;
 use dom_admission::{Operand, State};
+use dom_answers::Answers;
 use dom_base::{DomStr, Fault, Owner};
-use dom_printer::{Value, put_reply};
+use dom_printer::Value;
 use dom_reader::NodeWord;
 use node_arena::Key;
 
 /// `set E WORD STR`: an element's attribute gets a value; a new attribute goes last.
-pub fn set_attribute(
+pub fn set_attribute<A: Answers>(
     state: &mut State,
     owner: &Owner,
     element: NodeWord,
     name: String,
     value: DomStr,
-    out: &mut Vec<u8>,
+    out: &mut A,
 ) -> Result<(), Fault>
-    ensures handled { IsHandled owner.now (set_attribute (word_view element) (string_bytes name) value.items) state.old.world state.new.world
-        out.old.items out.new.items result }
+    ensures handled { IsHandled A.adds owner.now (set_attribute (word_view element) (string_bytes name) value.items) state.old.world state.new.world
+        out.old out.new result }
     ensures names { KeepsNames state.old.names state.new.names result }
 {
     let element = state.admit_one(*owner, Operand::Element(element))?;
@@ -34,15 +35,15 @@ pub fn set_attribute(
 }
 
 /// `unset E WORD`: an element's attribute goes; without it nothing changes.
-pub fn unset_attribute(
+pub fn unset_attribute<A: Answers>(
     state: &mut State,
     owner: &Owner,
     element: NodeWord,
     name: String,
-    out: &mut Vec<u8>,
+    out: &mut A,
 ) -> Result<(), Fault>
-    ensures handled { IsHandled owner.now (unset_attribute (word_view element) (string_bytes name)) state.old.world state.new.world out.old.items
-        out.new.items result }
+    ensures handled { IsHandled A.adds owner.now (unset_attribute (word_view element) (string_bytes name)) state.old.world state.new.world out.old
+        out.new result }
     ensures names { KeepsNames state.old.names state.new.names result }
 {
     let element = state.admit_one(*owner, Operand::Element(element))?;
@@ -51,19 +52,19 @@ pub fn unset_attribute(
 }
 
 /// `attr E WORD`: the value of an element's attribute, or `null`.
-pub fn attribute(
+pub fn attribute<A: Answers>(
     state: &mut State,
     owner: &Owner,
     element: NodeWord,
     name: String,
-    out: &mut Vec<u8>,
+    out: &mut A,
 ) -> Result<(), Fault>
-    ensures handled { IsHandled owner.now (attribute (word_view element) (string_bytes name)) state.old.world state.new.world out.old.items
-        out.new.items result }
+    ensures handled { IsHandled A.adds owner.now (attribute (word_view element) (string_bytes name)) state.old.world state.new.world out.old
+        out.new result }
     ensures names { KeepsNames state.old.names state.new.names result }
 {
     let element = state.admit_one(*owner, Operand::Element(element))?;
-    put_reply(out, owner, &attribute_value(state, element, &name))?;
+    out.reply(owner, &attribute_value(state, element, &name))?;
     state.open_turn(owner);
     Ok(())
 }

@@ -5,18 +5,19 @@ ghost use Rattle.dom_admission.specs.Handled.{KeepsNames, IsHandled};
 
 use crate::NOTHING;
 use dom_admission::{Operand, State};
+use dom_answers::Answers;
 use dom_base::{DomStr, Fault, Owner};
 use dom_reader::NodeWord;
 
 /// `data T STR`: all data of a Text or a Comment give way to others.
-pub fn set_data(
+pub fn set_data<A: Answers>(
     state: &mut State,
     owner: &Owner,
     node: NodeWord,
     text: DomStr,
-    out: &mut Vec<u8>,
+    out: &mut A,
 ) -> Result<(), Fault>
-    ensures handled { IsHandled owner.now (set_data (word_view node) text.items) state.old.world state.new.world out.old.items out.new.items result }
+    ensures handled { IsHandled A.adds owner.now (set_data (word_view node) text.items) state.old.world state.new.world out.old out.new result }
     ensures names { KeepsNames state.old.names state.new.names result }
 {
     let node = state.admit_one(*owner, Operand::Data(node))?;
@@ -25,17 +26,17 @@ pub fn set_data(
 }
 
 /// `replace-data T OFFSET COUNT STR`: from an offset on, so many code units of a Text or a Comment give way to others.
-pub fn replace_data(
+pub fn replace_data<A: Answers>(
     state: &mut State,
     owner: &Owner,
     node: NodeWord,
     offset: u32,
     count: u32,
     text: DomStr,
-    out: &mut Vec<u8>,
+    out: &mut A,
 ) -> Result<(), Fault>
-    ensures handled { IsHandled owner.now (replace_data (word_view node) offset count text.items) state.old.world state.new.world out.old.items
-        out.new.items result }
+    ensures handled { IsHandled A.adds owner.now (replace_data (word_view node) offset count text.items) state.old.world state.new.world out.old
+        out.new result }
     ensures names { KeepsNames state.old.names state.new.names result }
 {
     let node = state.admit_one(*owner, Operand::Data(node))?;
@@ -46,14 +47,14 @@ pub fn replace_data(
 }
 
 /// `split N OFFSET`: the code units of a Text from an offset on go into a new Text behind it.
-pub fn split(
+pub fn split<A: Answers>(
     state: &mut State,
     owner: &Owner,
     node: NodeWord,
     offset: u32,
-    out: &mut Vec<u8>,
+    out: &mut A,
 ) -> Result<(), Fault>
-    ensures handled { IsHandled owner.now (split (word_view node) offset) state.old.world state.new.world out.old.items out.new.items result }
+    ensures handled { IsHandled A.adds owner.now (split (word_view node) offset) state.old.world state.new.world out.old out.new result }
     ensures names { KeepsNames state.old.names state.new.names result }
 {
     let node = state.admit_one(*owner, Operand::Text(node))?;
@@ -64,14 +65,14 @@ pub fn split(
 
 /// `text N STR`: the text of a node: the data of a Text or a Comment, nothing of a document, and of others one Text in
 /// place of their children.
-pub fn set_text(
+pub fn set_text<A: Answers>(
     state: &mut State,
     owner: &Owner,
     node: NodeWord,
     text: DomStr,
-    out: &mut Vec<u8>,
+    out: &mut A,
 ) -> Result<(), Fault>
-    ensures handled { IsHandled owner.now (set_text (word_view node) text.items) state.old.world state.new.world out.old.items out.new.items result }
+    ensures handled { IsHandled A.adds owner.now (set_text (word_view node) text.items) state.old.world state.new.world out.old out.new result }
     ensures names { KeepsNames state.old.names state.new.names result }
 {
     let node = state.admit_one(*owner, Operand::Any(node))?;
@@ -80,13 +81,13 @@ pub fn set_text(
 }
 
 /// `normalize N`: below a node no Text is empty, and none stands directly behind another.
-pub fn normalize(
+pub fn normalize<A: Answers>(
     state: &mut State,
     owner: &Owner,
     node: NodeWord,
-    out: &mut Vec<u8>,
+    out: &mut A,
 ) -> Result<(), Fault>
-    ensures handled { IsHandled owner.now (normalize (word_view node)) state.old.world state.new.world out.old.items out.new.items result }
+    ensures handled { IsHandled A.adds owner.now (normalize (word_view node)) state.old.world state.new.world out.old out.new result }
     ensures names { KeepsNames state.old.names state.new.names result }
 {
     let node = state.admit_one(*owner, Operand::Any(node))?;

@@ -10,6 +10,7 @@ ghost use Rattle.dom_node_commands.specs.Making.{making, document_for};
 ghost use Rattle.dom_mutation.specs.Doc.{HoldsNode, name_in};
 
 use dom_admission::State;
+use dom_answers::Answers;
 use dom_base::{DomStr, Fault, Kind, Owner};
 use dom_reader::NodeWord;
 use dom_tree::NodeData;
@@ -17,13 +18,13 @@ use indexmap::IndexMap;
 use node_arena::Key;
 
 /// `new element WORD`: a new element.
-pub fn new_element(
+pub fn new_element<A: Answers>(
     state: &mut State,
     owner: &Owner,
     name: String,
-    out: &mut Vec<u8>,
+    out: &mut A,
 ) -> Result<(), Fault>
-    ensures handled { IsHandled owner.now (new_element (string_bytes name)) state.old.world state.new.world out.old.items out.new.items result }
+    ensures handled { IsHandled A.adds owner.now (new_element (string_bytes name)) state.old.world state.new.world out.old out.new result }
     ensures names { KeepsNames state.old.names state.new.names result }
 {
     let text = Vec::new(state.alloc);
@@ -31,13 +32,13 @@ pub fn new_element(
 }
 
 /// `new text STR`: a new Text.
-pub fn new_text(
+pub fn new_text<A: Answers>(
     state: &mut State,
     owner: &Owner,
     text: DomStr,
-    out: &mut Vec<u8>,
+    out: &mut A,
 ) -> Result<(), Fault>
-    ensures handled { IsHandled owner.now (new_text text.items) state.old.world state.new.world out.old.items out.new.items result }
+    ensures handled { IsHandled A.adds owner.now (new_text text.items) state.old.world state.new.world out.old out.new result }
     ensures names { KeepsNames state.old.names state.new.names result }
 {
     let element = String::new(state.alloc);
@@ -45,13 +46,13 @@ pub fn new_text(
 }
 
 /// `new comment STR`: a new Comment.
-pub fn new_comment(
+pub fn new_comment<A: Answers>(
     state: &mut State,
     owner: &Owner,
     text: DomStr,
-    out: &mut Vec<u8>,
+    out: &mut A,
 ) -> Result<(), Fault>
-    ensures handled { IsHandled owner.now (new_comment text.items) state.old.world state.new.world out.old.items out.new.items result }
+    ensures handled { IsHandled A.adds owner.now (new_comment text.items) state.old.world state.new.world out.old out.new result }
     ensures names { KeepsNames state.old.names state.new.names result }
 {
     let element = String::new(state.alloc);
@@ -59,8 +60,8 @@ pub fn new_comment(
 }
 
 /// `new fragment`: a new document fragment.
-pub fn new_fragment(state: &mut State, owner: &Owner, out: &mut Vec<u8>) -> Result<(), Fault>
-    ensures handled { IsHandled owner.now new_fragment state.old.world state.new.world out.old.items out.new.items result }
+pub fn new_fragment<A: Answers>(state: &mut State, owner: &Owner, out: &mut A) -> Result<(), Fault>
+    ensures handled { IsHandled A.adds owner.now new_fragment state.old.world state.new.world out.old out.new result }
     ensures names { KeepsNames state.old.names state.new.names result }
 {
     let (element, text) = (String::new(state.alloc), Vec::new(state.alloc));
@@ -68,8 +69,8 @@ pub fn new_fragment(state: &mut State, owner: &Owner, out: &mut Vec<u8>) -> Resu
 }
 
 /// `document`: a new document.
-pub fn new_document(state: &mut State, owner: &Owner, out: &mut Vec<u8>) -> Result<(), Fault>
-    ensures handled { IsHandled owner.now new_document state.old.world state.new.world out.old.items out.new.items result }
+pub fn new_document<A: Answers>(state: &mut State, owner: &Owner, out: &mut A) -> Result<(), Fault>
+    ensures handled { IsHandled A.adds owner.now new_document state.old.world state.new.world out.old out.new result }
     ensures names { KeepsNames state.old.names state.new.names result }
 {
     let (element, text) = (String::new(state.alloc), Vec::new(state.alloc));
@@ -79,18 +80,18 @@ pub fn new_document(state: &mut State, owner: &Owner, out: &mut Vec<u8>) -> Resu
 /// Does the command that makes a node of this kind, with this local name if it is an element and with this text if it is a Text or
 /// a Comment, and replies with the node.
 #[inline(always)]
-fn make(
+fn make<A: Answers>(
     state: &mut State,
     owner: &Owner,
     kind: Kind,
     element: String,
     text: DomStr,
-    out: &mut Vec<u8>,
+    out: &mut A,
 ) -> Result<(), Fault>
     requires no_shadow { is_shadow kind ≡ false }
     requires nameless { is_element kind ≡ false → string_bytes element ≡ [] }
     requires textless { has_data kind ≡ false → text.items ≡ [] }
-    ensures handled { IsHandled owner.now (making kind (string_bytes element) text.items) state.old.world state.new.world out.old.items out.new.items result }
+    ensures handled { IsHandled A.adds owner.now (making kind (string_bytes element) text.items) state.old.world state.new.world out.old out.new result }
     ensures names { KeepsNames state.old.names state.new.names result }
 {
     state.admit(*owner, &[])?;

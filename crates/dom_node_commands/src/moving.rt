@@ -5,18 +5,19 @@ ghost use Rattle.dom_admission.specs.Handled.{KeepsNames, IsHandled};
 
 use crate::NOTHING;
 use dom_admission::{Operand, State};
+use dom_answers::Answers;
 use dom_base::{Fault, Owner};
 use dom_reader::NodeWord;
 
 /// `append P N`: a node becomes a parent's last child.
-pub fn append(
+pub fn append<A: Answers>(
     state: &mut State,
     owner: &Owner,
     parent: NodeWord,
     node: NodeWord,
-    out: &mut Vec<u8>,
+    out: &mut A,
 ) -> Result<(), Fault>
-    ensures handled { IsHandled owner.now (append (word_view parent) (word_view node)) state.old.world state.new.world out.old.items out.new.items result }
+    ensures handled { IsHandled A.adds owner.now (append (word_view parent) (word_view node)) state.old.world state.new.world out.old out.new result }
     ensures names { KeepsNames state.old.names state.new.names result }
 {
     let (parent, node) = state.admit_two(*owner, Operand::Any(parent), Operand::Any(node))?;
@@ -25,16 +26,16 @@ pub fn append(
 }
 
 /// `insert P N C`: a node becomes the child of a parent just before another child.
-pub fn insert(
+pub fn insert<A: Answers>(
     state: &mut State,
     owner: &Owner,
     parent: NodeWord,
     node: NodeWord,
     child: NodeWord,
-    out: &mut Vec<u8>,
+    out: &mut A,
 ) -> Result<(), Fault>
-    ensures handled { IsHandled owner.now (insert (word_view parent) (word_view node) (word_view child)) state.old.world state.new.world
-        out.old.items out.new.items result }
+    ensures handled { IsHandled A.adds owner.now (insert (word_view parent) (word_view node) (word_view child)) state.old.world state.new.world
+        out.old out.new result }
     ensures names { KeepsNames state.old.names state.new.names result }
 {
     let (parent, node, child) = state.admit_three(
@@ -48,16 +49,16 @@ pub fn insert(
 }
 
 /// `replace P N C`: a node takes the place of a child of a parent.
-pub fn replace(
+pub fn replace<A: Answers>(
     state: &mut State,
     owner: &Owner,
     parent: NodeWord,
     node: NodeWord,
     child: NodeWord,
-    out: &mut Vec<u8>,
+    out: &mut A,
 ) -> Result<(), Fault>
-    ensures handled { IsHandled owner.now (replace (word_view parent) (word_view node) (word_view child)) state.old.world state.new.world
-        out.old.items out.new.items result }
+    ensures handled { IsHandled A.adds owner.now (replace (word_view parent) (word_view node) (word_view child)) state.old.world state.new.world
+        out.old out.new result }
     ensures names { KeepsNames state.old.names state.new.names result }
 {
     let (parent, node, child) = state.admit_three(
@@ -71,13 +72,13 @@ pub fn replace(
 }
 
 /// `remove N`: a node leaves its parent.
-pub fn remove(
+pub fn remove<A: Answers>(
     state: &mut State,
     owner: &Owner,
     node: NodeWord,
-    out: &mut Vec<u8>,
+    out: &mut A,
 ) -> Result<(), Fault>
-    ensures handled { IsHandled owner.now (remove (word_view node)) state.old.world state.new.world out.old.items out.new.items result }
+    ensures handled { IsHandled A.adds owner.now (remove (word_view node)) state.old.world state.new.world out.old out.new result }
     ensures names { KeepsNames state.old.names state.new.names result }
 {
     let node = state.admit_one(*owner, Operand::Child(node))?;
@@ -86,14 +87,14 @@ pub fn remove(
 }
 
 /// `adopt D N`: a node leaves its parent and gets a document for its node document, with all below it.
-pub fn adopt(
+pub fn adopt<A: Answers>(
     state: &mut State,
     owner: &Owner,
     document: NodeWord,
     node: NodeWord,
-    out: &mut Vec<u8>,
+    out: &mut A,
 ) -> Result<(), Fault>
-    ensures handled { IsHandled owner.now (adopt (word_view document) (word_view node)) state.old.world state.new.world out.old.items out.new.items result }
+    ensures handled { IsHandled A.adds owner.now (adopt (word_view document) (word_view node)) state.old.world state.new.world out.old out.new result }
     ensures names { KeepsNames state.old.names state.new.names result }
 {
     let (document, node) = state.admit_two(

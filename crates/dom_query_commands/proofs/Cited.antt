@@ -20,7 +20,7 @@ pub use Rattle.dom_model.proofs.Model.{siblings, Simple, simple, simple_matches,
 pub use Rattle.dom_model.proofs.Model.{with_value, Word, World}
 pub use Rattle.dom_admission.proofs.Finding.{key_of, read_at, read_by_key, read_of, told_here}
 pub use Rattle.dom_admission.proofs.Handling.{asks, effecting, faults, finished, in_state, keeps, keeps_saying, may_act, one_there, opened-part, passes, reads}
-pub use Rattle.dom_admission.proofs.Handling.{refused, thing_there, unanswered}
+pub use Rattle.dom_admission.proofs.Handling.{refused, thing_there}
 pub use Rattle.dom_admission.proofs.OwnRefusals.{lone_passes, lone_refuses}
 pub use Rattle.dom_admission.proofs.Refusing.{IsNaming, namings}
 pub use Rattle.dom_admission.specs.Turned.{with_turn}
@@ -41,7 +41,7 @@ pub use Rattle.dom_query_commands.specs.declared.things.Request.{Request}
 pub use Rattle.dom_query_commands.specs.declared.tree_text.Place.{Place}
 pub use Rattle.dom_reader.specs.Views.{filter_view, word_view}
 pub use Rattle.dom_selectors.specs.Definitions.{IsRefusalWhere, selector_view}
-pub use Rattle.dom_text.specs.Definitions.{closes, opens, output_text, TreeStep}
+pub use Rattle.dom_text.specs.Definitions.{closes, opens, TreeStep}
 pub use Rattle.dom_tree.proofs.Owned.{read_own, stays_own}
 pub use Rattle.dom_tree.proofs.Standing.{Once-forest, StandAlone, StandOnce, Has-forest}
 pub use Rattle.dom_tree.specs.Definitions.{AreOwned, name_at, NamedTrees, trees_of_owner}

@@ -12,6 +12,7 @@ ghost use Rattle.dom_mutation.specs.Doc.{HoldsNode, Makes, name_in, owner_in};
 ghost use Rattle.dom_query_commands.specs.Requests.{cursor_new, cursor_count};
 
 use dom_admission::{Operand, State};
+use dom_answers::Answers;
 use dom_base::{Fault, Owner};
 use dom_mutation::Doc;
 use dom_printer::Value;
@@ -27,15 +28,15 @@ pub enum Cursor {
 }
 
 /// `iter-new N SHOW [FILTER]`: a new iterator, before its root, or `walk-new N SHOW [FILTER]`: a new walker, at its root.
-pub fn new_cursor(
+pub fn new_cursor<A: Answers>(
     state: &mut State,
     owner: Owner,
     cursor: Cursor,
     words: (NodeWord, Filter),
-    out: &mut Vec<u8>,
+    out: &mut A,
 ) -> Result<(), Fault>
-    ensures handled { IsHandled owner (cursor_new cursor (word_view words.0) (filter_view words.1)) state.old.world state.new.world out.old.items
-        out.new.items result }
+    ensures handled { IsHandled A.adds owner (cursor_new cursor (word_view words.0) (filter_view words.1)) state.old.world state.new.world out.old
+        out.new result }
     ensures names { KeepsNames state.old.names state.new.names result }
 {
     let (root, filter) = words;
@@ -74,14 +75,14 @@ fn make(
 }
 
 /// `walk-set W N`: a node becomes the current one of a walker.
-pub fn set_walker(
+pub fn set_walker<A: Answers>(
     state: &mut State,
     owner: Owner,
     number: u32,
     current: NodeWord,
-    out: &mut Vec<u8>,
+    out: &mut A,
 ) -> Result<(), Fault>
-    ensures handled { IsHandled owner (walker_set number (word_view current)) state.old.world state.new.world out.old.items out.new.items result }
+    ensures handled { IsHandled A.adds owner (walker_set number (word_view current)) state.old.world state.new.world out.old out.new result }
     ensures names { KeepsNames state.old.names state.new.names result }
 {
     state.admit(owner, &[Operand::Any(current), Operand::Walker(number)])?;

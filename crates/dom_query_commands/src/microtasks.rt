@@ -1,24 +1,29 @@
 //! The microtasks: how they are queued, and what a notification takes (HTML Standard, queue a microtask; DOM Standard, notify
 //! mutation observers).
-ghost use Rattle.std.specs.Prelude.{◌≡◌, ◌++◌, All, filter, map, IfOk, OnOk, string_bytes};
+ghost use Rattle.std.specs.Prelude.{◌≡◌, All, filter, map, IfOk, OnOk, string_bytes};
 ghost use Rattle.dom_model.specs.Command.{micro};
 ghost use Rattle.dom_model.specs.Turns.{notified, notified_lines, is_owned_by, without_signals};
 ghost use Rattle.dom_model.specs.World.{part_of, with_part};
 ghost use Rattle.dom_worlds.specs.Worlds.{IsThere};
-ghost use Rattle.dom_text.specs.Text.{output_text};
 ghost use Rattle.dom_admission.specs.Handled.{IsHandled, KeepsNames};
 ghost use Rattle.dom_mutation.specs.Doc.{HoldsNode, name_in};
 
 use crate::records::put_notices;
 use dom_admission::State;
+use dom_answers::Answers;
 use dom_base::{Fault, Owner};
 use dom_printer::Value;
 use node_arena::Key;
 use std::alloc::AllocError;
 
 /// `micro LABEL`: a microtask that prints a label.
-pub fn micro(state: &mut State, owner: Owner, label: String, out: &mut Vec<u8>) -> Result<(), Fault>
-    ensures handled { IsHandled owner (micro (string_bytes label)) state.old.world state.new.world out.old.items out.new.items result }
+pub fn micro<A: Answers>(
+    state: &mut State,
+    owner: Owner,
+    label: String,
+    out: &mut A,
+) -> Result<(), Fault>
+    ensures handled { IsHandled A.adds owner (micro (string_bytes label)) state.old.world state.new.world out.old out.new result }
     ensures names { KeepsNames state.old.names state.new.names result }
 {
     state.admit(owner, &[])?;
@@ -38,9 +43,13 @@ pub fn take_signals(state: &mut State, owner: Owner) -> Result<Vec<Key>, AllocEr
 }
 
 /// Gives each pending observer of an owner its records, and puts their lines (DOM Standard, notify mutation observers).
-pub fn tell_observers(state: &mut State, owner: Owner, out: &mut Vec<u8>) -> Result<(), AllocError>
+pub fn tell_observers<A: Answers>(
+    state: &mut State,
+    owner: Owner,
+    out: &mut A,
+) -> Result<(), AllocError>
     requires { IsThere state.old.world owner }
-    ensures text { OnOk result (out.new.items ≡ out.old.items ++ output_text (notified_lines (part_of state.old.world owner))) }
+    ensures told { OnOk result (A.adds out.old (notified_lines (part_of state.old.world owner)) out.new) }
     ensures world { OnOk result (state.new.world ≡ with_part state.old.world (notified (part_of state.old.world owner))) }
     ensures names { OnOk result (state.new.names ≡ state.old.names) }
 {

@@ -7,14 +7,15 @@ ghost use Rattle.dom_admission.specs.Handled.{KeepsNames, IsHandled};
 
 use crate::records::put_records;
 use dom_admission::{Operand, State};
+use dom_answers::Answers;
 use dom_base::{Fault, Owner};
 use dom_observers::Options;
 use dom_printer::Value;
 use dom_reader::{NodeWord, ObserveWords};
 
 /// `observer`: a new observer.
-pub fn new_observer(state: &mut State, owner: Owner, out: &mut Vec<u8>) -> Result<(), Fault>
-    ensures handled { IsHandled owner observer state.old.world state.new.world out.old.items out.new.items result }
+pub fn new_observer<A: Answers>(state: &mut State, owner: Owner, out: &mut A) -> Result<(), Fault>
+    ensures handled { IsHandled A.adds owner observer state.old.world state.new.world out.old out.new result }
     ensures names { KeepsNames state.old.names state.new.names result }
 {
     state.admit(owner, &[])?;
@@ -23,16 +24,16 @@ pub fn new_observer(state: &mut State, owner: Owner, out: &mut Vec<u8>) -> Resul
 }
 
 /// `observe O N ..`: an observer is registered on a node, or its registration there gets other options.
-pub fn observe(
+pub fn observe<A: Answers>(
     state: &mut State,
     owner: Owner,
     number: u32,
     node: NodeWord,
     words: ObserveWords,
-    out: &mut Vec<u8>,
+    out: &mut A,
 ) -> Result<(), Fault>
-    ensures handled { IsHandled owner (observe number (word_view node) (observe_view words)) state.old.world state.new.world out.old.items
-        out.new.items result }
+    ensures handled { IsHandled A.adds owner (observe number (word_view node) (observe_view words)) state.old.world state.new.world out.old
+        out.new result }
     ensures names { KeepsNames state.old.names state.new.names result }
 {
     state.admit(owner, &[Operand::Any(node), Operand::Observer(number)])?;
@@ -44,13 +45,13 @@ pub fn observe(
 }
 
 /// `take O`: the records of an observer, which are then gone, and their count.
-pub fn take_records(
+pub fn take_records<A: Answers>(
     state: &mut State,
     owner: Owner,
     number: u32,
-    out: &mut Vec<u8>,
+    out: &mut A,
 ) -> Result<(), Fault>
-    ensures handled { IsHandled owner (take number) state.old.world state.new.world out.old.items out.new.items result }
+    ensures handled { IsHandled A.adds owner (take number) state.old.world state.new.world out.old out.new result }
     ensures names { KeepsNames state.old.names state.new.names result }
 {
     state.admit(owner, &[Operand::Observer(number)])?;

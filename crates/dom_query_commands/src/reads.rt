@@ -1,11 +1,10 @@
 //! The commands that ask where nodes stand.
-ghost use Rattle.std.specs.Prelude.{◌≡◌, ◌++◌, ◌∷◌, [], OnOk, IfOk, map, All};
+ghost use Rattle.std.specs.Prelude.{◌≡◌, ◌∷◌, [], OnOk, IfOk, map, All};
 ghost use Rattle.std.specs.Option.{option_map, ForSome};
 ghost use Rattle.dom_model.specs.Tree.{subtree, parent_of, children_of, is_inclusive_ancestor};
 ghost use Rattle.dom_model.specs.Command.{tree, parent, document_of, children, contains, connected};
 ghost use Rattle.dom_model.specs.Effects.{node_or_null};
 ghost use Rattle.dom_model.specs.Output.{says, replied, a_list, a_tree};
-ghost use Rattle.dom_text.specs.Text.{output_text};
 ghost use Rattle.dom_printer.specs.Replies.{value_view};
 ghost use Rattle.dom_reader.specs.Views.{word_view};
 ghost use Rattle.dom_tree.specs.Forest.{IsNode, name_of};
@@ -15,8 +14,9 @@ ghost use Rattle.dom_mutation.specs.Doc.{HoldsNode, name_in, trees_in};
 use crate::things;
 use crate::tree_text::tree_steps;
 use dom_admission::{NodeNames, Operand, State};
+use dom_answers::Answers;
 use dom_base::{Fault, Owner};
-use dom_printer::{Value, put_list_reply, put_tree};
+use dom_printer::Value;
 use dom_reader::NodeWord;
 use dom_tree::Forest;
 use node_arena::Key;
@@ -26,8 +26,13 @@ use std::alloc::{AllocError, Global};
 const FIRST_ROOM: usize = 16;
 
 /// `tree N`: the text of a node's tree.
-pub fn tree(state: &mut State, owner: Owner, node: NodeWord, out: &mut Vec<u8>) -> Result<(), Fault>
-    ensures handled { IsHandled owner (tree (word_view node)) state.old.world state.new.world out.old.items out.new.items result }
+pub fn tree<A: Answers>(
+    state: &mut State,
+    owner: Owner,
+    node: NodeWord,
+    out: &mut A,
+) -> Result<(), Fault>
+    ensures handled { IsHandled A.adds owner (tree (word_view node)) state.old.world state.new.world out.old out.new result }
     ensures names { KeepsNames state.old.names state.new.names result }
 {
     let node = state.admit_one(owner, Operand::Any(node))?;
@@ -37,13 +42,13 @@ pub fn tree(state: &mut State, owner: Owner, node: NodeWord, out: &mut Vec<u8>) 
 }
 
 /// `parent N`: the parent of a node, or `null`.
-pub fn parent(
+pub fn parent<A: Answers>(
     state: &mut State,
     owner: Owner,
     node: NodeWord,
-    out: &mut Vec<u8>,
+    out: &mut A,
 ) -> Result<(), Fault>
-    ensures handled { IsHandled owner (parent (word_view node)) state.old.world state.new.world out.old.items out.new.items result }
+    ensures handled { IsHandled A.adds owner (parent (word_view node)) state.old.world state.new.world out.old out.new result }
     ensures names { KeepsNames state.old.names state.new.names result }
 {
     let node = state.admit_one(owner, Operand::Any(node))?;
@@ -52,13 +57,13 @@ pub fn parent(
 }
 
 /// `docof N`: the node document of a node, or `null`.
-pub fn document_of(
+pub fn document_of<A: Answers>(
     state: &mut State,
     owner: Owner,
     node: NodeWord,
-    out: &mut Vec<u8>,
+    out: &mut A,
 ) -> Result<(), Fault>
-    ensures handled { IsHandled owner (document_of (word_view node)) state.old.world state.new.world out.old.items out.new.items result }
+    ensures handled { IsHandled A.adds owner (document_of (word_view node)) state.old.world state.new.world out.old out.new result }
     ensures names { KeepsNames state.old.names state.new.names result }
 {
     let node = state.admit_one(owner, Operand::Any(node))?;
@@ -67,13 +72,13 @@ pub fn document_of(
 }
 
 /// `children N`: the children of a node.
-pub fn children(
+pub fn children<A: Answers>(
     state: &mut State,
     owner: Owner,
     node: NodeWord,
-    out: &mut Vec<u8>,
+    out: &mut A,
 ) -> Result<(), Fault>
-    ensures handled { IsHandled owner (children (word_view node)) state.old.world state.new.world out.old.items out.new.items result }
+    ensures handled { IsHandled A.adds owner (children (word_view node)) state.old.world state.new.world out.old out.new result }
     ensures names { KeepsNames state.old.names state.new.names result }
 {
     let node = state.admit_one(owner, Operand::Any(node))?;
@@ -83,14 +88,14 @@ pub fn children(
 }
 
 /// `contains N N`: whether the first node is the second or stands above it.
-pub fn contains(
+pub fn contains<A: Answers>(
     state: &mut State,
     owner: Owner,
     above: NodeWord,
     node: NodeWord,
-    out: &mut Vec<u8>,
+    out: &mut A,
 ) -> Result<(), Fault>
-    ensures handled { IsHandled owner (contains (word_view above) (word_view node)) state.old.world state.new.world out.old.items out.new.items result }
+    ensures handled { IsHandled A.adds owner (contains (word_view above) (word_view node)) state.old.world state.new.world out.old out.new result }
     ensures names { KeepsNames state.old.names state.new.names result }
 {
     let (above, node) = state.admit_two(owner, Operand::Any(above), Operand::Any(node))?;
@@ -99,13 +104,13 @@ pub fn contains(
 }
 
 /// `connected N`: whether a document is the shadow-including root of a node.
-pub fn connected(
+pub fn connected<A: Answers>(
     state: &mut State,
     owner: Owner,
     node: NodeWord,
-    out: &mut Vec<u8>,
+    out: &mut A,
 ) -> Result<(), Fault>
-    ensures handled { IsHandled owner (connected (word_view node)) state.old.world state.new.world out.old.items out.new.items result }
+    ensures handled { IsHandled A.adds owner (connected (word_view node)) state.old.world state.new.world out.old out.new result }
     ensures names { KeepsNames state.old.names state.new.names result }
 {
     let node = state.admit_one(owner, Operand::Any(node))?;
@@ -114,13 +119,17 @@ pub fn connected(
 }
 
 /// Puts the reply with the text of a node's tree.
-fn reply_tree(state: &State, owner: Owner, node: Key, out: &mut Vec<u8>) -> Result<(), AllocError>
+fn reply_tree<A: Answers>(
+    state: &State,
+    owner: Owner,
+    node: Key,
+    out: &mut A,
+) -> Result<(), AllocError>
     requires { HoldsNode state.now node }
-    ensures { OnOk result (out.new.items ≡ out.old.items ++
-        output_text (says owner (replied (a_tree (subtree (trees_in state.now node) (name_in state.now node)))) ∷ [])) }
+    ensures { OnOk result (A.adds out.old (says owner (replied (a_tree (subtree (trees_in state.now node) (name_in state.now node)))) ∷ []) out.new) }
 {
     let steps = tree_steps(state.alloc, state.forest(), node)?;
-    put_tree(out, owner, &steps)
+    out.reply_tree(&owner, &steps)
 }
 
 /// A node or `null`, for a reply.
@@ -141,19 +150,18 @@ fn parent_of(state: &State, node: Key) -> Option<Key>
 }
 
 /// Puts the reply that has the children of a node.
-fn reply_children(
+fn reply_children<A: Answers>(
     state: &State,
     owner: &Owner,
     node: Key,
-    out: &mut Vec<u8>,
+    out: &mut A,
 ) -> Result<(), AllocError>
     requires { HoldsNode state.now node }
-    ensures { OnOk result (out.new.items ≡ out.old.items ++
-        output_text (says owner.now (replied (a_list (children_of (trees_in state.now node) (name_in state.now node)))) ∷ [])) }
+    ensures { OnOk result (A.adds out.old (says owner.now (replied (a_list (children_of (trees_in state.now node) (name_in state.now node)))) ∷ []) out.new) }
 {
     let forest = state.forest();
     let children = children_of(state.alloc, forest, node)?;
-    put_list_reply(out, owner, &NodeNames { forest }, &children)
+    out.reply_list(owner, &NodeNames { forest }, &children)
 }
 
 /// Whether a node is another one or stands above it.

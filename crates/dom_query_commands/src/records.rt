@@ -1,31 +1,31 @@
 //! Records of observers as lines.
-ghost use Rattle.std.specs.Prelude.{◌≡◌, ◌++◌, ◌∷◌, [], OnOk};
+ghost use Rattle.std.specs.Prelude.{◌≡◌, ◌∷◌, [], OnOk};
 ghost use Rattle.std.specs.List.{AllByRecursion};
 ghost use Rattle.std.specs.Option.{option_map, ForSome};
-ghost use Rattle.dom_text.specs.Text.{output_text};
 ghost use Rattle.dom_printer.specs.Names.{name_view};
 ghost use Rattle.dom_tree.specs.Forest.{IsNode, name_at};
 ghost use Rattle.dom_query_commands.specs.Recorded.{record_line, record_lines, notice_lines, IsRecord, IsNotice};
 
 use dom_admission::{lent_name, names_of};
+use dom_answers::Answers;
 use dom_base::Owner;
 use dom_observers::{Change as Changed, Record};
-use dom_printer::{Change, LentName, put_record};
+use dom_printer::{Change, LentName};
 use dom_tree::Forest;
 use node_arena::Key;
 use smallvec::SmallVec;
 use std::alloc::{AllocError, Global};
 
 /// Puts the records of a notification, each observer's in order.
-pub(crate) fn put_notices(
+pub(crate) fn put_notices<A: Answers>(
     alloc: Global,
     forest: &Forest,
     owner: Owner,
     notices: &[(u32, Vec<Record>)],
-    out: &mut Vec<u8>,
+    out: &mut A,
 ) -> Result<(), AllocError>
     requires { AllByRecursion (IsNotice forest.now.names) notices.now }
-    ensures { OnOk result (out.new.items ≡ out.old.items ++ output_text (notice_lines forest.now.names owner notices.now)) }
+    ensures { OnOk result (A.adds out.old (notice_lines forest.now.names owner notices.now) out.new) }
 {
     for notice in notices {
         let observer = notice.0;
@@ -35,16 +35,16 @@ pub(crate) fn put_notices(
 }
 
 /// Puts the records of an observer.
-pub(crate) fn put_records(
+pub(crate) fn put_records<A: Answers>(
     alloc: Global,
     forest: &Forest,
     owner: Owner,
     observer: u32,
     records: &[Record],
-    out: &mut Vec<u8>,
+    out: &mut A,
 ) -> Result<(), AllocError>
     requires { AllByRecursion (IsRecord forest.now.names) records.now }
-    ensures { OnOk result (out.new.items ≡ out.old.items ++ output_text (record_lines forest.now.names owner observer records.now)) }
+    ensures { OnOk result (A.adds out.old (record_lines forest.now.names owner observer records.now) out.new) }
 {
     for told in records {
         put_change(alloc, forest, &owner, observer, told, out)?;
@@ -53,16 +53,16 @@ pub(crate) fn put_records(
 }
 
 /// Puts a record of an observer.
-fn put_change(
+fn put_change<A: Answers>(
     alloc: Global,
     forest: &Forest,
     owner: &Owner,
     observer: u32,
     told: &Record,
-    out: &mut Vec<u8>,
+    out: &mut A,
 ) -> Result<(), AllocError>
     requires { IsRecord forest.now.names told.now }
-    ensures { OnOk result (out.new.items ≡ out.old.items ++ output_text (record_line forest.now.names owner.now observer told.now ∷ [])) }
+    ensures { OnOk result (A.adds out.old (record_line forest.now.names owner.now observer told.now ∷ []) out.new) }
 {
     match told {
         Changed::ChildList {
@@ -81,7 +81,7 @@ fn put_change(
                 previous: name_if(forest, *previous),
                 next: name_if(forest, *next),
             };
-            put_record(out, owner, observer, &change)
+            out.record(owner, observer, &change)
         }
         Changed::Attributes { target, name, old } => {
             let change = Change::Attributes {
@@ -89,14 +89,14 @@ fn put_change(
                 name: name.as_str(),
                 old: units_if(old),
             };
-            put_record(out, owner, observer, &change)
+            out.record(owner, observer, &change)
         }
         Changed::CharacterData { target, old } => {
             let change = Change::CharacterData {
                 target: lent_name(forest, *target),
                 old: units_if(old),
             };
-            put_record(out, owner, observer, &change)
+            out.record(owner, observer, &change)
         }
     }
 }

@@ -13,6 +13,7 @@ ghost use Rattle.dom_mutation.specs.Doc.{HoldsNode, Makes, name_in};
 ghost use Rattle.dom_query_commands.specs.Requests.{command_of, thing_of};
 
 use dom_admission::{Operand, State};
+use dom_answers::Answers;
 use dom_base::{Fault, Move, Owner};
 use dom_mutation::Doc;
 use dom_printer::{Boundary, Value};
@@ -42,14 +43,14 @@ pub enum Request {
 }
 
 /// What a line asks of the thing with a number.
-pub fn perform(
+pub fn perform<A: Answers>(
     state: &mut State,
     owner: Owner,
     number: u32,
     request: Request,
-    out: &mut Vec<u8>,
+    out: &mut A,
 ) -> Result<(), Fault>
-    ensures handled { IsHandled owner (command_of request number) state.old.world state.new.world out.old.items out.new.items result }
+    ensures handled { IsHandled A.adds owner (command_of request number) state.old.world state.new.world out.old out.new result }
     ensures names { KeepsNames state.old.names state.new.names result }
 {
     state.admit(owner, &[thing_of(request, number)])?;

@@ -9,12 +9,12 @@ naming o true k x offset = search namings
 naming o false k x offset = search namings
 
 pub returns-in_err-admit-clause-handled : goal.returns-in_err-admit-clause-handled
-returns-in_err-admit-clause-handled c =
-    refused _ _ _ _ _ _ (naming c.args.owner c.args.is_start c.args.number c.args.point.0 c.args.point.1) c.admit.ensures c.in_err-admit.was
+returns-in_err-admit-clause-handled g c =
+    refused g.A.Answers.adds _ _ _ _ _ _ (naming c.args.owner c.args.is_start c.args.number c.args.point.0 c.args.point.1) c.admit.ensures c.in_err-admit.was
     c.from_residual.ensures.1
 
 pub range_set_start-requires-clause-own : goal.range_set_start-requires-clause-own
-range_set_start-requires-clause-own c = (key_of _ c.state.inside.doc _ c.state.view_is _ _ _ c.key-node.ensures.name).mine
+range_set_start-requires-clause-own g c = (key_of _ c.state.inside.doc _ c.state.view_is _ _ _ c.key-node.ensures.name).mine
 
 pub range_set_end-requires-clause-own : goal.range_set_end-requires-clause-own
-range_set_end-requires-clause-own c = (key_of _ c.state.inside.doc _ c.state.view_is _ _ _ c.key-node.ensures.name).mine
+range_set_end-requires-clause-own g c = (key_of _ c.state.inside.doc _ c.state.view_is _ _ _ c.key-node.ensures.name).mine

@@ -2,9 +2,10 @@ use Rattle.dom_node_commands.proofs.Handlers.{◌∷◌, Element, [], may_act, n
 use Rattle.dom_node_commands.proofs.shadows.shadow_root.Goals as goal
 
 pub returns-in_err-admit-clause-handled : goal.returns-in_err-admit-clause-handled
-returns-in_err-admit-clause-handled c =
-    refused _ _ _ (Element c.args.element ∷ []) _ _ (search namings) c.admit.ensures c.in_err-admit.was c.from_residual.ensures.1
+returns-in_err-admit-clause-handled g c =
+    refused g.A.Answers.adds _ _ _ (Element c.args.element ∷ []) _ _ (search namings) c.admit.ensures c.in_err-admit.was c.from_residual.ensures.1
 
 pub returns-clause-handled : goal.returns-clause-handled
-returns-clause-handled c =
-    reads (may_act _ _ _ (Element c.args.element ∷ []) (search namings) c.admit.ensures c.in_ok-admit.was) _ _ _ _ refl refl refl c.accept.ensures.done
+returns-clause-handled g c =
+    reads g.A.Answers.adds (may_act _ _ _ (Element c.args.element ∷ []) (search namings) c.admit.ensures c.in_ok-admit.was) _ _ _ _ refl refl refl
+    c.accept.ensures.done

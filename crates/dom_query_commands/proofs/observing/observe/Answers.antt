@@ -3,22 +3,23 @@ use Rattle.dom_query_commands.proofs.Cited.{Observer, key_of, faults, keeps, may
 use Rattle.dom_query_commands.proofs.observing.observe.Goals as goal
 
 pub returns-in_err-admit-clause-handled : goal.returns-in_err-admit-clause-handled
-returns-in_err-admit-clause-handled c =
-    refused _ _ _ (Any c.args.node ∷ Observer c.args.number ∷ []) _ _ (search namings) c.admit.ensures c.in_err-admit.was c.from_residual.ensures.1
+returns-in_err-admit-clause-handled g c =
+    refused g.A.Answers.adds _ _ _ (Any c.args.node ∷ Observer c.args.number ∷ []) _ _ (search namings) c.admit.ensures c.in_err-admit.was
+    c.from_residual.ensures.1
 
 pub returns-in_err-observe-clause-handled : goal.returns-in_err-observe-clause-handled
-returns-in_err-observe-clause-handled c =
+returns-in_err-observe-clause-handled g c =
     let e = c.in_err-observe.ensures in
-    faults _ c.state.inside.doc _ c.state.view_is
+    faults g.A.Answers.adds _ c.state.inside.doc _ c.state.view_is
     (may_act _ _ _ (Any c.args.node ∷ Observer c.args.number ∷ []) (search namings) c.admit.ensures c.in_ok-admit.was) _ _ _
     c.from_residual-in_err-observe.ensures.1 (lone_refuses (λ j. asks_for_nothing (options_of (c.observer_options.ensures j))) e.no_kind e.other) (λ r h. e.err)
 
 pub returns-clause-handled : goal.returns-clause-handled
-returns-clause-handled c =
+returns-clause-handled g c =
     let node = key_of _ c.state.inside.doc _ c.state.view_is _ _ _ c.key-node.ensures.name in
     let e = c.in_ok-observe.ensures in
     let p = part_of c.state.inside.doc.world c.args.owner in
-    keeps _ c.state.inside.doc _ c.state.view_is
+    keeps g.A.Answers.adds _ c.state.inside.doc _ c.state.view_is
     (may_act _ _ _ (Any c.args.node ∷ Observer c.args.number ∷ []) (search namings) c.admit.ensures c.in_ok-admit.was) _ _ _ _
     (lone_passes _ (λ j. asks_for_nothing (options_of (c.observer_options.ensures j))) e.no_kind) refl (
       sym (λ j. answers (record p {
@@ -29,4 +30,4 @@ returns-clause-handled c =
     ) refl c.accept.ensures.done
 
 pub observe-requires-clause-own : goal.observe-requires-clause-own
-observe-requires-clause-own c = (key_of _ c.state.inside.doc _ c.state.view_is _ _ _ c.key-node.ensures.name).mine
+observe-requires-clause-own g c = (key_of _ c.state.inside.doc _ c.state.view_is _ _ _ c.key-node.ensures.name).mine

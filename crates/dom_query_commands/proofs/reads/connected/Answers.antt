@@ -4,10 +4,11 @@ use Rattle.dom_query_commands.proofs.Connecting.{connected-opened, connected-tur
 use Rattle.dom_query_commands.proofs.reads.connected.Goals as goal
 
 pub returns-in_err-node-clause-handled : goal.returns-in_err-node-clause-handled
-returns-in_err-node-clause-handled c = refused _ _ _ (Any c.args.node ∷ []) _ _ (search namings) c.in_err-node.ensures.passed refl c.from_residual.ensures.1
+returns-in_err-node-clause-handled g c =
+    refused g.A.Answers.adds _ _ _ (Any c.args.node ∷ []) _ _ (search namings) c.in_err-node.ensures.passed refl c.from_residual.ensures.1
 
 pub returns-clause-handled : goal.returns-clause-handled
-returns-clause-handled c =
+returns-clause-handled g c =
     let w = c.args.state.now.world in
     let d = c.state.inside.doc in
     let s = word_view c.args.node in
@@ -15,5 +16,5 @@ returns-clause-handled c =
     let told : c.is_connected-connected.result ≡ is_connected w (named (part_of w c.args.owner) s) =
     rw (← c.state.view_is) (c.is_connected-connected.ensures ∙ ap (is_connected d.world) node.name
     ∙ sym (connected-turned c.state.inside.turn d.world (named (part_of d.world c.args.owner) s))) in
-    asks (may_act _ _ _ (Any c.args.node ∷ []) (search namings) c.in_ok-node.ensures.passed refl) _ _ _ _ refl refl
+    asks g.A.Answers.adds (may_act _ _ _ (Any c.args.node ∷ []) (search namings) c.in_ok-node.ensures.passed refl) _ _ _ _ refl refl
     (ap a_truth (told ∙ connected-opened w c.args.owner s)) c.accept.ensures.done

@@ -4,5 +4,5 @@ use Rattle.dom_commands.proofs.Machines.{line_sound}
 use Rattle.dom_commands.proofs.machine.Machine.answer.Goals as goal
 
 pub returns-clause-sound : goal.returns-clause-sound
-returns-clause-sound c = line_sound c.command.result _ (model_command c.args.owner.now (command_view c.args.command.now)) c.requires
+returns-clause-sound g c = line_sound c.command.result _ (model_command c.args.owner.now (command_view c.args.command.now)) c.requires
     c.command.ensures.world c.command.ensures.listeners

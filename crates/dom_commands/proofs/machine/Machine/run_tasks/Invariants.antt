@@ -4,8 +4,8 @@ use Rattle.dom_commands.proofs.Closing.{Ran}
 use Rattle.dom_commands.proofs.machine.Machine.run_tasks.Given as goal
 
 abbrev pub invariant-loop-task : goal.invariant-loop-task
-invariant-loop-task l = Ran running_task l.initial.self.world l.self.world l.initial.tasks l.tasks l.initial.out.items l.out.items ×
+invariant-loop-task g l = Ran g.A.Answers.adds running_task l.initial.self.world l.self.world l.initial.tasks l.tasks l.initial.out l.out ×
     IsAtRest l.self × AreThere l.self.world l.tasks
 
 abbrev pub decreases-loop-task : goal.decreases-loop-task
-decreases-loop-task l = length l.tasks
+decreases-loop-task g l = length l.tasks

@@ -4,7 +4,7 @@ use Rattle.dom_commands.proofs.Closing.{Ran}
 use Rattle.dom_commands.proofs.machine.Machine.signal_slots.Given as goal
 
 abbrev pub invariant-loop-slot : goal.invariant-loop-slot
-invariant-loop-slot l =
-    Ran firing_slotchange l.initial.self.world l.self.world (map (name_at l.initial.self.names) l.slots)
-    (map (name_at l.initial.self.names) (drop l.slot-index l.slots)) l.initial.out.items l.out.items
+invariant-loop-slot g l =
+    Ran g.A.Answers.adds firing_slotchange l.initial.self.world l.self.world (map (name_at l.initial.self.names) l.slots)
+    (map (name_at l.initial.self.names) (drop l.slot-index l.slots)) l.initial.out l.out
     × IsAtRest l.self × (l.self.names ≡ l.initial.self.names)

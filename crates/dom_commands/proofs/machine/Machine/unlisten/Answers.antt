@@ -4,13 +4,15 @@ use Rattle.dom_commands.proofs.EventCommands.{listens_at, listens_in, stopped, u
 use Rattle.dom_commands.proofs.machine.Machine.unlisten.Goals as goal
 
 pub returns-in_err-admit-clause-handled : goal.returns-in_err-admit-clause-handled
-returns-in_err-admit-clause-handled c =
-    stopped c.self.inside.state c.self.inside.listeners _ c.self.view_is c.requires c.law_names_tell_nodes.ensures.there _ _ _ _ _ c.from_residual.ensures.1
-    (refused _ c.args.owner (Command.unlisten (word_view c.args.node) c.args.event.now c.args.label.now c.args.capture) (Any c.args.node ∷ []) _ _
+returns-in_err-admit-clause-handled g c =
+    stopped c.self.inside.state c.self.inside.listeners _ c.self.view_is c.requires c.law_names_tell_nodes.ensures.there _ _ g.A.Answers.adds _ _ _
+    c.from_residual.ensures.1
+    (refused g.A.Answers.adds _ c.args.owner (Command.unlisten (word_view c.args.node) c.args.event.now c.args.label.now c.args.capture)
+    (Any c.args.node ∷ []) _ _
     (search namings) c.admit.ensures c.in_err-admit.was c.from_residual.ensures.1)
 
 pub returns : goal.returns
-returns c =
+returns g c =
     let s = c.self.inside.state in
     let ls = c.self.inside.listeners in
     let changing = unlistening s ls c.args.self.now c.self.view_is c.requires c.law_names_tell_nodes.ensures.distinct c.law_names_tell_nodes.ensures.there
@@ -18,7 +20,7 @@ returns c =
     (may_act _ _ _ (Any c.args.node ∷ []) (search namings) c.admit.ensures c.in_ok-admit.was) in
     let now = c.unlisten.ensures in
     record {
-      handled = listens_in s c.accept.new.self ls c.unlisten.new.self changing c.accept.ensures.names now c.args.self.now c.self.view_is _ _ _
+      handled = listens_in s c.accept.new.self ls c.unlisten.new.self changing c.accept.ensures.names now g.A.Answers.adds c.args.self.now c.self.view_is _ _ _
           c.accept.ensures.done;
       listeners = listens_at s c.accept.new.self ls c.unlisten.new.self changing c.accept.ensures.names now c.accept.result;
     }
