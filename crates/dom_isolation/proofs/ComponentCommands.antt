@@ -67,7 +67,8 @@ outward_visits-agree w q x host bubbles f e =
     (views-exit is_page page-is_group w q.world x host k ∙ views-page q.world host None true (owner_eq-true host.owner Page k.inside) tt)
 
 -- Effects in a component's part show nothing.
-effect-other : (w : World) (k : ComponentName) (e : Effect) → KeepsBase (part_of w (Component k)) e → page_run (effect_in w (Component k) e) ≡ quiet (page_of w)
+pub effect-other : (w : World) (k : ComponentName) (e : Effect) → KeepsBase (part_of w (Component k)) e →
+    page_run (effect_in w (Component k) e) ≡ quiet (page_of w)
 effect-other w k (tables p lines v) h =
     let f = Component-IsNoPage k in
     let mine = h.0 ∙ owner-part_of w (Component k) in
@@ -139,7 +140,7 @@ dispatched-component {w} k i x e related h =
     ∙ ap (outward_run reached (page_of w)) (outward-same is_page w refl x e related)
 
 -- An attach writes two parts, neither of which is the page's.
-attaching-component : (w : World) (k : ComponentName) (x : NodeName) → page_run (attaching w (Component k) x) ≡ quiet (page_of w)
+pub attaching-component : (w : World) (k : ComponentName) (x : NodeName) → page_run (attaching w (Component k) x) ≡ quiet (page_of w)
 attaching-component w k x =
     let o = Component k in
     let p = part_of w o in

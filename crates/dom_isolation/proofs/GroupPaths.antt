@@ -35,7 +35,7 @@ module _ {X : Type 0} where
   find_same p q (x ∷ xs) a = ap (λ b. if b then Some x else find p xs) a.0 ∙ ap (λ r. if q x then Some x else r) (find_same p q xs a.1)
 
   -- what is found, or another thing
-  found-all : (P : X → Type 0) (p : X → Bool) (xs : List X) (d : X) → AllByRecursion P xs → P d → P (unwrap_or (find p xs) d)
+  pub found-all : (P : X → Type 0) (p : X → Bool) (xs : List X) (d : X) → AllByRecursion P xs → P d → P (unwrap_or (find p xs) d)
   found-all P p [] d a h = h
   found-all P p (x ∷ xs) d a h =
       by_cases (p x) (λ e. subst (λ o. P (unwrap_or o d)) (sym (cond-true (p x) (Some x) (find p xs) e)) a.0)
@@ -100,7 +100,7 @@ module _ (g : Owner → Bool) (closed : KeepsMakers g) (w : World) (ground : IsG
           all-append In (hosts_from depth w host) [] (deeper host (host-inside g closed w ground x.owner host (above-host w x host e).0 h)) tt
 
   -- the chain
-  chain-inside : (x : NodeName) → In x → AllByRecursion In (host_chain w x)
+  pub chain-inside : (x : NodeName) → In x → AllByRecursion In (host_chain w x)
   chain-inside x h = hosts-inside (owner_depth x.owner) x h
 
   -- the chain of hosts is the same in the group's own world

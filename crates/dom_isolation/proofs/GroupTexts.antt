@@ -2,14 +2,16 @@
 -- and around components. An owner's lines of output are those that begin with its word and a space.
 use Rattle.dom_base.proofs.Std.{◌≡◌, ◌<◌, ◌^◌, ℕ, List, [], ◌∷◌, map, Some, refl, sym, ap, ◌∙◌, inl, inr, arith, subst, Bool, true, false, not, ◌&&◌, cases_eq}
 use Rattle.dom_base.proofs.Std.{and_parts, not-true, AllByRecursion, decimal, get_or, decimal_digit, and-false, or_right}
-use Rattle.dom_model.proofs.Model.{Owner, Page, Component, Line, no_owner, no_command, command, outputs_of, first_world, step, owner_eq, Output, bad_owner}
+use Rattle.dom_model.proofs.Model.{Owner, Page, Component, Line, no_owner, no_command, command, outputs_of, first_world, run_lines, step, owner_eq, Output}
+use Rattle.dom_model.proofs.Model.{bad_owner}
 use Rattle.dom_model.proofs.Model.{says, is_in_family, family_group, makers_group, group_without, ends_other_turn, ends_group_turn, is_page, is_of}
 use Rattle.dom_model.proofs.Model.{owner_of_line, owner_of_output, outputs_for, owner_eq-true, owner_eq-same, owner_eq-false, ne-owner_eq, World, output_of}
 use Rattle.dom_model.proofs.Model.{turns_are_closed_from, group_turns_stand_from, SameFamily, SameFamilyWhileTurnsStand, SameComponent}
 use Rattle.dom_model.proofs.Model.{SameComponentWhileTurnsStand, SameAround, SameAroundWhileTurnsStand}
-use Rattle.dom_text.specs.Definitions.{decode, Says, BelongsTo, lines_of, lines_from, output_line, is_line_of, IsOwner, IsPositive, ArePositive, owner_word}
+use Rattle.dom_text.specs.Definitions.{decode, Says, BelongsTo, lines_of, lines_from, output_line, output_text, is_line_of, IsOwner, IsPositive, ArePositive}
+use Rattle.dom_text.specs.Definitions.{owner_word}
 use Rattle.dom_text.proofs.DecodeLaws.{decode_says}
-use Rattle.dom_text.proofs.TextLaws.{HasWord, IsOwner-owner_word, IsNumber-decimal, lines_from-outputs}
+use Rattle.dom_text.proofs.TextLaws.{HasWord, HasOwner, IsOwner-owner_word, IsNumber-decimal, lines_from-outputs}
 use Rattle.dom_isolation.specs.Definitions.{ReadsPlainWords, IsWordOf, ReadsOwners, DecodeReadsOwners, OwnLinesHaveTheirPrefix, SameFamilyText}
 use Rattle.dom_isolation.specs.Definitions.{SameFamilyTextWhileTurnsStand, SameGroupText, SameGroupTextWhileTurnsStand, SameComponentText}
 use Rattle.dom_isolation.specs.Definitions.{SameComponentTextWhileTurnsStand, SameAroundText, SameAroundTextWhileTurnsStand, SameGroupTextInFull}
@@ -17,9 +19,9 @@ use Rattle.dom_isolation.specs.Definitions.{SameFamilyTextInFull, SameComponentT
 use Rattle.dom_isolation.specs.Definitions.{SameComponentInFull, SameAroundInFull, AgreeWhileTurnsStand, AgreeWithClosedTurns, SameMember}
 use Rattle.dom_isolation.specs.Definitions.{SameMemberWhileTurnsStand}
 use Rattle.dom_worlds.proofs.ListLemmas.{all-from, all-map, filter_same, by_cases}
-use Rattle.dom_isolation.proofs.PageTexts.{output-has_its_lines}
+use Rattle.dom_isolation.proofs.PageTexts.{output-has_its_lines, output-has_its_lines_so_far}
 use Rattle.dom_isolation.proofs.Families.{family-is_group, makers-are_group, others-are_group, own-maker}
-use Rattle.dom_isolation.proofs.WordedRuns.{IsWordedInput, worded-outputs}
+use Rattle.dom_isolation.proofs.WordedRuns.{IsWordedInput, worded-outputs, worded-so_far}
 use Rattle.dom_isolation.proofs.GroupRuns.{same-group}
 use Rattle.dom_isolation.proofs.TouchedRuns.{same-group_in_full}
 use Rattle.dom_isolation.proofs.GroupSlots.{member-outputs}
@@ -145,16 +147,32 @@ line-is_of o bad_owner = refl
 line-is_of o (says p s) = owner_eq-turned p o
 
 module _ (read : List ℕ → Line) where
+  -- what lines of bytes say is of owners that lines are read of
+  worded-lines : ReadsOwners read → (lines : List (List ℕ)) → AllByRecursion IsWordedInput (map read lines)
+  worded-lines owners lines =
+      all-map IsWordedInput read lines (all-from (λ b. IsWordedInput (read b)) (λ b p e. word-of p (owner_word p) (owners b p e)) lines)
+
+  -- an owner's lines among lines of output
+  lines-for : (o : Owner) → IsWordOf o → (outputs : List Output) → AllByRecursion HasOwner outputs →
+      lines_from o (map output_line outputs) ≡ map output_line (outputs_for o outputs)
+  lines-for o t outputs worded =
+      lines_from-outputs o outputs (word-of o (owner_word o) t) worded
+      ∙ ap (map output_line) (filter_same (is_line_of o) (λ l. is_of (owner_eq o) (owner_of_output l)) outputs
+      (all-from (λ l. is_line_of o l ≡ is_of (owner_eq o) (owner_of_output l)) (line-is_of o) outputs))
+
   -- an owner's lines in the text of the output
   pub own_lines-have_their_prefix : ReadsOwners read → ReadsPlainWords read → OwnLinesHaveTheirPrefix read
   own_lines-have_their_prefix owners plain o t bytes =
       let lines = lines_of bytes in
-      let outputs = outputs_of (map read lines) in
-      let worded = worded-outputs (map read lines)
-      (all-map IsWordedInput read lines (all-from (λ b. IsWordedInput (read b)) (λ b p e. word-of p (owner_word p) (owners b p e)) lines)) in
-      ap (lines_from o) (output-has_its_lines read plain lines) ∙ lines_from-outputs o outputs (word-of o (owner_word o) t) worded
-      ∙ ap (map output_line) (filter_same (is_line_of o) (λ l. is_of (owner_eq o) (owner_of_output l)) outputs
-      (all-from (λ l. is_line_of o l ≡ is_of (owner_eq o) (owner_of_output l)) (line-is_of o) outputs))
+      ap (lines_from o) (output-has_its_lines read plain lines)
+      ∙ lines-for o t (outputs_of (map read lines)) (worded-outputs (map read lines) (worded-lines owners lines))
+
+  -- so far
+  pub own_lines-have_their_prefix_so_far : ReadsOwners read → ReadsPlainWords read → (o : Owner) → IsWordOf o → (lines : List (List ℕ)) →
+      let outputs = (run_lines first_world (map read lines)).1 in lines_from o (lines_of (output_text outputs)) ≡ map output_line (outputs_for o outputs)
+  own_lines-have_their_prefix_so_far owners plain o t lines =
+      ap (lines_from o) (output-has_its_lines_so_far read plain lines)
+      ∙ lines-for o t (run_lines first_world (map read lines)).1 (worded-so_far (map read lines) (worded-lines owners lines))
 
   -- Two texts: a member of a group,
   pub same-group_text_while_turns_stand : ReadsOwners read → ReadsPlainWords read → SameGroupTextWhileTurnsStand read

@@ -148,7 +148,7 @@ pub page_of-with_part : (w : World) (p : Part) → p.owner ≡ Page → page_of 
 page_of-with_part w p h = ap (λ q. record (page_of w) { part = q }) (part_of-with_part w p Page h)
 
 -- an effect in the page's part is the page machine's
-effect-page : (w : World) (e : Effect) → KeepsBase (part_of w Page) e → page_run (effect_in w Page e) ≡ page_effect (page_of w) e
+pub effect-page : (w : World) (e : Effect) → KeepsBase (part_of w Page) e → page_run (effect_in w Page e) ≡ page_effect (page_of w) e
 effect-page w (tables p lines v) h =
     let here = page_of-with_part w p (h.0 ∙ owner-part_of w Page) in
     run_then-square (with_part w p, map (says Page) lines) (answering Page v) (answering Page v) refl
@@ -157,7 +157,7 @@ effect-page w (tables p lines v) h =
 effect-page w (changes steps v) h = ap (λ s. answering Page v s) (page_of-world_after w steps)
 
 -- The commands that are no effects.
-attaching-page : (w : World) (x : NodeName) → page_run (attaching w Page x) ≡ page_attaching (page_of w) x
+pub attaching-page : (w : World) (x : NodeName) → page_run (attaching w Page x) ≡ page_attaching (page_of w) x
 attaching-page w x =
     let p = part_of w Page in
     let c = component_made Page (length p.attached) in
@@ -175,7 +175,7 @@ owner-last [] (Some y) x h g e = g.0
 owner-last (y ∷ xs) o x h g e = owner-last xs (Some y) x h.1 (h.0, tt) e
 
 -- a page node is connected where its root is a document
-connected-page : (w : World) → IsWorld w → (x : NodeName) → x.owner ≡ Page →
+pub connected-page : (w : World) → IsWorld w → (x : NodeName) → x.owner ≡ Page →
     is_connected w x ≡ is_document (kind_of (part_of w Page).trees (root_of (part_of w Page).trees x))
 connected-page w i x h =
     let up = ancestors_at w x in
@@ -186,11 +186,11 @@ connected-page w i x h =
     ∙ ap (λ o. is_document (kind_of (part_of w Page).trees (root_of (part_of w o).trees x))) h
 
 -- of the page
-page_named : (w : World) (x : NodeWord) → (named (part_of w Page) x).owner ≡ Page
+pub page_named : (w : World) (x : NodeWord) → (named (part_of w Page) x).owner ≡ Page
 page_named w x = owner-named (part_of w Page) x ∙ owner-part_of w Page
 
 -- and a related one too
-page_related : (w : World) (o : Option NodeWord) → AllByRecursion (IsOf Page) (option_to_list (option_map (named (part_of w Page)) o))
+pub page_related : (w : World) (o : Option NodeWord) → AllByRecursion (IsOf Page) (option_to_list (option_map (named (part_of w Page)) o))
 page_related w None = tt
 page_related w (Some x) = (page_named w x, tt)
 

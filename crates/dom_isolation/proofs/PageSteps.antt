@@ -20,7 +20,7 @@ use Rattle.dom_isolation.specs.Definitions.{LogsEvent}
 use Rattle.dom_isolation.proofs.GroupSlots.{any-kept, added-in, filter-sub, member-outputs, part-in}
 use Rattle.dom_isolation.proofs.Touches.{all-first, alike-start, visits-touched}
 use Rattle.dom_isolation.proofs.OwnVisits.{in_view, group_visits, seen, seen-visited, lines-outside}
-use Rattle.dom_isolation.proofs.FullTraces.{flags-visited}
+use Rattle.dom_isolation.proofs.QuietVisits.{flags-visited}
 
 -- an owner's lines of two lists
 pub outputs_for-append : (o : Owner) (xs ys : List Output) → outputs_for o (xs ++ ys) ≡ outputs_for o xs ++ outputs_for o ys

@@ -1,6 +1,7 @@
 -- Whole scripts: the page's part and the page's output are the page machine's on the full trace; and where no component listener stops or cancels, on the
 -- trace. Of texts: the page's lines of input and of output are those that begin with `p `, and the text of the output has the lines that were written.
-use Rattle.dom_base.proofs.Std.{◌≡◌, ◌≢◌, ℕ, true, List, [], ◌∷◌, ◌++◌, map, flat_map, Option, Some, None, refl, sym, ap, ◌∙◌, true≢false, false, not, ◌&&◌}
+use Rattle.dom_base.proofs.Std.{◌≡◌, ◌≢◌, ℕ, Bool, true, List, [], ◌∷◌, ◌++◌, map, flat_map, Option, Some, None, refl, sym, ap, ◌∙◌, true≢false, false, not}
+use Rattle.dom_base.proofs.Std.{◌&&◌}
 use Rattle.dom_base.proofs.Std.{append_assoc, option_to_list, cond-true, cond-false, false_from_ne_true, and_parts, AllByRecursion, flat_map-append}
 use Rattle.dom_model.proofs.Model.{Owner, Page, Component, Command, Line, no_owner, no_command, command, is_command_of, step, first_world, run_lines}
 use Rattle.dom_model.proofs.Model.{outputs_of, finish, Output, bad_owner, says, Run, run_then, run_each, PageState, page_outputs_of, first_page, page_of}
@@ -15,13 +16,14 @@ use Rattle.dom_isolation.specs.Definitions.{turn_ended, plain_items, full_trace_
 use Rattle.dom_isolation.specs.Definitions.{run_page_under, full_lines_in, FullTraceHasPageLines, PageLinesAgreeInFull, PageLinesAgreeSoFarInFull}
 use Rattle.dom_isolation.specs.Definitions.{PageTextAgreesInFull, SamePageTextInFull, PickedLinesAgreeInFull, PickedLinesAgreeSoFarInFull, PageRunAgreesInFull}
 use Rattle.dom_isolation.specs.Definitions.{PageAgreesInFull, PageSeesItsFullTrace, SamePageInFull, FullTraceGoesOn, PageOutputGoesOnInFull, IsPlainLine}
+use Rattle.dom_isolation.specs.Definitions.{HasPlainWords}
 use Rattle.dom_isolation.specs.Definitions.{ReadsPlainWords, OutputHasItsLines, OutputHasItsLinesSoFar, PickedLinesAgree, PickedLinesAgreeSoFar, page_run}
 use Rattle.dom_isolation.specs.Definitions.{PageRunAgrees, TraceGoesOn, PageOutputGoesOn, FirstLinesStopNothing}
 use Rattle.dom_worlds.proofs.ListLemmas.{by_cases, all-from, all-map}
 use Rattle.dom_worlds.proofs.WorldLemmas.{quiet-first, quiet-step}
 use Rattle.dom_isolation.proofs.FullTraces.{full_trace-is_trace, trace-untouched, run-plain}
-use Rattle.dom_isolation.proofs.PlainCommands.{plain-saying}
-use Rattle.dom_isolation.proofs.SaidRuns.{says-outputs, says-so_far}
+use Rattle.dom_isolation.proofs.PlainCommands.{plain-saying, plain-good}
+use Rattle.dom_isolation.proofs.SaidRuns.{says-outputs, says-so_far, IsGood}
 use Rattle.dom_isolation.proofs.PlainLines.{lines_of-output}
 use Rattle.dom_worlds.specs.Definitions.{Invariant}
 use Rattle.dom_isolation.proofs.PageSteps.{run_then-square}
@@ -86,22 +88,20 @@ module _ {L : Type 0} (read : L → Line) where
   pub same-page_in_full : SamePageInFull read
   same-page_in_full ls ms e = page-sees_its_full_trace ls ∙ ap (page_outputs_under read) e ∙ sym (page-sees_its_full_trace ms)
 
-  -- lines and more lines
-  full_trace-on : (ls more : List L) (w : World) →
-      full_trace_from read is_page w (ls ++ more)
-      ≡ full_trace_from read is_page w ls ++ full_trace_from read is_page (run_lines w (map read ls)).0 more
-  full_trace-on [] more w = refl
-  full_trace-on (l ∷ ls) more w =
+  -- lines and more lines, for any owners
+  pub full_trace-on : (kept : Owner → Bool) (ls more : List L) (w : World) →
+      full_trace_from read kept w (ls ++ more) ≡ full_trace_from read kept w ls ++ full_trace_from read kept (run_lines w (map read ls)).0 more
+  full_trace-on kept [] more w = refl
+  full_trace-on kept (l ∷ ls) more w =
       let v = (step w (read l)).0 in
-      ap (λ items. full_items read is_page w l ++ items) (full_trace-on ls more v)
-      ∙ sym (append_assoc (full_items read is_page w l) (full_trace_from read is_page v ls)
-      (full_trace_from read is_page (run_lines v (map read ls)).0 more))
+      ap (λ items. full_items read kept w l ++ items) (full_trace-on kept ls more v)
+      ∙ sym (append_assoc (full_items read kept w l) (full_trace_from read kept v ls) (full_trace_from read kept (run_lines v (map read ls)).0 more))
 
   -- of a script
   pub full_trace-goes_on : FullTraceGoesOn read
   full_trace-goes_on ls more =
       let rest = full_trace_from read is_page (run_lines first_world (map read ls)).0 more in
-      let on = full_trace-on ls more first_world in
+      let on = full_trace-on is_page ls more first_world in
       (on, ap (run_page_under read first_page) on ∙ run_each-append (step_page_under read) first_page (full_trace_of read ls) rest)
 
   -- what the page machine writes for the lines so far, and then for more of them and the ending
@@ -109,7 +109,7 @@ module _ {L : Type 0} (read : L → Line) where
   page_output-goes_on_in_full ls more =
       let rest = full_trace_from read is_page (run_lines first_world (map read ls)).0 more in
       let front = front-of (step_page_under read) first_page (full_trace_of read ls) rest in
-      (front.0, ap (page_outputs_under read) (full_trace-on ls more first_world) ∙ front.1)
+      (front.0, ap (page_outputs_under read) (full_trace-on is_page ls more first_world) ∙ front.1)
 
   -- Where no component listener stops or cancels: the page machine on the full trace is that on the trace.
   pub told-nothing : (ls : List L) → no_component_stops read ls ≡ true →
@@ -140,7 +140,7 @@ module _ {L : Type 0} (read : L → Line) where
       let v = (run_lines first_world (map read ls)).0 in
       let Plain = flat_map (plain_items {L = L}) in
       sym (full_trace-is_trace read is_page first_world (ls ++ more))
-      ∙ ap Plain (full_trace-on ls more first_world)
+      ∙ ap Plain (full_trace-on is_page ls more first_world)
       ∙ flat_map-append plain_items (full_trace_of read ls) (full_trace_from read is_page v more)
       ∙ ap (λ items. items ++ Plain (full_trace_from read is_page v more)) (full_trace-is_trace read is_page first_world ls)
       ∙ ap (λ items. trace_of read ls ++ items) (full_trace-is_trace read is_page v more)
@@ -307,8 +307,10 @@ foreign_line-is_refused w bytes o c off e h =
 
 module _ (read : List ℕ → Line) where
   -- what lines of bytes say has such words
-  plain-lines : ReadsPlainWords read → (lines : List (List ℕ)) → AllByRecursion IsPlainLine (map read lines)
-  plain-lines h lines = all-map IsPlainLine read lines (all-from (λ bytes. IsPlainLine (read bytes)) h lines)
+  plain-lines : ReadsPlainWords read → (lines : List (List ℕ)) → AllByRecursion (IsGood IsPlainLine (λ o c. HasPlainWords c)) (map read lines)
+  plain-lines h lines =
+      all-map (IsGood IsPlainLine (λ o c. HasPlainWords c)) read lines
+      (all-from (λ bytes. IsGood IsPlainLine (λ o c. HasPlainWords c) (read bytes)) (λ bytes. plain-good (read bytes) (h bytes)) lines)
 
   -- the lines of the text are those that were written
   pub output-has_its_lines : ReadsPlainWords read → OutputHasItsLines read

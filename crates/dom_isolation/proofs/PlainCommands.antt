@@ -1,6 +1,7 @@
 -- Words without line feeds in worlds and in what is said: steps, visits, notifications and commands keep them and say no others, and so does every script.
 use Rattle.dom_base.proofs.Std.{ℕ, List, [], ◌∷◌, ◌++◌, not, Option, Some, None, Bool, filter, map, fold, ⊤, slice_set, AllByRecursion, list_any, option_map_or}
-use Rattle.dom_model.proofs.Model.{Owner, Page, Component, NodeName, name_eq, Command, ListenerWords, EventWords, effect, named, first_world, Effect, tables}
+use Rattle.dom_model.proofs.Model.{Owner, Page, Component, NodeName, name_eq, Command, Line, no_owner, no_command, command, ListenerWords, EventWords, effect}
+use Rattle.dom_model.proofs.Model.{named, first_world, Effect, tables}
 use Rattle.dom_model.proofs.Model.{changes, sets_walker, node_or_null, string_or_null, Listener, is_listener, with_listener_added, Visit, Dispatching}
 use Rattle.dom_model.proofs.Model.{after_invoke, after_inner_invoke, hears, with_listener_removed, kept_after, after_action, may_cancel, line_of, Value, a_tree}
 use Rattle.dom_model.proofs.Model.{says, recorded, Output, bad_owner, Said, replied, refused, event_seen, micro_ran, Change, EventLine, Part, queue_of, Walker}
@@ -12,7 +13,7 @@ use Rattle.dom_worlds.proofs.CommandLemmas.{Makes, MayDo, made-effect}
 use Rattle.dom_worlds.proofs.WorldLemmas.{IsKeptIn}
 use Rattle.dom_isolation.proofs.PlainWords.{IsPlainNode, IsPlainListener, IsPlainQueue, IsPlainPart, IsPlainStep, plain-queue, plain-rules}
 use Rattle.dom_isolation.proofs.PlainWords.{IsPlainChange, plain-part_step}
-use Rattle.dom_isolation.proofs.SaidRuns.{KeepsSaying, SaysEffect, HasNoTree}
+use Rattle.dom_isolation.proofs.SaidRuns.{KeepsSaying, SaysEffect, HasNoTree, IsGood}
 use Rattle.dom_worlds.specs.Definitions.{AllNodes}
 
 -- A task, a world and what is said, with such words.
@@ -183,7 +184,7 @@ plain-replied (a_tree ts) h = absurd h
 plain-replied v h = tt
 
 -- what is asked of runs
-pub plain-saying : KeepsSaying IsPlainPart IsPlainStep IsPlainTask IsPlainOutput IsPlainLine
+pub plain-saying : KeepsSaying IsPlainPart IsPlainStep IsPlainTask IsPlainOutput IsPlainLine (λ o c. HasPlainWords c)
 plain-saying = record {
   steps = plain-steps;
   visit = λ e v p d o i g. let k = plain-visited e v (record d { listeners = p.listeners }) (i.1, g) in ((i.0, k.0, i.2), k.1);
@@ -203,3 +204,9 @@ plain-saying = record {
     first : (o : Owner) → IsPlainPart (part_of first_world o)
     first Page = (((tt, tt), tt, tt), tt, tt)
     first (Component k) = (tt, tt, tt)
+
+-- a line with such words
+pub plain-good : (l : Line) → IsPlainLine l → IsGood IsPlainLine (λ o c. HasPlainWords c) l
+plain-good no_owner h w = tt
+plain-good (no_command o) h w = tt
+plain-good (command o c) h w = (h, λ e. h)

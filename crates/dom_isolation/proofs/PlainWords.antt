@@ -1,7 +1,7 @@
 -- Words without line feeds in parts and worlds, and what steps and plans do to them.
 use Rattle.dom_base.proofs.Std.{ℕ, zero, suc, Bool, List, [], ◌∷◌, ◌++◌, fold, Option, Some, None, if◌then◌else◌, ⊤, ◌==◌, ◌&&◌, slice_set}
 use Rattle.dom_base.proofs.Std.{AllByRecursion, list_any, option_map_or}
-use Rattle.dom_model.proofs.Model.{NodeName, Word, DomString, name_eq, is_in, text_eq, Node, Attribute, nodes, node_in, children_of, parent_of}
+use Rattle.dom_model.proofs.Model.{NodeName, Word, DomString, name_eq, is_in, text_eq, Node, Attribute, node_in, children_of, parent_of}
 use Rattle.dom_model.proofs.Model.{inclusive_ancestors, inclusive_descendants, with_name, with_document, with_data_replaced, with_attribute}
 use Rattle.dom_model.proofs.Model.{attributes_with, attributes_without, pieces_of, Listener, Registration, target_of, without_old, fitting}
 use Rattle.dom_model.proofs.Model.{asks_for_old, Change, child_list, attributes, character_data, Part, next_name, queue_of, Step, make, place, take_out}

@@ -9,6 +9,10 @@ use Rattle.dom_isolation.proofs.PageTexts.{page-sees_its_trace, page_run-agrees_
 use Rattle.dom_isolation.proofs.PageTexts.{page_output-goes_on_in_full, page_output-goes_on, first_lines-stop_nothing, same-page, same-page_in_full}
 use Rattle.dom_isolation.proofs.Families.{page-host_is_page, family-host_is_page}
 use Rattle.dom_isolation.proofs.TouchedRuns.{group-sees_its_full_trace, same-group_in_full}
+use Rattle.dom_isolation.proofs.GroupStates.{group-agrees_in_full, same-group_so_far_in_full, group_trace-goes_on, member_output-goes_on}
+use Rattle.dom_isolation.proofs.GroupStates.{member_lines-agree_so_far_in_full, member_lines-agree_in_full}
+use Rattle.dom_isolation.proofs.StrategyRuns.{same-by_strategy, same-by_strategies, same-to_end_by_strategy, same-page_by_strategy}
+use Rattle.dom_isolation.proofs.StrategyRuns.{plays-follow}
 use Rattle.dom_isolation.proofs.GroupRuns.{group-sees_its_trace, same-group}
 use Rattle.dom_isolation.proofs.GroupTexts.{same-component_while_turns_stand, same-component, same-component_text, same-component_text_while_turns_stand}
 use Rattle.dom_isolation.proofs.GroupTexts.{same-family_text, same-family_text_while_turns_stand, decode-reads_owners, own_lines-have_their_prefix}
@@ -85,3 +89,16 @@ pub ruleset around_laws = (same-around_while_turns_stand, same-around)
 
 -- of `same_around_text`
 pub ruleset around_text_laws = (same-around_text, same-around_text_while_turns_stand)
+
+-- of `same_by_strategy`
+pub ruleset strategy_laws = (same-by_strategy, same-by_strategies, same-to_end_by_strategy, same-page_by_strategy, plays-follow)
+
+-- of `group_agrees_in_full`
+pub ruleset state_laws = (
+  group-agrees_in_full,
+  same-group_so_far_in_full,
+  group_trace-goes_on,
+  member_output-goes_on,
+  member_lines-agree_so_far_in_full,
+  member_lines-agree_in_full,
+)

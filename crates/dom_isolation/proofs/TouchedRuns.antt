@@ -18,21 +18,25 @@ use Rattle.dom_isolation.proofs.TouchedLines.{line-follows, others-alike, others
 use Rattle.dom_isolation.proofs.TouchedTurns.{ending_any-follows}
 
 -- The world of a script, and the one of the silent run on its full trace: of both the group has the same.
-record IsFullPair (g : Owner → Bool) (w v : World) : Type 0 where
-  same : group_world g w ≡ group_world g v
-  left : IsReached false w
-  whole : IsWhole w
-  right : Invariant false v
-  calm : IsCalm g w
+pub record IsFullPair (g : Owner → Bool) (w v : World) : Type 0 where
+  pub same : group_world g w ≡ group_world g v
+  pub left : IsReached false w
+  pub whole : IsWhole w
+  pub right : Invariant false v
+  pub calm : IsCalm g w
+
+-- they begin as one
+pub pair-first : (g : Owner → Bool) → IsFullPair g first_world first_world
+pair-first g = record { same = refl; left = first-is_reached false; whole = first-is_whole; right = quiet-first; calm = λ h. refl }
 
 -- the group has the same in them
 pair-same : {g : Owner → Bool} {w v : World} → IsFullPair g w v → IsSameWorld g w v
 pair-same k = record { first = any_world k.left.world; second = k.right; same = k.same }
 
 -- runs to two such worlds, of which the group has the same
-record AreFullRuns (g : Owner → Bool) (r s : Run World) : Type 0 where
-  shown : group_run g r ≡ group_run g s
-  pair : IsFullPair g r.0 s.0
+pub record AreFullRuns (g : Owner → Bool) (r s : Run World) : Type 0 where
+  pub shown : group_run g r ≡ group_run g s
+  pub pair : IsFullPair g r.0 s.0
 
 module _ (g : Owner → Bool) (closed : KeepsMakers g) {L : Type 0} (read : L → Line) where
   -- Items of another's line: an outward event,
@@ -75,7 +79,7 @@ module _ (g : Owner → Bool) (closed : KeepsMakers g) {L : Type 0} (read : L �
   }
 
   -- One line, by its items of the full trace.
-  line-items : (w v : World) → IsFullPair g w v → (l : L) → AreFullRuns g (step w (read l)) (run_each (silent_step_under g read) v (full_items read g w l))
+  pub line-items : (w v : World) → IsFullPair g w v → (l : L) → AreFullRuns g (step w (read l)) (run_each (silent_step_under g read) v (full_items read g w l))
   line-items w v k l = by_cases kept mine theirs
     where
       kept : Bool
@@ -105,7 +109,7 @@ module _ (g : Owner → Bool) (closed : KeepsMakers g) {L : Type 0} (read : L �
           (subst (AreFullRuns g (step w (read l))) (sym (items-others w v l)) runs)
 
   -- lines from a world on
-  lines-full : (ls : List L) (w v : World) → IsFullPair g w v →
+  pub lines-full : (ls : List L) (w v : World) → IsFullPair g w v →
       AreFullRuns g (run_lines w (map read ls)) (run_each (silent_step_under g read) v (full_trace_from read g w ls))
   lines-full [] w v k = record { shown = ap (λ u. (u, [])) k.same; pair = k }
   lines-full (l ∷ ls) w v k =
@@ -126,14 +130,7 @@ module _ (g : Owner → Bool) (closed : KeepsMakers g) {L : Type 0} (read : L �
   sees-full : (ls : List L) →
       group_outputs g (output_of read ls) ≡ group_outputs g (silent_output_under g read (full_trace_from read g first_world ls) (records_at_end read g ls))
   sees-full ls =
-      let start : IsFullPair g first_world first_world = record {
-        same = refl;
-        left = first-is_reached false;
-        whole = first-is_whole;
-        right = quiet-first;
-        calm = λ h. refl;
-      } in
-      let k = lines-full ls first_world first_world start in
+      let k = lines-full ls first_world first_world (pair-first g) in
       let all = run_lines first_world (map read ls) in
       let silent = run_each (silent_step_under g read) first_world (full_trace_from read g first_world ls) in
       let last = records_at_end read g ls in

@@ -3,7 +3,8 @@
 use Rattle.dom_base.proofs.Std.{◌≡◌, ◌⊎◌, inl, inr, Bool, List, [], ◌∷◌, ◌++◌, flat_map, fold, Option, Some, None, refl, sym, ap, ◌∙◌, subst, ⊤, nat_eq}
 use Rattle.dom_base.proofs.Std.{AllByRecursion, option_map_or}
 use Rattle.dom_model.proofs.Model.{Owner, Page, Component, NodeName, Action, Log, name_eq, append_once, parent_of, inclusive_ancestors, Command, Line}
-use Rattle.dom_model.proofs.Model.{EventWords, effect, first_world, outputs_of, Effect, tables, changes, Listener, Visit, Dispatching, after_invoke}
+use Rattle.dom_model.proofs.Model.{no_owner, no_command, command}
+use Rattle.dom_model.proofs.Model.{EventWords, effect, first_world, run_lines, outputs_of, Effect, tables, changes, Listener, Visit, Dispatching, after_invoke}
 use Rattle.dom_model.proofs.Model.{kept_after, after_action, may_cancel, line_of, interested, target_of, transients_for, without_transients, Output}
 use Rattle.dom_model.proofs.Model.{bad_owner, says, Part, Step, take_out, queue_record, part_step, leave, notified, notified_lines, records_of, Task}
 use Rattle.dom_model.proofs.Model.{micro_task, notify_task, part_of, owner_of_line, owner-part_step, none_interested, none_transient}
@@ -14,7 +15,7 @@ use Rattle.dom_worlds.proofs.WorldLemmas.{IsKeptIn}
 use Rattle.dom_worlds.proofs.TurnLemmas.{call}
 use Rattle.dom_isolation.proofs.GroupTurns.{IsLineOf, lines-notified}
 use Rattle.dom_isolation.proofs.OwnVisits.{kept-visited}
-use Rattle.dom_isolation.proofs.SaidRuns.{KeepsSaying, SaysEffect, IsSaidEvent, says-outputs}
+use Rattle.dom_isolation.proofs.SaidRuns.{KeepsSaying, SaysEffect, IsSaidEvent, IsGood, says-outputs, says-so_far}
 
 -- a part that says nothing of its own: no listeners, registrations and pending observers
 abbrev IsSilent : Part → Type 0
@@ -113,7 +114,7 @@ worded-effect o c p e t = from (effect p c) (base-effect p c)
     from (changes steps v) k = (all-from (λ s. ⊤) (λ s. tt) steps, t)
 
 -- what is asked of runs
-worded-saying : KeepsSaying IsWorded (λ s. ⊤) IsWordedTask HasOwner IsWordedInput
+worded-saying : KeepsSaying IsWorded (λ s. ⊤) IsWordedTask HasOwner IsWordedInput (λ o c. HasWord o)
 worded-saying = record {
   steps = worded-steps;
   visit = worded-visit;
@@ -122,11 +123,11 @@ worded-saying = record {
   nobody = tt;
   wordless = λ o h. h o refl;
   refused = λ o c r h. h o refl;
-  replied = λ o c v n h. h o refl;
-  micro = λ o label h. h o refl;
+  replied = λ o c v n h. h;
+  micro = λ o label h. h;
   attached = λ p x i. i;
   root = λ o d. inr (refl, refl, refl);
-  effect = λ o c p e i h. worded-effect o c p e (h o refl);
+  effect = λ o c p e i h. worded-effect o c p e h;
   first = first;
 }
   where
@@ -134,6 +135,16 @@ worded-saying = record {
     first Page = inr (refl, refl, refl)
     first (Component k) = inr (refl, refl, refl)
 
+-- a line of such an owner
+worded-good : (l : Line) → IsWordedInput l → IsGood IsWordedInput (λ o c. HasWord o) l
+worded-good no_owner h w = tt
+worded-good (no_command o) h w = h
+worded-good (command o c) h w = (h, λ e. h o refl)
+
 -- all lines of output of a script
 pub worded-outputs : (ls : List Line) → AllByRecursion IsWordedInput ls → AllByRecursion HasOwner (outputs_of ls)
-worded-outputs ls h = says-outputs worded-saying ls h
+worded-outputs ls h = says-outputs worded-saying ls (all-then IsWordedInput (IsGood IsWordedInput (λ o c. HasWord o)) worded-good ls h)
+
+-- so far
+pub worded-so_far : (ls : List Line) → AllByRecursion IsWordedInput ls → AllByRecursion HasOwner (run_lines first_world ls).1
+worded-so_far ls h = says-so_far worded-saying ls (all-then IsWordedInput (IsGood IsWordedInput (λ o c. HasWord o)) worded-good ls h)

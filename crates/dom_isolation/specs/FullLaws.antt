@@ -1,6 +1,7 @@
 -- The isolation laws with interference, each about one step of the two machines; and the laws that keep interference honest: that others have to
 -- act to leave any, that it is small, and that it only adds to the trace.
-use Rattle.std.specs.Prelude.{◌≡◌, ◌≤◌, ℕ, Bool, true, false, ◌||◌, IsTrue, List, [], filter, flat_map, fold, length, Option, None, Some, option_to_list}
+use Rattle.std.specs.Prelude.{◌≡◌, ◌≤◌, ◌<◌, ℕ, Bool, true, false, ◌||◌, IsTrue, List, [], ◌∷◌, ◌++◌, filter, flat_map, fold, length}
+use Rattle.std.specs.Prelude.{Option, None, Some, option_to_list}
 use Rattle.std.specs.List.{AllByRecursion}
 use Rattle.dom_base.specs.declared.Owner.{Owner}
 use Rattle.dom_base.specs.declared.Owner.TheVariants.{Page}
@@ -9,7 +10,7 @@ use Rattle.dom_model.specs.Names.{Word, text_eq, name_eq}
 use Rattle.dom_model.specs.Command.{Line, EventWords}
 use Rattle.dom_model.specs.Listeners.{Listener, Visit, Dispatching, begun}
 use Rattle.dom_model.specs.Output.{EventLine}
-use Rattle.dom_model.specs.Groups.{group_world}
+use Rattle.dom_model.specs.Groups.{KeepsMakers, group_world}
 use Rattle.dom_model.specs.Paths.{views}
 use Rattle.dom_model.specs.Runs.{run_each}
 use Rattle.dom_model.specs.World.{World, part_of}
@@ -61,6 +62,37 @@ InterferenceIsSmall =
     (group : Owner → Bool) (w : World) (x : NodeName) (related : Option NodeName) (e : EventWords) (k : ℕ) →
     (interference_at group w x related e).reached ≡ Some k →
     k ≤ length (filter (is_own_visit group) (visits_of name_eq e.bubbles (views w x related e.composed)))
+
+-- The first visit of an event is at a node of the group, if any visit is: the event is visited from the end of its path, which is a root, and a root is in
+-- no slot.
+abbrev pub FirstVisitIsOwn : Type 0
+FirstVisitIsOwn =
+    (group : Owner → Bool) → KeepsMakers group → (w : World) → IsWorld w → (x : NodeName) (related : Option NodeName) (e : EventWords)
+    (v : Visit NodeName) (vs : List (Visit NodeName)) → visits_of name_eq e.bubbles (views w x related e.composed) ≡ v ∷ vs →
+    1 ≤ length (filter (is_own_visit group) (v ∷ vs)) → IsTrue (is_own_visit group v)
+
+-- So others can't keep an event that comes to the group from the first of the group's visits, which is to the outermost of its nodes on the path, while the
+-- event captures.
+abbrev pub InterferenceLeavesFirst : Type 0
+InterferenceLeavesFirst =
+    (group : Owner → Bool) → KeepsMakers group → (w : World) → IsWorld w → (x : NodeName) (related : Option NodeName) (e : EventWords) (k : ℕ) →
+    1 ≤ length (filter (is_own_visit group) (visits_of name_eq e.bubbles (views w x related e.composed))) →
+    (interference_at group w x related e).reached ≡ Some k → 1 ≤ k
+
+-- The last visit of an event is at a node of the group, if any visit is: it is to the outermost of its nodes on the path, or to the outermost one that
+-- sees itself as the target.
+abbrev pub LastVisitIsOwn : Type 0
+LastVisitIsOwn =
+    (group : Owner → Bool) → KeepsMakers group → (w : World) → IsWorld w → (x : NodeName) (related : Option NodeName) (e : EventWords)
+    (vs : List (Visit NodeName)) (v : Visit NodeName) → visits_of name_eq e.bubbles (views w x related e.composed) ≡ vs ++ v ∷ [] →
+    1 ≤ length (filter (is_own_visit group) (vs ++ v ∷ [])) → IsTrue (is_own_visit group v)
+
+-- So where others are told to have stopped an event that comes to the group, they kept it from the last of the group's visits.
+abbrev pub InterferenceTakesLast : Type 0
+InterferenceTakesLast =
+    (group : Owner → Bool) → KeepsMakers group → (w : World) → IsWorld w → (x : NodeName) (related : Option NodeName) (e : EventWords) (k : ℕ) →
+    let own = filter (is_own_visit group) (visits_of name_eq e.bubbles (views w x related e.composed)) in
+    1 ≤ length own → (interference_at group w x related e).reached ≡ Some k → k < length own
 
 -- No event of the ending of a turn comes to a page node, so nothing is told of it: a line of the page has one record at most, that of its dispatch.
 abbrev pub EndingsAreNotTold : Type 0

@@ -13,4 +13,8 @@ pub mod Agreement
 pub mod SilentRuns
 pub mod FullGroups
 pub mod GroupTexts
+pub mod QuietTypes
+pub mod SeenNodes
+pub mod GroupStates
+pub mod Strategies
 pub mod Definitions

@@ -1,6 +1,7 @@
 //! What a group of owners, which has the page and with each component its maker, sees of all others are their outward events: the laws on
 //! groups, families and components.
-ghost use Rattle.std.specs.Prelude.{List, ℕ};
+ghost use Rattle.std.specs.Prelude.{List, ℕ, Bool};
+ghost use Rattle.dom_base.specs.declared.Owner.{Owner};
 ghost use Rattle.dom_model.specs.Command.{Line};
 ghost use Rattle.dom_model.specs.Isolation.{GroupSeesItsTrace, SameGroup, SamePage, SameFamily, SameFamilyWhileTurnsStand};
 ghost use Rattle.dom_model.specs.Isolation.{SameComponent, SameComponentWhileTurnsStand, SameAround, SameAroundWhileTurnsStand};
@@ -15,6 +16,9 @@ ghost use Rattle.dom_isolation.specs.GroupTexts.{SameGroupTextInFull, SameFamily
 ghost use Rattle.dom_isolation.specs.GroupTexts.{ReadsOwners, DecodeReadsOwners, OwnLinesHaveTheirPrefix, SameGroupText, SameGroupTextWhileTurnsStand};
 ghost use Rattle.dom_isolation.specs.GroupTexts.{SameFamilyText, SameFamilyTextWhileTurnsStand, SameComponentText, SameComponentTextWhileTurnsStand};
 ghost use Rattle.dom_isolation.specs.GroupTexts.{SameAroundText, SameAroundTextWhileTurnsStand};
+ghost use Rattle.dom_isolation.specs.GroupStates.{GroupAgreesInFull, SameGroupSoFarInFull, GroupTraceGoesOn, MemberOutputGoesOn};
+ghost use Rattle.dom_isolation.specs.GroupStates.{MemberLinesAgreeSoFarInFull, MemberLinesAgreeInFull};
+ghost use Rattle.dom_isolation.specs.Strategies.{Strategy, SameByStrategy, SameByStrategies, SameToEndByStrategy, SamePageByStrategy, PlaysFollow};
 
 /// Groups that have the page, and with each component its maker, are the page alone, the page with a family, the page with a component and
 /// its makers, and all who are not inside a component.
@@ -149,4 +153,33 @@ pub fn same_group_text_in_full()
     ensures family { (read : List ℕ → Line) → ReadsOwners read → ReadsPlainWords read → SameFamilyTextInFull read }
     ensures component { (read : List ℕ → Line) → ReadsOwners read → ReadsPlainWords read → SameComponentTextInFull read }
     ensures around { (read : List ℕ → Line) → ReadsOwners read → ReadsPlainWords read → SameAroundTextInFull read }
+{}
+
+/// After every line of a script, before any end of input, a group that keeps makers has of the world what it has in the silent run on its full trace
+/// so far, and it has been told the same: its parts, its signalled slots and tasks, its turn, and its lines of output. So two lists of lines with
+/// equal full traces leave it the same. More lines only add to the full trace, and to what a member is told. As bytes: whoever picks the lines that
+/// begin with a member's word and a space has the member's lines of the silent run, so far and to the end of input.
+#[tactic(auto, using(crate::proofs::StatedLaws::state_laws))]
+pub fn group_agrees_in_full()
+    ensures run { (read : List ℕ → Line) → GroupAgreesInFull read }
+    ensures same { (read : List ℕ → Line) → SameGroupSoFarInFull read }
+    ensures longer { (read : List ℕ → Line) → GroupTraceGoesOn read }
+    ensures front { (read : List ℕ → Line) → MemberOutputGoesOn read }
+    ensures lines_so_far { (read : List ℕ → Line) → ReadsOwners read → ReadsPlainWords read → MemberLinesAgreeSoFarInFull read }
+    ensures lines { (read : List ℕ → Line) → ReadsOwners read → ReadsPlainWords read → MemberLinesAgreeInFull read }
+{}
+
+/// Whatever a group's owners do with what they are told. In two scripts each line of a group that keeps makers is what one strategy gives: a function
+/// from what the group has said and was told so far, line by line, to its next line, or to none. If others do the same to the group, then the group
+/// says the same lines and is told the same, line by line, so far and to the end of input. That is, if their outward events, what they do to the
+/// events of the group's lines, and the turns of the group that they end are equal, each at its place among the group's lines. Nothing is asked of the
+/// group's lines or of its output. The page is such a group. So it is where each owner of the group has a strategy of its own, if the same owners speak in
+/// the same order. For every strategy, whatever others say and whenever the group is asked, there is a script that follows it.
+#[tactic(auto, using(crate::proofs::StatedLaws::strategy_laws))]
+pub fn same_by_strategy()
+    ensures group { (read : List ℕ → Line) → SameByStrategy read }
+    ensures to_end { (read : List ℕ → Line) → SameToEndByStrategy read }
+    ensures each { (read : List ℕ → Line) → SameByStrategies read }
+    ensures page { (read : List ℕ → Line) → SamePageByStrategy read }
+    ensures plays { (read : List ℕ → Line) (group : Owner → Bool) (next : Strategy (List ℕ)) → PlaysFollow read group next }
 {}

@@ -1,5 +1,5 @@
-//! The page sees of components their outward events alone, and so does a group of owners of all others (`groups`): laws over the definitions of
-//! the two machines. There is no code but functions whose contracts are the laws.
+//! The page sees of components their outward events, and how far their listeners let an event come that reaches it; and so does a group of owners of
+//! all others (`groups`). These are laws over the definitions of the two machines. There is no code but functions whose contracts are the laws.
 #![tactic(auto, using(crate::proofs::StatedLaws::laws))]
 
 pub mod groups;
@@ -10,7 +10,11 @@ ghost use Rattle.dom_model.specs.Isolation.{ForeignIsRefused, PagePartAgrees, Pa
 ghost use Rattle.dom_isolation.specs.Laws.{VisitIsUnseen, FoldSkipsComponents, PageVisitsAgree, OutwardVisitsAgree, PageDispatchAgrees};
 ghost use Rattle.dom_isolation.specs.Laws.{ComponentDispatchAgrees, NotificationIsUnseen, TurnEndingAgrees, OtherEndingIsUnseen, PageLineAgrees};
 ghost use Rattle.dom_isolation.specs.FullLaws.{InterferenceIsEnough, InterferenceIsOnPurpose, InterferenceIsSmall, FullTraceIsTrace, NothingTouches};
+ghost use Rattle.dom_isolation.specs.FullLaws.{FirstVisitIsOwn, InterferenceLeavesFirst, LastVisitIsOwn, InterferenceTakesLast};
 ghost use Rattle.dom_isolation.specs.FullLaws.{EndingsAreNotTold, PageDispatchAgreesInFull, PageLineAgreesInFull, OtherLineAgreesInFull};
+ghost use Rattle.dom_isolation.specs.QuietTypes.{OthersLogAfter, NothingTouchesType, NothingTouchesSlots, NothingTouchesTypes};
+ghost use Rattle.dom_isolation.specs.QuietTypes.{NothingTouchesPageTypes, PageSeesItsTypedTrace, SamePageByTypes};
+ghost use Rattle.dom_isolation.specs.SeenNodes.{LineNamesSeen, FinishNamesSeen, ScriptNamesSeen};
 ghost use Rattle.dom_isolation.specs.FullIsolation.{PageRunAgreesInFull, PageAgreesInFull, PageSeesItsFullTrace, SamePageInFull, FullTraceGoesOn};
 ghost use Rattle.dom_isolation.specs.FullIsolation.{PageOutputGoesOnInFull, FullTraceHasPageLines, PageLinesAgreeInFull, PageLinesAgreeSoFarInFull};
 ghost use Rattle.dom_isolation.specs.FullIsolation.{PageTextAgreesInFull, SamePageTextInFull, PickedLinesAgreeInFull, PickedLinesAgreeSoFarInFull};
@@ -26,15 +30,36 @@ pub fn one_visit()
 {}
 
 /// Interference is what others' listeners did to an event: before which visit of a group's nodes one of them stopped it, and whether one cancelled
-/// it. It is enough to tell what the group has of the event; others have to act to leave any; it is small; of the ending of a turn none is told to the
-/// page; and it only adds to a trace, where nothing is told if no component listener stops or cancels. Lines are bytes, and `read` is any reading of them.
+/// it. It is enough to tell what the group has of the event; others have to act to leave any; it is small. The first and the last visit of an event are
+/// the group's, if any is. So nobody else keeps the event from the first one, and a stop that is told kept it from the last one. Of the ending of a turn
+/// none is told to the page; and it only adds to a trace, where nothing is told if no component listener stops or cancels. Lines are bytes, and `read`
+/// is any reading of them.
 pub fn one_interference()
     ensures enough { InterferenceIsEnough }
     ensures purpose { InterferenceIsOnPurpose }
     ensures small { InterferenceIsSmall }
+    ensures first_visit { FirstVisitIsOwn }
+    ensures first { InterferenceLeavesFirst }
+    ensures last_visit { LastVisitIsOwn }
+    ensures last { InterferenceTakesLast }
     ensures endings { EndingsAreNotTold }
     ensures trace { (read : List ℕ → Line) → FullTraceIsTrace read }
     ensures nothing { (read : List ℕ → Line) → NothingTouches read }
+{}
+
+/// Interference goes by the type of event. Where nobody outside a group has an accepted `listen` for a type with stop, stop-now or cancel, their
+/// listeners for it only log after the script, and nothing is told of an event of this type: of the dispatch of a line that comes then, and of those that
+/// an ending of a turn fires. So where all events of a trace are of such types, nothing is told in the full trace, whatever listeners for other types
+/// do. For the page, whose trace has no event of an ending, its output is then the page machine's on the trace, and two scripts with equal traces have
+/// equal output of it.
+pub fn types_are_apart()
+    ensures after { (read : List ℕ → Line) → OthersLogAfter read }
+    ensures event { (read : List ℕ → Line) → NothingTouchesType read }
+    ensures slots { (read : List ℕ → Line) → NothingTouchesSlots read }
+    ensures group { (read : List ℕ → Line) → NothingTouchesTypes read }
+    ensures page { (read : List ℕ → Line) → NothingTouchesPageTypes read }
+    ensures output { (read : List ℕ → Line) → PageSeesItsTypedTrace read }
+    ensures same_page { (read : List ℕ → Line) → SamePageByTypes read }
 {}
 
 /// Of all visits the page sees those at its own nodes, and these are the page machine's; so a dispatch of the page is the
@@ -152,4 +177,13 @@ pub fn output_has_its_lines()
 pub fn foreign_is_refused()
     ensures command { ForeignIsRefused }
     ensures line { ForeignLineIsRefused }
+{}
+
+/// No line of output names a node that is hidden from its owner, in any world that the machine reaches. What a reply names is the owner's own, or not
+/// hidden from a node of its own, or the node document of one. What an event's line names, the target, the related node and the path, is not hidden from
+/// the node at which it is heard, which is the owner's. What a mutation record names is the owner's own.
+pub fn no_line_names_hidden()
+    ensures line { LineNamesSeen }
+    ensures finish { FinishNamesSeen }
+    ensures script { (read : List ℕ → Line) → ScriptNamesSeen read }
 {}
