@@ -15,7 +15,7 @@ use Rattle.dom_engine.specs.Run.{run_text, answers_to_end}
 use Rattle.dom_engine.proofs.PagePrefixes.{lines_of-ended}
 
 -- what a run writes with a view are the lines of its whole text that begin with the view's word
-run_text-lines : (o : Owner) (bytes : List ℕ) → run_text (Some o) bytes ≡ text_of_lines (lines_from o (lines_of (text_of decode bytes)))
+pub run_text-lines : (o : Owner) (bytes : List ℕ) → run_text (Some o) bytes ≡ text_of_lines (lines_from o (lines_of (text_of decode bytes)))
 unfolding answers_to_end
 run_text-lines o bytes =
     ap (λ (lines : List (List ℕ)). text_of_lines (lines_from o lines)) (lines_of-ended (map output_line (outputs_of (map decode (lines_of bytes)))))

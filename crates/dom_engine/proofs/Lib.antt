@@ -1,6 +1,12 @@
 mod LineRuns
 mod ReadLaws
+mod OwnerPrefixes
 mod PagePrefixes
 mod ForeignLines
+mod CallReplies
+mod CallLaws
+mod CallRuns
 mod GroupRuns
+mod MemberRuns
+mod SessionRuns
 mod StatedLaws

@@ -28,7 +28,9 @@ pub world_after-none : (w : World) → world_after w [] ≡ w
 unfolding world_after
 world_after-none w = refl
 
-run_more : (w : World) (xs ys : List (List ℕ)) → run_lines w (map decode (xs ++ ys)) ≡ run_then (run_lines w (map decode xs)) (λ v. run_lines v (map decode ys))
+-- more lines
+pub run_more : (w : World) (xs ys : List (List ℕ)) →
+    run_lines w (map decode (xs ++ ys)) ≡ run_then (run_lines w (map decode xs)) (λ v. run_lines v (map decode ys))
 run_more w xs ys = ap (run_each step w) (map-append decode xs ys) ∙ run_each-append step w (map decode xs) (map decode ys)
 
 -- the world behind more lines

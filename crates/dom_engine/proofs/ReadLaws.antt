@@ -1,7 +1,7 @@
 -- Laws of what a run has read, and of what stops it: a read, a flush, memory, the limit.
 use Rattle.dom_base.proofs.Std.{◌≡◌, ℕ, ◌<◌, ◌≤◌, ◌⊎◌, List, [], ◌∷◌, ◌++◌, length, length-append, ◌+◌, take, map, Option, refl, sym, ap, subst, ◌∙◌}
 use Rattle.dom_base.proofs.Std.{append_assoc, append-nil, arith, inl, inr, Result, Ok, Err, length-map, take-map, Consumes, IsAtEnd, Consumes-nil}
-use Rattle.dom_base.proofs.Std.{Consumes-trans}
+use Rattle.dom_base.proofs.Std.{Consumes-trans, None, Some, IfSome, OnOk}
 use Rattle.dom_model.proofs.Model.{Owner, World, first_world}
 use Rattle.dom_text.specs.Definitions.{cut_of, lines_of, last_line, kept_line}
 use Rattle.dom_reader.specs.Streams.{fed, IsKept}
@@ -13,7 +13,7 @@ use Rattle.dom_engine.specs.Run.{StopsAtMemory, StopsAtLimit, run_text, read_siz
 use Rattle.dom_streams.specs.Writing.{Taken, Takes, TakesFront, StopsWriting}
 use Rattle.dom_streams.proofs.WriteLaws.{Takes-nil, Takes-trans}
 use Rattle.dom_streams.specs.Views.{viewed}
-use Rattle.dom_engine.specs.Reading.{HasRead, StopsOneRead, MoreAt, ReadsMore}
+use Rattle.dom_engine.specs.Reading.{HasRead, StopsOneRead, MoreAt, LeavesMore, ReadsMore}
 use Rattle.dom_engine.proofs.LineRuns.{world_after-append, world_after-kept, answers-kept, answers-ended, answers_to_end-split, viewed-append, shown-append}
 use Rattle.dom_engine.proofs.LineRuns.{Behind, no_lines-behind, behind-none, shows-none, shown-behind, world-behind, lines_done, some_behind}
 use Rattle.dom_engine.proofs.LineRuns.{fed-lines, fed-rest}
@@ -327,3 +327,25 @@ more-within n m (Err Read) small full more = omega (arith, more, full)
 more-within n m (Err InputLimit) small full more = (omega (arith, more.0, full), omega (arith, more.1, full, small))
 more-within n m (Err Write) small full more = absurd more
 more-within n m (Err Memory) small full more = absurd more
+
+-- ---- how many bytes were given
+
+module _ (from to : Option (List ℕ)) (old new : ℕ) where
+  -- what was read to the end are all bytes that there were
+  pub read-whole : (given : List ℕ) → Consumes from to given → IsAtEnd to → new ≡ old + length given → IfSome from (λ bytes. new ≡ old + length bytes)
+  read-whole given consumed end count = whole from to consumed end
+    where
+      whole : (from to : Option (List ℕ)) → Consumes from to given → IsAtEnd to → IfSome from (λ bytes. new ≡ old + length bytes)
+      whole None to consumed end = tt
+      whole (Some bytes) None consumed end = absurd consumed
+      whole (Some bytes) (Some rest) consumed end =
+          count ∙ ap (λ xs. old + length xs) (sym (consumed ∙ ap (λ ys. given ++ ys) end ∙ append-nil given))
+
+  -- so it is where one more read finds the end
+  module _ (mid : Option (List ℕ)) (given more : List ℕ) (room last : ℕ) where
+    pub read-whole-more : (r : Result (Unit {0}) RunFault) → Consumes from mid given → Consumes mid to more → LeavesMore r more → OnOk r (IsAtEnd to) →
+        (last ≡ old + length given) × ReadsMore r room last new → OnOk r (IfSome from (λ bytes. new ≡ old + length bytes))
+    read-whole-more (Ok x) first then none end counts =
+        read-whole (given ++ more) (Consumes-trans from mid to given more first then) end
+        (counts.1 ∙ counts.0 ∙ ap (λ xs. old + length xs) (sym (append-nil given) ∙ ap (λ ys. given ++ ys) (sym none)))
+    read-whole-more (Err e) first then none end counts = tt

@@ -4,3 +4,7 @@ pub mod Run
 pub mod Reading
 pub mod PageLaws
 pub mod GroupLaws
+pub mod Sessions
+pub mod Calls
+pub mod CallSessions
+pub mod GroupPrefixes

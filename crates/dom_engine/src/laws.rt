@@ -1,4 +1,4 @@
-//! Laws of runs, over the definitions that the contract of `run` cites. They make no calls.
+//! Laws of runs and of sessions, over the definitions that the contracts of `run` and of `Session` cite.
 ghost use Rattle.std.specs.Prelude.{ℕ, List};
 ghost use Rattle.dom_model.specs.Command.{Line};
 ghost use Rattle.dom_model.specs.Isolation.{SamePage, SameFamily, SameFamilyWhileTurnsStand, SameComponent, SameComponentWhileTurnsStand};
@@ -6,12 +6,20 @@ ghost use Rattle.dom_model.specs.Isolation.{SameAround, SameAroundWhileTurnsStan
 ghost use Rattle.dom_isolation.specs.Agreement.{SameMember, SameMemberWhileTurnsStand};
 ghost use Rattle.dom_isolation.specs.FullGroups.{SameMemberInFull, SameFamilyInFull, SameComponentInFull, SameAroundInFull};
 ghost use Rattle.dom_engine.specs.Session.{ForeignLinesAreRefused};
+ghost use Rattle.dom_engine.specs.Sessions.{SessionBegins, SessionGoesOn, SessionTellsAll, SessionHasPage, SessionHasGroup, SameSessions};
+ghost use Rattle.dom_engine.specs.Sessions.{SameSessionsByStrategy, SameSessionsByStrategies};
+ghost use Rattle.dom_engine.specs.GroupPrefixes.{MemberTextIsTheSilentRuns, MemberSeesLinesNamed, MemberSeesPrefix};
 ghost use Rattle.dom_engine.specs.GroupLaws.{SameGroupRuns, SameGroupRunsWhileTurnsStand, SameFamilyRuns, SameFamilyRunsWhileTurnsStand};
 ghost use Rattle.dom_engine.specs.GroupLaws.{SameGroupRunsInFull, SameFamilyRunsInFull, SameComponentRunsInFull, SameAroundRunsInFull};
 ghost use Rattle.dom_engine.specs.GroupLaws.{SameComponentRuns, SameComponentRunsWhileTurnsStand, SameAroundRuns, SameAroundRunsWhileTurnsStand};
+ghost use Rattle.dom_engine.specs.Calls.{LineIsItsCommand, LineIsItsCall, CommandEndsInReply, CallEndsInReply, ForeignCommandIsRefused, ForeignCallIsRefused};
+ghost use Rattle.dom_engine.specs.CallSessions.{CallsBegin, CallsGoOn, CallsTellAll, LinesAreTheirCalls, CallsHavePage, CallsHaveGroup, SameCalls};
+ghost use Rattle.dom_engine.specs.CallSessions.{SameCallsByStrategy, SameCallsByStrategies};
 ghost use Rattle.dom_isolation.specs.FullIsolation.{SamePageInFull};
 ghost use Rattle.dom_engine.specs.PageLaws.{PageTextIsThePageMachinesInFull, SamePageTextInFull, PageSeesLinesNamedInFull, PageSeesPrefixInFull};
 ghost use Rattle.dom_engine.specs.PageLaws.{PageTextIsThePageMachines, SamePageText, PageSeesLinesNamed, PageSeesPrefix};
+
+use dom_answers::law_text;
 
 /// What a run writes with the page's view is the page machine's output on the trace of the lines read, where no component
 /// listener stops or cancels; and with interference it is that on the full trace, whatever listeners do.
@@ -96,9 +104,75 @@ pub fn law_page_prefix()
     ensures prefix_in_full { PageSeesPrefixInFull }
 {}
 
+/// What a member of a group of owners, which has the page and with each component its maker, sees of a run, whatever listeners do: at the end its
+/// output in the silent run on the full trace of the lines read. On `Read`, `Memory` and `InputLimit` it is that on the full trace of the lines whose
+/// text is written, without the end of input; and on every fault some first bytes of that on any input that begins with the bytes read. Where the end
+/// was reached that input is these bytes.
+pub fn law_member_prefix()
+    ensures text { MemberTextIsTheSilentRuns }
+    ensures lines { MemberSeesLinesNamed }
+    ensures prefix { MemberSeesPrefix }
+{}
+
 /// A line, the page's or a component's, whose command names another owner's node is refused (own rule): as `busy` where it is a
 /// component's and the page's turn is open, else as `foreign`. Nothing changes but that another component's open turn ends.
 /// `Session::line` answers just so.
 pub fn law_foreign_lines()
     ensures { ForeignLinesAreRefused }
+{}
+
+/// A session that was new and has taken these lines, each call of `Session::line` answering Ok, has the machine's world on these lines, and has told
+/// the machine's text for them: by the contracts of `Session::new` and `Session::line` alone (`begins`, `goes_on`). So all claims on lists of lines are
+/// claims on what a program with a session is told: of the page, and of each member of a group that has the page and with each component its maker. Two
+/// sessions are one to such a group where the full traces of their lines are equal. So they are where its owners choose their lines by one
+/// strategy, or each by its own, whatever that does with what they were told, and others do the same to the group.
+pub fn law_sessions()
+    ensures begins { SessionBegins }
+    ensures goes_on { SessionGoesOn }
+    ensures all { SessionTellsAll }
+    ensures page { SessionHasPage }
+    ensures group { SessionHasGroup }
+    ensures same { SameSessions }
+    ensures strategy { SameSessionsByStrategy }
+    ensures strategies { SameSessionsByStrategies }
+{}
+
+/// A text that says a command of an owner by the grammar does what the command does. A line that is read as the command leaves a session as
+/// `Session::call` leaves it, and its text is the text of what the call's answer tells. So it is of all lines that a session has taken.
+pub fn law_lines_are_calls()
+    ensures command { LineIsItsCommand }
+    ensures call { LineIsItsCall }
+    ensures session { LinesAreTheirCalls }
+{
+    law_text();
+}
+
+/// What a command tells ends in its owner's reply or refusal, and no line of output before that one is a reply or a refusal. So it is of
+/// what the answer of a call tells.
+pub fn law_last_is_reply()
+    ensures command { CommandEndsInReply }
+    ensures call { CallEndsInReply }
+{}
+
+/// A command that names another owner's node is refused (own rule): as `syntax` if it is no command of its owner's, as `busy` if the owner is
+/// a component and the page's turn is open, else as `foreign`. Nothing changes but that another component's open turn ends. So it is of a call.
+pub fn law_foreign_calls()
+    ensures command { ForeignCommandIsRefused }
+    ensures call { ForeignCallIsRefused }
+{}
+
+/// A session that was new and has done these calls, each of which has answered Ok, has the machine's world on them, and its answers have told
+/// what the machine's output shows: by the contracts of `Session::new` and `Session::call` alone (`begins`, `goes_on`). So all claims on scripts
+/// are claims on what a program is told that calls a session, whatever listeners do: of the page, and of a group that has the page and with each
+/// component its maker. Two sessions are one to such a group if the full traces of their calls are equal. So they are if its owners choose their
+/// calls by one strategy, or each by its own, and others do the same to the group.
+pub fn law_same_calls()
+    ensures begins { CallsBegin }
+    ensures goes_on { CallsGoOn }
+    ensures all { CallsTellAll }
+    ensures page { CallsHavePage }
+    ensures group { CallsHaveGroup }
+    ensures same { SameCalls }
+    ensures strategy { SameCallsByStrategy }
+    ensures strategies { SameCallsByStrategies }
 {}

@@ -58,6 +58,7 @@ impl Runner {
             (W.contents sink.old, W.taken sink.old) (W.contents sink.new, W.taken sink.new)) }
         ensures reads { CountsReads result (R.failures source.old) (R.failures source.new) }
         ensures delivered { ReadsWithin result (R.delivered source.old) (R.delivered source.new) }
+        ensures counted { OnOk result (IfSome (R.remaining source.old) (λ bytes. R.delivered source.new ≡ R.delivered source.old + length bytes)) }
         ensures writes { CountsWrites result (W.failures sink.old) (W.failures sink.new) }
         ensures stops { IfErr result (λ e. StopsRun e self.old.view (R.remaining source.old) (R.remaining source.new)
             (W.contents sink.old, W.taken sink.old) (W.contents sink.new, W.taken sink.new)) }
@@ -177,6 +178,7 @@ impl Runner {
         ensures view { self.new.view ≡ self.old.view }
         ensures reads { CountsReads result (R.failures source.old) (R.failures source.new) }
         ensures delivered { ReadsWithin result (R.delivered source.old) (R.delivered source.new) }
+        ensures counted { OnOk result (IfSome (R.remaining source.old) (λ bytes. R.delivered source.new ≡ R.delivered source.old + length bytes)) }
         ensures writes { CountsWrites result (W.failures sink.old) (W.failures sink.new) }
         ensures stops { IfErr result (λ e. StopsRun e self.old.view (R.remaining source.old) (R.remaining source.new)
             (W.contents sink.old, W.taken sink.old) (W.contents sink.new, W.taken sink.new)) }
@@ -304,6 +306,8 @@ pub fn run<R: Source, W: Sink>(
     ensures writes { CountsWrites result (W.failures sink.old) (W.failures sink.new) }
     // How many bytes it read, of whatever source: at most 2^30, and more on `InputLimit` alone, which comes nowhere else.
     ensures delivered { ReadsWithin result (R.delivered source.old) (R.delivered source.new) }
+    // At the end these are all the bytes that there were, of a source that tells its bytes.
+    ensures counted { OnOk result (IfSome (R.remaining source.old) (λ bytes. R.delivered source.new ≡ R.delivered source.old + length bytes)) }
     // What was read and written when a fault stopped the run.
     ensures stops { IfErr result (λ e. StopsRun e view (R.remaining source.old) (R.remaining source.new)
         (W.contents sink.old, W.taken sink.old) (W.contents sink.new, W.taken sink.new)) }

@@ -1,11 +1,15 @@
-//! Sessions: lines in, answers out.
-ghost use Rattle.std.specs.Prelude.{◌≡◌, ◌++◌, None, Some, true, false, IfOk, OnOk, OnErr};
+//! Sessions: lines or calls in, answers out.
+ghost use Rattle.std.specs.Prelude.{◌≡◌, ◌++◌, None, Some, true, false, IfOk, OnOk, OnErr, map};
+ghost use Rattle.dom_model.specs.Command.{command as model_command};
 ghost use Rattle.dom_model.specs.DocumentMachine.{first_world, step, finish};
 ghost use Rattle.dom_text.specs.Text.{output_text};
 ghost use Rattle.dom_commands.specs.Machine.{IsAtRest};
 ghost use Rattle.dom_text.specs.Decode.{decode, owner_at as spec_owner_at};
+ghost use Rattle.dom_reader.specs.Views.{command_view};
+ghost use Rattle.dom_answers.specs.Told.{empty, shown_output, told};
 ghost use Rattle.dom_engine.specs.Session.{RefusesForeign};
 
+use dom_answers::Answer;
 use dom_base::Owner;
 use dom_commands::Machine;
 use dom_reader::{Command, owner_at, page_bytes, parse_command};
@@ -84,6 +88,58 @@ impl Session {
         answer
     }
 
+    /// Does a command of an owner, as a line that says it does. What it tells is then in the answer, in place of what was there, and its last
+    /// item is the reply or refusal. A command that no line can say is done too: a text or a number may be longer. What the command holds may be
+    /// taken out of it. An error is out of memory alone, now or in a call before, and leaves the answer empty.
+    pub fn call(
+        &mut self,
+        owner: &Owner,
+        command: &mut Command,
+        answer: &mut Answer,
+    ) -> Result<(), AllocError>
+        ensures was { OnOk result (self.old.has_failed ≡ false) }
+        ensures told { OnOk result (told answer.new ≡ map shown_output (step self.old.world (model_command owner.now (command_view command.old))).1) }
+        ensures world { OnOk result (
+            self.new ≡ record { world = (step self.old.world (model_command owner.now (command_view command.old))).0; has_failed = false }) }
+        ensures err { OnErr result (self.new.has_failed ≡ true) }
+        ensures nothing { OnErr result (answer.new ≡ empty) }
+    {
+        self.begin(answer)?;
+        let done = self.machine.answer(owner, command, answer);
+        self.has_failed = done.is_err();
+        settle(done, answer)
+    }
+
+    /// Ends the input as `finish` does. What the microtasks of an open turn tell is then in the answer, in place of what was there. No turn is open
+    /// then. More calls and lines may follow (own rule). An error is out of memory alone, now or in a call before, and leaves the answer empty.
+    #[tactic(auto, using(crate::proofs::ForeignLines::closing))]
+    pub fn close(&mut self, answer: &mut Answer) -> Result<(), AllocError>
+        ensures was { OnOk result (self.old.has_failed ≡ false) }
+        ensures told { OnOk result (told answer.new ≡ map shown_output (finish self.old.world).1) }
+        ensures world { OnOk result (self.new ≡ record { world = (finish self.old.world).0; has_failed = false }) }
+        ensures closed { OnOk result (self.new.world.turn ≡ None) }
+        ensures err { OnErr result (self.new.has_failed ≡ true) }
+        ensures nothing { OnErr result (answer.new ≡ empty) }
+    {
+        self.begin(answer)?;
+        let done = self.machine.close_any_turn(answer);
+        self.has_failed = done.is_err();
+        settle(done, answer)
+    }
+
+    /// Begins a call: the answer is emptied. A session that has failed does no more.
+    fn begin(&self, answer: &mut Answer) -> Result<(), AllocError>
+        ensures ok { OnOk result (self.now.has_failed ≡ false) }
+        ensures err { OnErr result (self.now.has_failed ≡ true) }
+        ensures nothing { answer.new ≡ empty }
+    {
+        answer.clear();
+        if self.has_failed {
+            return Err(AllocError);
+        }
+        Ok(())
+    }
+
     /// Ends the input: an open turn is ended, and the lines of its microtasks are given. No turn is open then. More lines may follow (own rule). An error
     /// is want of memory alone, now or in a call before.
     pub fn finish(&mut self) -> Result<Vec<u8>, AllocError>
@@ -100,6 +156,18 @@ impl Session {
         self.has_failed = ending.is_err();
         ending
     }
+}
+
+/// Ends a call: an answer for which memory ran out is emptied.
+fn settle(done: Result<(), AllocError>, partial: &mut Answer) -> Result<(), AllocError>
+    ensures same { result ≡ done }
+    ensures ok { OnOk result (partial.new ≡ partial.old) }
+    ensures err { OnErr result (partial.new ≡ empty) }
+{
+    if done.is_err() {
+        partial.clear();
+    }
+    done
 }
 
 /// Ends an open turn, and gives its lines.

@@ -2,7 +2,7 @@
 use Rattle.dom_base.proofs.Std.{◌≡◌, refl, ◌∙◌, ◌++◌, [], take, arith, length, err_from_is_err_and, MatchResult-weaker, length-append, length-take}
 use Rattle.dom_engine.specs.Run.{input_limit}
 use Rattle.dom_engine.proofs.ReadLaws.{read-none, read-kept, read-more, stops-one_read, stops-flush, stops-more}
-use Rattle.dom_engine.proofs.ReadLaws.{read-flushed, flush-within, one_read-within, more-within}
+use Rattle.dom_engine.proofs.ReadLaws.{read-flushed, flush-within, one_read-within, more-within, read-whole, read-whole-more}
 use Rattle.dom_engine.proofs.runner.Runner.read_all.Goals as goal
 
 pub loop-left-init : goal.loop-left-init
@@ -104,3 +104,23 @@ returns-clause-stops g c =
     let full : length i.0 ≡ input_limit = omega (arith, i.3, c.loop-left-test.false) in
     let read = read-flushed i.1 c.in_ok-flush_before_read.ensures.written.1 in
     MatchResult-weaker c.expect_end.result more.2 (λ _ _. tt) (λ e at. stops-more read e more.0 _ full more.1 at)
+
+pub returns-then-n-eq0-clause-counted : goal.returns-then-n-eq0-clause-counted
+returns-then-n-eq0-clause-counted g c =
+    let i = c.loop-left.invariant in
+    let e = c.in_ok-n.ensures in
+    let bytes = take c.in_ok-n.n c.take_read.new.buffer in
+    read-whole _ _ _ _ (i.0 ++ bytes) (read-more i.1 i.2 bytes _ _ e.consumed e.splitter e.world e.written).consumed (e.end c.if-n-eq0.true) (omega (
+      arith,
+      i.6,
+      e.delivered,
+      e.bound.0,
+      length-append i.0 bytes,
+      length-take c.in_ok-n.n c.take_read.new.buffer,
+    ))
+
+pub returns-clause-counted : goal.returns-clause-counted
+returns-clause-counted g c =
+    let i = c.loop-left.invariant in
+    let more = c.expect_end.ensures.more in
+    read-whole-more _ _ _ _ _ i.0 more.0 _ _ c.expect_end.result i.1.consumed more.1 more.2 c.expect_end.ensures.end (i.6, c.expect_end.ensures.delivered)
