@@ -3,6 +3,7 @@ ghost use Rattle.std.specs.Prelude.{◌≡◌, ◌+◌, ◌<◌, [], false, IfOk
 ghost use Rattle.std.specs.Io.{WritesAtMost};
 ghost use Rattle.std.specs.Io.Buffered.{writer_buffer, writer_contents};
 ghost use Rattle.std.specs.Io.KnownBytes.{Keeps, WriteAppends};
+ghost use Rattle.dom_streams.specs.Streams.{CountsFailure};
 
 use dom_streams::{Count, Sink, Source};
 use std::alloc::{AllocError, Global};
@@ -12,7 +13,7 @@ use std::io::{BufReader, BufWriter, ErrorKind, Read, Write};
 /// How many bytes of input, and how many of output, are kept at most.
 const ROOM: usize = 1 << 16;
 
-/// Where output is kept, with the writer that it is handed on to. Once a call has failed nothing is handed on any more, and
+/// Where output is kept, with the writer that it is handed on to. After a call has failed nothing is handed on any more, and
 /// what is kept at the end is dropped.
 pub struct Output<W: Write + Drop> {
     kept: BufWriter<W>,
@@ -74,8 +75,8 @@ impl<W: Write + Drop> Output<W> {
         self.kept.write(bytes)
     }
 
-    /// Hands on all that is kept. It fails where a call has failed before, and then hands nothing on.
-    pub fn hand_on(&mut self) -> io::Result<()>
+    /// Hands on all that is kept, without counting a failure. It fails if a call has failed before, and then hands nothing on.
+    fn empty(&mut self) -> io::Result<()>
         ensures bytes { Keeps (writer_contents W.contents self.old.kept) (writer_contents W.contents self.new.kept) }
         ensures empty { OnOk result (writer_buffer self.new.kept ≡ []) }
         ensures all { OnOk result (writer_contents W.contents self.new.kept ≡ W.contents (handed_to self.new)) }
@@ -88,22 +89,26 @@ impl<W: Write + Drop> Output<W> {
         self.kept.flush()
     }
 
-    /// Ends the output, and gives the writer back, which takes no more: what is kept is dropped.
-    pub fn into_writer(self) -> W
-        ensures { result ≡ handed_to self }
+    /// Hands on all that is kept. A failure is counted, and after it nothing is handed on any more: a call after one that has
+    /// failed fails too.
+    pub fn hand_on(&mut self) -> io::Result<()>
+        ensures bytes { Keeps (writer_contents W.contents self.old.kept) (writer_contents W.contents self.new.kept) }
+        ensures empty { OnOk result (writer_buffer self.new.kept ≡ []) }
+        ensures all { OnOk result (writer_contents W.contents self.new.kept ≡ W.contents (handed_to self.new)) }
+        ensures count { CountsFailure result (⟦<Output<W> as Sink>⟧.failures self.old) (⟦<Output<W> as Sink>⟧.failures self.new) }
+        ensures taken { self.new.taken_bytes.total ≡ self.old.taken_bytes.total }
+        ensures ended { 0 < self.old.failed_calls.total → self.new.kept ≡ self.old.kept }
+        ensures refused { 0 < self.old.failed_calls.total → IsErr result }
     {
-        let Output {
-            kept,
-            has_failed: _,
-            taken_bytes: _,
-            failed_calls: _,
-        } = self;
-        let (writer, _) = kept.into_parts();
-        writer
+        let outcome = self.empty();
+        if outcome.is_err() {
+            self.note_failure();
+        }
+        outcome
     }
 }
 
-/// The error of a call behind one that has failed. It is made out of line, since few calls have it.
+/// The error of a call after one that has failed. It is made out of line, since few calls have it.
 #[cold]
 #[inline(never)]
 fn failed_before() -> io::Error {
@@ -136,11 +141,7 @@ impl<W: Write + Drop> Sink for Output<W> {
     }
 
     fn flush(&mut self) -> io::Result<()> {
-        let outcome = self.hand_on();
-        if outcome.is_err() {
-            self.note_failure();
-        }
-        outcome
+        self.hand_on()
     }
 }
 

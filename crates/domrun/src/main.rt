@@ -8,6 +8,7 @@
 ghost use Rattle.std.specs.Prelude.{◌≡◌, ◌<◌, ℕ, List, Option, Err, IfErr, IfOk, OnOk};
 ghost use Rattle.dom_engine.specs.Run.{RunsToEnd, StopsRun};
 ghost use Rattle.dom_program.specs.Buffers.{handed_to};
+ghost use Rattle.domrun.specs.Endings.{HasRun, CountsReadsOf, ReadsWithinOf, CountsLosses};
 
 use dom_base::Owner;
 use dom_engine::{RunFault, Sink, Source, run};
@@ -38,44 +39,54 @@ fn run_words(rt: &HostRuntime) -> Result<(), ExitCause> {
 /// Runs the file that is asked for: with `-`, or with none, standard input.
 fn run_request(rt: &HostRuntime, request: Request<'_>) -> Result<(), ExitCause> {
     let path = request.file.unwrap_or("-");
-    let ended = if path == "-" {
-        run_reader(rt.alloc(), rt.reader(), io::writer(rt), request.view)?
+    let outcome = if path == "-" {
+        run_reader(rt.alloc(), rt.reader(), io::writer(rt), request.view)?.outcome
     } else {
         let file = fs::File::open(rt, path).map_err(|_| ExitCause::Run(RunFault::Read))?;
-        run_reader(rt.alloc(), file, io::writer(rt), request.view)?
+        run_reader(rt.alloc(), file, io::writer(rt), request.view)?.outcome
     };
-    ended.outcome.map_err(ExitCause::Run)
+    outcome.map_err(ExitCause::Run)
 }
 
-/// How a run has ended, and the writer, as the run has left it.
+/// How a run has ended, and its input and output, as the run has left them.
 #[derive(Drop)]
-struct Ended<W: Drop> {
+struct Ended<R: Read + Drop, W: Write + Drop> {
     outcome: Result<(), RunFault>,
-    writer: W,
+    input: Input<R>,
+    output: Output<W>,
 }
 
 /// Runs the lines of a reader, and writes to the writer. Output that was not taken is the fault `Write`; on every other ending the
-/// writer has taken all that the run wrote, and nothing behind it. An error is want of memory before anything was read or written.
+/// writer has taken all that the run wrote, and nothing after it. An error is out of memory before anything was read or written.
 fn run_reader<R: Read + Drop, W: Write + Drop>(
     alloc: Global,
     reader: R,
     writer: W,
     view: Option<Owner>,
-) -> Result<Ended<W>, AllocError>
+) -> Result<Ended<R, W>, AllocError>
     ensures ok { IfOk result (λ ended. OnOk ended.outcome ((to : Option (List ℕ)) × (count : ℕ)
-        × RunsToEnd view (R.remaining reader) to (W.contents writer, 0) (W.contents ended.writer, count))) }
+        × RunsToEnd view (R.remaining reader) to (W.contents writer, 0) (W.contents (handed_to ended.output), count))) }
     ensures stops { IfOk result (λ ended. IfErr ended.outcome (λ e. (e ≡ RunFault.Write → ⊥) → (to : Option (List ℕ)) × (count : ℕ)
-        × StopsRun e view (R.remaining reader) to (W.contents writer, 0) (W.contents ended.writer, count))) }
+        × StopsRun e view (R.remaining reader) to (W.contents writer, 0) (W.contents (handed_to ended.output), count))) }
+    ensures run { IfOk result (λ ended. HasRun view (R.remaining reader) (⟦<Input<R> as Source>⟧.remaining ended.input) (W.contents writer, 0)
+        (⟦<Output<W> as Sink>⟧.contents ended.output, ⟦<Output<W> as Sink>⟧.taken ended.output)) }
+    ensures reads { IfOk result (λ ended. CountsReadsOf ended.outcome 0 (⟦<Input<R> as Source>⟧.failures ended.input)) }
+    ensures delivered { IfOk result (λ ended. ReadsWithinOf ended.outcome 0 (⟦<Input<R> as Source>⟧.delivered ended.input)) }
+    ensures writes { IfOk result (λ ended. CountsLosses ended.outcome 0 (⟦<Output<W> as Sink>⟧.failures ended.output)) }
 {
     let mut output = Output::new(alloc, writer)?;
     let mut input = Input::new(alloc, reader)?;
     let outcome = run_between(alloc, &mut input, &mut output, view);
-    let writer = output.into_writer();
-    Ok(Ended { outcome, writer })
+    Ok(Ended {
+        outcome,
+        input,
+        output,
+    })
 }
 
 /// Runs the lines of an input, and hands on all that they write, in large pieces where many lines are read at once. Output that
-/// was not taken is the fault `Write`, in whichever call it was found; on every other ending the writer has taken it all.
+/// was not taken is the fault `Write`, in whichever call it was found; on every other ending the writer has taken it all. `Read` is
+/// answered only if a read has failed, and `Write` only if a write, a flush or the handing on has.
 fn run_between<R: Read + Drop, W: Write + Drop>(
     alloc: Global,
     input: &mut Input<R>,
@@ -89,6 +100,13 @@ fn run_between<R: Read + Drop, W: Write + Drop>(
         (⟦<Input<R> as Source>⟧.remaining input.new) (⟦<Output<W> as Sink>⟧.contents output.old, ⟦<Output<W> as Sink>⟧.taken output.old)
         (W.contents (handed_to output.new), ⟦<Output<W> as Sink>⟧.taken output.new)) }
     ensures failed { ⟦<Output<W> as Sink>⟧.failures output.old < ⟦<Output<W> as Sink>⟧.failures output.new → result ≡ Err RunFault.Write }
+    // What the output has taken is what some run wrote; if the fault is `Write`, the writer may have the first of these bytes alone.
+    ensures run { HasRun view (⟦<Input<R> as Source>⟧.remaining input.old) (⟦<Input<R> as Source>⟧.remaining input.new)
+        (⟦<Output<W> as Sink>⟧.contents output.old, ⟦<Output<W> as Sink>⟧.taken output.old)
+        (⟦<Output<W> as Sink>⟧.contents output.new, ⟦<Output<W> as Sink>⟧.taken output.new) }
+    ensures reads { CountsReadsOf result (⟦<Input<R> as Source>⟧.failures input.old) (⟦<Input<R> as Source>⟧.failures input.new) }
+    ensures delivered { ReadsWithinOf result (⟦<Input<R> as Source>⟧.delivered input.old) (⟦<Input<R> as Source>⟧.delivered input.new) }
+    ensures writes { CountsLosses result (⟦<Output<W> as Sink>⟧.failures output.old) (⟦<Output<W> as Sink>⟧.failures output.new) }
 {
     let ended = run(alloc, input, output, view);
     let is_written = output.hand_on().is_ok();
