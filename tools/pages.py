@@ -1,6 +1,6 @@
 """The example scripts of a page of documentation.
 
-A script is a fenced block in which an input line has its answer behind ` => `, or each of its answers on a line of its own below it that
+A script is a fenced block in which an input line has its answer after ` => `, or each of its answers on a line of its own below it that
 begins with `  => `. Each block is a script from its start.
 """
 import re
@@ -39,7 +39,7 @@ class Block:
 
 
 def parted(line: str) -> tuple[str, str, str]:
-    """A line of a block, the arrow behind it, and its answer. An arrow in a string is none."""
+    """A line of a block, the arrow after it, and its answer. An arrow in a string is none."""
     place = STRING.sub(lambda string: "." * len(string[0]), line).find(" => ")
     return (line, "", "") if place < 0 else (line[:place], line[place:place + 4], line[place + 4:])
 
@@ -88,7 +88,7 @@ def blocks_of(path: str) -> list[Block]:
 
 
 def text_of(lines: list[str], answers: list[str]) -> str:
-    """The lines of a script with their answers, as a page has them. What the end of input printed stands behind the last line."""
+    """The lines of a script with their answers, as a page has them. What the end of input printed stands after the last line."""
     *groups, last = grouped(answers, len(lines))
     text = ""
     for line, answered in zip(lines, groups):

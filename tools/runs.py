@@ -7,9 +7,11 @@ event a `dispatch` with a listener on every node.
 import os
 import re
 import subprocess
+import threading
 from dataclasses import dataclass, field
 
 import beside
+import unproved
 
 PROGRAM = os.path.join(os.path.dirname(os.path.abspath(__file__)), "..", "crates", "domrun", "out", "domrun")
 LISTEN = re.compile(r"(\S+) listen (\S+) (\S+) (\S+) \S+( capture)?")
@@ -97,17 +99,21 @@ class Program:
     def __init__(self, path):
         self.path = path
 
-    def output(self, lines):
-        """The lines that a script is answered."""
-        text = "".join(line + "\n" for line in lines).encode("latin-1")
+    def written(self, text):
+        """What the program writes for the bytes of a script."""
         try:
             ran = subprocess.run([self.path], input=text, capture_output=True, check=False)
         except OSError as error:
-            built = "`rt run` in crates/domrun builds it, and tools/try runs scripts without it"
+            built = "tools/build builds it, and tools/look --unproved and tools/try run scripts without it"
             raise Fault(f"the program {os.path.relpath(self.path)} can't be run ({error.strerror}); {built}") from error
         if ran.returncode != 0:
             raise Fault(f"the program ended with status {ran.returncode}: {ran.stderr.decode('latin-1').strip()}")
-        return ran.stdout.decode("latin-1").split("\n")[:-1]
+        return ran.stdout
+
+    def output(self, lines):
+        """The lines that a script is answered."""
+        text = "".join(line + "\n" for line in lines).encode("latin-1")
+        return self.written(text).decode("latin-1").split("\n")[:-1]
 
     def answers(self, lines):
         """The answer to each line of a script, and the lines that the end of input printed."""
@@ -121,6 +127,22 @@ class Program:
         if len(found) != len(lines):
             raise Fault(f"{len(lines)} lines had {len(found)} replies")
         return found, effects
+
+
+class Unproved(Program):
+    """The program without a proof, which is built and started once, and answers one script at a time."""
+
+    def __init__(self, tell):
+        super().__init__(None)
+        self.started, self.alone = unproved.Program(tell), threading.Lock()
+
+    def written(self, text):
+        """What the program writes for the bytes of a script."""
+        with self.alone:
+            answer = self.started.answer(unproved.Case("the script", text))
+        if answer.fault:
+            raise Fault(f"the program without a proof: {answer.fault}")
+        return answer.output
 
 
 def tree_of(text):

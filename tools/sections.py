@@ -229,7 +229,7 @@ SECTIONS = [
 ABSENT = {
     "Names": "namespaces, prefixes and local names apart from the name; names with other than ASCII letters, digits, `-` and `_`",
     "Selectors": "pseudo-classes but `:first-child`, `:last-child` and `:not()` of one compound, pseudo-elements, escapes, the columns of "
-    "namespaces, `i` and `s` behind an attribute's value; `querySelector()`, `closest()`",
+    "namespaces, `i` and `s` after an attribute's value; `querySelector()`, `closest()`",
     "Events": "types of events with members of their own (`CustomEvent` and those of other standards), `isTrusted`, `timeStamp`, "
     "`returnValue`, `cancelBubble`, events made apart from their dispatch; the window, so no event goes beyond its document; activation "
     "behaviour, touch targets; the current event of a window; callbacks that run during a dispatch: a listener says beforehand what it "

@@ -1,35 +1,53 @@
 """Tests of what the tools read: trees and events in the program's output, scripts in pages, and what `rt try` says of runs."""
 import contextlib
-import importlib.machinery
-import importlib.util
 import io
+import json
 import os
 import re
 import sys
+import tempfile
 import types
 import unittest
+import unittest.mock
 
 sys.dont_write_bytecode = True
 import beside  # noqa: E402
 import cases  # noqa: E402
-import landing  # noqa: E402
 import pages  # noqa: E402
+import programs  # noqa: E402
 import prose  # noqa: E402
 import runs  # noqa: E402
+import serving  # noqa: E402
 import signatures  # noqa: E402
-import sources  # noqa: E402
 import unproved  # noqa: E402
 
+TRY = programs.program("try")
+LOOK = programs.program("look")
+# A stand-in for `rt`, whose program answers a script with its words and itself, and stops at one of them.
+STAND_IN = """import sys
+scripts, answers = open(sys.argv[-2], "rb"), open(sys.argv[-1], "wb")
+for head in scripts:
+    count, *words = head.decode().split()
+    script = scripts.read(int(count))
+    if script == b"stop":
+        sys.exit("checked: fault kind=overflow\\nrun=fault proved=no")
+    output = " ".join(words).encode() + script
+    status = "3 {} domrun: memory\\n" if script == b"memory" else "0 {} \\n"
+    answers.write(status.format(len(output)).encode() + output)
+    answers.flush()
+"""
 
-def program(name: str) -> types.ModuleType:
-    """A program of this folder, whose name has no ending, as a module."""
-    loader = importlib.machinery.SourceFileLoader(name, os.path.join(unproved.ROOT, "tools", name))
-    module = importlib.util.module_from_spec(importlib.machinery.ModuleSpec(name, loader))
-    loader.exec_module(module)
-    return module
 
-
-TRY = program("try")
+def served(scripts: list[unproved.Case], rt: str = STAND_IN) -> tuple[list[unproved.Answer], list[str]]:
+    """What scripts are answered, and what is told meanwhile, where another program stands in for `rt`."""
+    told: list[str] = []
+    with tempfile.TemporaryDirectory() as folder:
+        path = os.path.join(folder, "rt")
+        with open(path, "w", encoding="utf-8") as file:
+            file.write(f"#!{sys.executable}\n{rt}")
+        os.chmod(path, 0o755)
+        with unittest.mock.patch.dict(os.environ, {"PATH": folder}), unittest.mock.patch("serving.fill", lambda room: room):
+            return unproved.run(scripts, told.append), told
 
 
 def text_of(path: str) -> str:
@@ -103,10 +121,59 @@ class Prose(unittest.TestCase):
     def test_a_sentence_ends_at_its_sign_and_code_is_none(self) -> None:
         page = "# Title\n\n**One.** Two: `three` goes on. (Four.) 5 is five.\n\n    code that. Is none\n\n| a cell | Another. Cell |\n"
         found = [sentence for sentence in prose.sentences(page) if sentence.strip()]
-        self.assertEqual(found, ["# Title", "One.", "Two:", "`three` goes on.", "(Four.", "5 is five.", "a cell", "Another.", "Cell"])
+        self.assertEqual(found, ["# Title", "One.", "Two: `three` goes on.", "(Four.", "5 is five.", "a cell", "Another.", "Cell"])
+
+    def test_a_colon_does_not_end_a_sentence(self) -> None:
+        self.assertEqual(list(prose.sentences("It has two: A and B.")), ["It has two: A and B."])
+
+    def test_pronouns_whose_noun_stands_elsewhere_are_found(self) -> None:
+        for sentence, found in (("A list of which one is kept.", ["of which"]), ("The rules are those of the Standard.", ["those of"]),
+                                ("So are the others.", ["So are"]), ("- These are empty.", ["- These are"]), ("Take those.", ["those"])):
+            self.assertEqual(prose.bare_pronouns(sentence), found)
+
+    def test_a_pronoun_with_its_noun_is_none(self) -> None:
+        for sentence in ("These lists are empty.", "So the list is empty.", "So it is never asked.", "Ask those people."):
+            self.assertEqual(prose.bare_pronouns(sentence), [])
+
+    def test_of_a_long_page_the_words_are_counted(self) -> None:
+        self.assertEqual(list(prose.lengths_of("docs/GATE.md", "word " * 2001)), ["docs/GATE.md: 2001 words"])
+        told = ["README.md: 121 lines", "README.md:1: 111 characters"]
+        self.assertEqual(list(prose.lengths_of("README.md", "a" * 111 + "\n" * 121)), told)
+
+    def test_a_cell_of_links_to_contracts_is_no_sentence(self) -> None:
+        self.assertEqual([cell.strip() for cell in prose.paragraphs("| said | [`a.rt: A::b`](a.rt) |") if cell.strip()], ["said"])
 
     def test_links_are_no_words(self) -> None:
         self.assertEqual(list(prose.sentences("See [this page](docs/A.md).")), ["See [this page]."])
+
+
+class Looks(unittest.TestCase):
+    def test_a_page_has_the_data_of_all_its_scripts_in_place_of_the_mark(self) -> None:
+        page = LOOK.page_of([{"title": "a"}, {"title": "</script>"}])
+        self.assertIn('const scripts = [{"title":"a"},{"title":"\\u003c/script>"}];', page)
+        self.assertNotIn("/*DATA*/", page)
+
+    def test_the_page_in_the_documents_has_the_present_template_and_scripts(self) -> None:
+        template, page = text_of("tools/look.html"), text_of("docs/look/index.html")
+        front, back = template.split("/*DATA*/null")
+        self.assertTrue(page.startswith(front) and page.endswith(back))
+        scripts = json.loads(page[len(front):len(page) - len(back)])
+        self.assertEqual(len(scripts), 3)
+        shown = [[step["line"] for step in script["steps"] if step["line"]] for script in scripts]
+        self.assertEqual(shown, [text_of(f"docs/look/{name}.in").splitlines() for name in ("closed-click", "slot", "nested-component")])
+
+    def test_the_title_says_how_the_program_was_built_and_whose_view_it_is(self) -> None:
+        words = types.SimpleNamespace(view=None, unproved=True)
+        self.assertEqual(LOOK.title_of("scripts/a.in", words), "a.in, by a build without a proof")
+        self.assertEqual(LOOK.title_of("a.in", types.SimpleNamespace(view="c1", unproved=False)), "What c1 may know")
+
+
+class Pictures(unittest.TestCase):
+    def test_each_crate_is_in_one_group_of_the_picture_and_stands_on_lower_ones(self) -> None:
+        folder = os.path.join(unproved.ROOT, "docs", "pictures")
+        with unittest.mock.patch.object(sys, "path", [folder, *sys.path]):
+            import crates
+        crates.check(crates.uses_of(os.path.join(unproved.ROOT, "crates.txt")))
 
 
 class Signatures(unittest.TestCase):
@@ -124,20 +191,6 @@ class Listeners(unittest.TestCase):
         self.assertEqual([listener.label for listener in found.values()], ["b"])
 
 
-class Landing(unittest.TestCase):
-    def test_edits_are_due_where_a_crate_has_changed_and_each_third_time(self) -> None:
-        crates = ["low", "middle", "high", "apart"]
-        now = {crate: "1" for crate in crates}
-        self.assertEqual(landing.due(crates, 0, {}, now), (crates, []))
-        self.assertEqual(landing.due(crates, 1, {**now, "high": "0"}, now), (["high"], ["middle"]))
-        turns = [landing.due(crates, number, now, now)[1] for number in range(3)]
-        self.assertEqual(sorted(sum(turns, [])), sorted(crates))
-
-    def test_a_crate_changes_with_each_one_below_it(self) -> None:
-        self.assertIn("dom_model", sources.below()["dom_tree"])
-        self.assertNotIn("dom_tree", sources.below()["dom_model"])
-
-
 class Plain(unittest.TestCase):
     def test_a_script_is_compared_with_the_answers_that_stand_in_it(self) -> None:
         case = cases.plain_case("mine.txt", b"p micro k => p ok\np .\n  => p ok\n  => p micro k\n")
@@ -153,19 +206,38 @@ class Plain(unittest.TestCase):
 
 
 class Runs(unittest.TestCase):
-    def test_it_is_told_when_the_program_is_built_and_how_far_it_is(self) -> None:
-        told, lines = [], [f"case={number:05} run=ended status=0 proved=no\n" for number in range(120)]
-        self.assertEqual(unproved.heard(lines, 120, told.append), "".join(lines))
-        self.assertRegex(told[0], "the program is built, after 0 seconds")
-        self.assertEqual(told[1:], ["50 of 120 scripts were run", "100 of 120 scripts were run"])
+    def test_each_script_has_an_answer_of_its_own_from_one_start(self) -> None:
+        scripts = [unproved.Case("a", b"p .\n", ["--view", "p"]), unproved.Case("b", b"x" * 200000), unproved.Case("c", b"memory")]
+        answers, told = served(scripts)
+        self.assertEqual([answer.output for answer in answers], [b"--view pp .\n", b"x" * 200000, b"memory"])
+        self.assertEqual([answer.fault for answer in answers], ["", "", "ended with status 3; domrun: memory"])
+        self.assertRegex("\n".join(told), "^3 scripts\nbuilding .*\nthe program is built, after [0-9]+ seconds$")
 
-    def test_each_case_has_its_output(self) -> None:
-        found = unproved.outputs_in(b"== 00000\np ok n1\n== 00001\n== 00002\np ok\np ok\n")
-        self.assertEqual(found, {0: b"p ok n1\n", 1: b"", 2: b"p ok\np ok\n"})
+    def test_the_program_that_serves_is_domrun_with_another_main(self) -> None:
+        text = text_of("crates/domrun/src/main.rt")
+        self.assertEqual((text.count(serving.MAIN), text.count("fn run_reader<")), (1, 1))
 
-    def test_a_run_that_did_not_end_well_says_why(self) -> None:
-        said = "case=00000 run=ended status=0 runners=1 proved=no\ndomrun: memory\ncase=00001 run=ended status=3 runners=1 proved=no\n"
-        self.assertEqual(unproved.faults_in(said), {0: "", 1: "ended with status 3; domrun: memory"})
+    def test_it_is_told_how_many_scripts_were_run(self) -> None:
+        told = served([unproved.Case(f"{number}", b"p .\n") for number in range(120)])[1]
+        self.assertEqual(told[3:], ["50 of 120 scripts were run", "100 of 120 scripts were run"])
+
+    def test_behind_a_script_at_which_the_program_stops_the_others_are_run_on_another_build(self) -> None:
+        answers, told = served([unproved.Case(name, name.encode()) for name in ("a", "stop", "b")])
+        self.assertEqual([answer.output for answer in answers], [b"a", b"", b"b"])
+        self.assertEqual([answer.fault for answer in answers], ["", "stopped; checked: fault kind=overflow", ""])
+        self.assertIn("the program stopped at stop; the others need another build", told)
+
+    def test_after_three_builds_no_more_scripts_are_run(self) -> None:
+        answers = served([unproved.Case(name, name.encode()) for name in ("stop", "stop", "stop", "a")])[0]
+        self.assertEqual(answers[-1].fault, "was not run")
+
+    def test_where_no_program_is_built_it_is_said_why(self) -> None:
+        with self.assertRaisesRegex(unproved.Fault, "built no program:\nsrc/main.rt:4:24: error"):
+            served([unproved.Case("a", b"p .\n")], "import sys\nsys.exit('src/main.rt:4:24: error\\nrun=none proved=no')\n")
+
+    def test_a_program_that_does_not_end_well_is_a_fault(self) -> None:
+        with self.assertRaisesRegex(unproved.Fault, "did not end well after the last script:\nchecked: leak"):
+            served([unproved.Case("a", b"p .\n")], STAND_IN + "sys.exit('checked: leak')\n")
 
     def test_another_output_than_the_expected_one_is_wrong(self) -> None:
         case = unproved.Case("a", b"p .\n", [], b"p ok\n")
