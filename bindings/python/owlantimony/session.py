@@ -1,4 +1,4 @@
-"""Sessions of the line protocol, over ctypes and the shared object `libowlantimony.so`."""
+"""Sessions of the line protocol, over ctypes and the shared object `libowlantimony.so`, or served by another program."""
 from __future__ import annotations
 
 import ctypes
@@ -7,8 +7,12 @@ import threading
 import warnings
 from collections.abc import Callable
 from types import TracebackType
+from typing import Any
 
-__all__ = ["ClosedError", "NoOwnerError", "OutOfMemoryError", "Session", "WrongThreadError", "library_path"]
+from .pickling import NotPickled
+from .served import ServedLibrary, is_served
+
+__all__ = ["ClosedError", "NoOwnerError", "OutOfMemoryError", "Session", "WrongThreadError", "library_or_session", "library_path"]
 
 DONE, CLOSED, MEMORY, SHORT, OWNER, OPEN = range(6)
 FIRST_ROOM = 1 << 16
@@ -37,7 +41,9 @@ class _Handle(ctypes.Structure):
 
 
 def library_path() -> str:
-    """Give the path of the shared object: the variable OWLANTIMONY, or it stands beside the module, or where bindings/check builds it."""
+    """Give the path of the shared object: the variable OWLANTIMONY, or it stands beside the module, or where `tools/build library` puts it.
+
+    The variable may also name a socket where sessions are served, as `tools/try` of the repository does."""
     named = os.environ.get("OWLANTIMONY")
     if named:
         return named
@@ -46,12 +52,20 @@ def library_path() -> str:
     return beside if os.path.exists(beside) else os.path.join(here, "..", "..", "out", "libowlantimony.so")
 
 
-def _load(path: str) -> ctypes.CDLL:
+def library_or_session() -> str | Session:
+    """Give the path of the shared object or, where sessions are served on a socket, a new one of these."""
+    path = library_path()
+    return Session(path) if is_served(path) else path
+
+
+def _load(path: str) -> Any:
     """Give the library, with the types of its functions."""
+    if is_served(path):
+        return ServedLibrary(path)
     try:
         library = ctypes.CDLL(path)
     except OSError as fault:
-        raise OSError(f"{fault}: `bindings/check --build` proves and builds the library in about an hour, or OWLANTIMONY names it") from None
+        raise OSError(f"{fault}: `tools/build library` proves and builds the library, or OWLANTIMONY names it") from None
     handle, count, size = ctypes.POINTER(_Handle), ctypes.c_size_t, ctypes.POINTER(ctypes.c_size_t)
     text = ctypes.c_char_p
     for name, words in {
@@ -72,7 +86,7 @@ def _lines(text: bytes) -> list[str]:
     return text.decode("utf-8").split("\n")[:-1]
 
 
-class Session:
+class Session(NotPickled):
     """A run of the line protocol. `close` frees it, and so does the end of a `with` block.
 
     Every method raises `ClosedError` on a closed session, `OutOfMemoryError` where memory was refused to it or to an earlier call,
@@ -80,7 +94,7 @@ class Session:
     """
 
     def __init__(self, library: str | None = None) -> None:
-        """Open a session before its first line. Raise `OSError` where the shared object is not there."""
+        """Open a session before its first line, of the shared object at a path. Raise `OSError` where it is not there."""
         self._thread = threading.get_ident()
         self._handle = _Handle()
         self._size = ctypes.c_size_t()

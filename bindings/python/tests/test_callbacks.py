@@ -162,7 +162,7 @@ class Raising(DocumentTest):
 
     def test_a_copy_that_is_refused_leaves_nothing_to_warn_of(self):
         with mock.patch.object(sys, "unraisablehook") as hook:
-            self.assertRaises(ValueError, copy.deepcopy, self.div)
+            self.assertRaises(TypeError, copy.deepcopy, self.document.createElement("div").attachShadow())
             gc.collect()
         hook.assert_not_called()
 

@@ -4,17 +4,21 @@ import subprocess
 import sys
 import tempfile
 import unittest
+from unittest import mock
 
+from owlantimony import ClosedError
 from owlantimony.dom import Document, DomstringSizeErr, ForeignNode, HierarchyRequestErr
 from support import outline
 
 try:
     import html5lib
     from html5lib.constants import prefixes
+    from html5lib.serializer import HTMLSerializer
 
-    from owlantimony import html
+    from owlantimony import fastparser, html
+    from owlantimony.markup import Walker
 except ImportError:
-    html = None
+    html = fastparser = None
 
 PAGES = os.path.join(os.path.dirname(os.path.abspath(__file__)), "..", "..", "..", "examples", "pages")
 
@@ -36,7 +40,7 @@ def theirs(page):
 
 def ours(node):
     """Give a tree of ours as such tokens."""
-    return joined(html._Walker(node))
+    return joined(Walker(node))
 
 
 def qualified(space, name):
@@ -45,7 +49,7 @@ def qualified(space, name):
 
 
 def joined(tokens):
-    """Give tokens in one form: texts in one piece, and attributes under the names that HTML writes."""
+    """Give tokens in one form: texts in one piece, attributes under the names that HTML writes, and an empty name of a doctype that has none."""
     plain = []
     for token in tokens:
         kind, data = token["type"], token.get("data")
@@ -55,6 +59,8 @@ def joined(tokens):
             plain.append(("text", data))
         elif kind in ("StartTag", "EmptyTag"):
             plain.append((kind, token["namespace"], token["name"], {qualified(*key): value for key, value in data.items()}))
+        elif kind == "Doctype":
+            plain.append((kind, token["name"] or "", token["publicId"], token["systemId"]))
         else:
             plain.append(tuple(token.get(key) for key in ("type", "name", "namespace", "data", "publicId", "systemId")))
     return plain
@@ -68,6 +74,8 @@ class Pages(unittest.TestCase):
             self.assertEqual(without_added_line_feeds(ours(document)), expected)
             self.assertGreater(len(expected), 8)
             written = html.serialize(document)
+            writer = HTMLSerializer(omit_optional_tags=False, quote_attr_values="always", minimize_boolean_attributes=False)
+            self.assertEqual(written, writer.render(Walker(document)).replace("\r", "&#13;"))
             with html.parse(written) as again:
                 self.assertEqual(ours(again), ours(document))
                 self.assertEqual(html.serialize(again), written)
@@ -167,6 +175,36 @@ class Reading(unittest.TestCase):
             html.drop_carried(p)
             self.assertEqual(html.carried(document), [])
             self.assertEqual(html.serialize(document), "<html><head></head><body><p>a<o_p>b</o_p><svg></svg></p></body></html>")
+
+    def test_a_hook_is_told_how_far_a_page_was_read(self):
+        page = "<p>" + (f"{'x' * 250}<b>two</b> \u00e9") * 200
+        for text in (page, page.encode()):
+            for faster in (True, False):
+                told = []
+                with self.subTest(type(text), faster=faster), mock.patch.object(html, "_TOLD_EACH", 100), Document() as document:
+                    html.parse(text, document, progress=lambda *how: told.append(how), faster=faster)
+                    self.assertEqual(told[-1], (len(text), len(text)))
+                    self.assertEqual(told, sorted(set(told)))
+                    self.assertEqual({total for _, total in told}, {len(text)})
+                    self.assertGreater(len(told), 4)
+                    self.assertEqual(len(document.querySelectorAll("b")), 200)
+
+    def test_what_a_hook_raises_ends_the_parse(self):
+        class Enough(Exception):
+            pass
+
+        def hook(done, total):
+            raise Enough
+
+        for faster in (True, False):
+            made = []
+            with mock.patch.object(html.dom, "Document", side_effect=lambda: made.append(Document()) or made[-1]) as kind:
+                kind.__class__ = type
+                self.assertRaises(Enough, html.parse, "<p>one", progress=hook, faster=faster)
+            self.assertRaises(ClosedError, made[0].createElement, "p")
+        with Document() as document:
+            self.assertRaises(Enough, html.parse, "<p>one", document, progress=hook)
+            self.assertTrue(document.createElement("p"))
 
     def test_what_is_no_page_document_or_node_is_refused(self):
         with html.parse("<p>x") as document:

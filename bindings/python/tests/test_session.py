@@ -8,6 +8,8 @@ import unittest
 
 from owlantimony import ClosedError, NoOwnerError, Session, WrongThreadError
 from owlantimony.dom import Document
+from owlantimony.served import is_served
+from owlantimony.session import library_path
 
 EXAMPLES = os.path.join(os.path.dirname(os.path.abspath(__file__)), "..", "..", "..", "examples")
 MODULE = os.path.join(os.path.dirname(os.path.abspath(__file__)), "..")
@@ -54,7 +56,7 @@ class Sessions(unittest.TestCase):
             self.assertEqual(session.finish(), [])
 
     def test_a_library_that_is_not_there_says_how_it_is_built(self):
-        with self.assertRaisesRegex(OSError, "bindings/check --build"):
+        with self.assertRaisesRegex(OSError, "tools/build library"):
             Session("/nowhere/libowlantimony.so")
 
     def test_a_view_has_its_owners_lines_alone(self):
@@ -137,6 +139,7 @@ class Sessions(unittest.TestCase):
         self.assertEqual(len(raised), 2)
         self.assertRaises(ClosedError, document.createTextNode, "x")
 
+    @unittest.skipIf(is_served(library_path()), "the engine is another program's")
     def test_want_of_memory_is_an_error_of_its_own_and_stays(self):
         """In a process that may not have more than 60 MB beside what it has."""
         program = textwrap.dedent("""

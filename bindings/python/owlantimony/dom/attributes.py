@@ -39,7 +39,12 @@ class Attr:
         else:
             self.ownerElement.setAttribute(self.name, value)
 
-    nodeName = localName = property(lambda self: self.name)
+    @property
+    def ownerDocument(self) -> Any:
+        """The node document of the element, and None where there is no element."""
+        return None if self.ownerElement is None else self.ownerElement.ownerDocument
+
+    nodeName = localName = property(lambda self: self.name, doc="The name.")
     nodeValue = textContent = value
 
     def __repr__(self) -> str:

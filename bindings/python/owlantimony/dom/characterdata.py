@@ -6,6 +6,7 @@ from typing import Any
 from xml.dom import IndexSizeErr
 
 from ..strings import units, slice_of
+from .extension import native
 from .owner import NODE_CLASSES
 from .parents import ChildNode
 from .node import Node
@@ -14,6 +15,8 @@ from .treetext import tokens
 __all__ = ["CharacterData", "Comment", "Text", "offset_or_error"]
 
 GREATEST = 999_999_999
+SHOWN = 40
+"""How many characters of the data a `repr` shows."""
 
 
 def offset_or_error(offset: int) -> int:
@@ -31,6 +34,7 @@ def _count_or_error(count: int) -> int:
     return offset_or_error(min(index(count), GREATEST))
 
 
+@native
 class CharacterData(ChildNode):
     """A node with data (DOM Standard, #interface-characterdata). Offsets and lengths count 16-bit code units.
 
@@ -38,6 +42,14 @@ class CharacterData(ChildNode):
     """
 
     __slots__ = ()
+
+    def __repr__(self) -> str:
+        return f"<{type(self).__name__} {self._shown}{self._told(self._beginning)}>"
+
+    def _beginning(self) -> str:
+        """Give the beginning of the data, for a `repr`."""
+        data = self.data
+        return f" {data!r}" if len(data) <= SHOWN else f" {data[:SHOWN]!r}.."
 
     @property
     def data(self) -> str:
@@ -95,6 +107,7 @@ class CharacterData(ChildNode):
         self._owner.replace_data(self._name, offset_or_error(offset), _count_or_error(count), data)
 
 
+@native
 class Text(CharacterData):
     """A Text (DOM Standard, #interface-text)."""
 
@@ -124,6 +137,7 @@ class Text(CharacterData):
         return "".join(whole)
 
 
+@native
 class Comment(CharacterData):
     """A Comment (DOM Standard, #interface-comment)."""
 

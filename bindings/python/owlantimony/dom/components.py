@@ -1,15 +1,17 @@
 """Components: the owners of closed shadow trees."""
 from __future__ import annotations
 
+from ..pickling import NotPickled
 from .document import NodeFactory, ShadowRoot
 from .element import Element
 from .engine import Engine
+from .nativeowner import new_owner
 from .owner import Owner
 
 __all__ = ["Component"]
 
 
-class Component(NodeFactory):
+class Component(NodeFactory, NotPickled):
     """The owner of a closed shadow tree: it alone reaches the tree, makes nodes for it and sees events inside it.
 
     Whoever attached it hands it to the code of the widget, and keeps no way in. The nodes of another owner are `ForeignNode`s here.
@@ -23,7 +25,7 @@ class Component(NodeFactory):
     @classmethod
     def _of(cls, engine: Engine, word: str) -> Component:
         component = object.__new__(cls)
-        component._owner = Owner(engine, word)
+        component._owner = new_owner(engine, word)
         return component
 
     @property

@@ -11,7 +11,9 @@ from .callbacks import callback_or_error
 from .characterdata import Comment, Text
 from .cloning import clone
 from .element import Element
-from .engine import Engine, Lines
+from .engine import Lines
+from .extension import native
+from .nativeowner import new_engine, new_owner
 from .node import Node
 from .owner import NODE_CLASSES, Owner, name_or_error
 from .parents import ParentNode
@@ -30,15 +32,15 @@ class NodeFactory:
     def _made(self, node: Any) -> Any:
         return node
 
-    def createElement(self, name: str) -> Element:
+    def createElement(self, name: str, /) -> Element:
         """Make an element. Raise InvalidCharacterErr for what is no name here: a letter or `_`, then letters, digits, `-` and `_`."""
         return self._made(self._owner.make_element(name))
 
-    def createTextNode(self, data: str) -> Text:
+    def createTextNode(self, data: str, /) -> Text:
         """Make a Text."""
         return self._made(self._owner.make_data("text", data))
 
-    def createComment(self, data: str) -> Comment:
+    def createComment(self, data: str, /) -> Comment:
         """Make a Comment."""
         return self._made(self._owner.make_data("comment", data))
 
@@ -54,9 +56,9 @@ class NodeFactory:
         """Give a clone of a node of another document of this owner, with this node document.
 
         Raise NotSupportedErr for a document or a shadow root, and WrongDocumentErr for another owner's node."""
-        self._owner.name_of(node)
-        if node.nodeType == Node.DOCUMENT_NODE:
+        if isinstance(node, Document):
             raise NotSupportedErr(f"not-supported: {node!r} is a document")
+        self._owner.name_of(node)
         return self._made(clone(node, deep))
 
     def createRange(self) -> Range:
@@ -83,6 +85,7 @@ class NodeFactory:
         self._owner.engine.end_turn()
 
 
+@native
 class Document(NodeFactory, ParentNode):
     """A document (DOM Standard, #interface-document).
 
@@ -91,14 +94,23 @@ class Document(NodeFactory, ParentNode):
     """
 
     nodeType = Node.DOCUMENT_NODE
+    doctype = None
+    """None: no document has a doctype. `owlantimony.html` carries it beside the document."""
     __slots__ = ()
 
     def __new__(cls, session: Lines | None = None) -> Any:
         """Open the page over a session of its own, or over what has the methods of one."""
-        return Owner(Engine(session), "p").node("n0")
+        return new_owner(new_engine(session), "p").node("n0")
 
     def __init__(self, session: Lines | None = None) -> None:
         """Do nothing more."""
+
+    @classmethod
+    def fromstring(cls, page: str | bytes) -> Document:
+        """Parse a page of HTML, and give its document, with a session of its own. `owlantimony.html.parse`, which does it, wants html5lib."""
+        from .. import html
+
+        return html.parse(page)
 
     def __enter__(self) -> Document:
         return self
@@ -177,6 +189,7 @@ class Document(NodeFactory, ParentNode):
         return self.createElement(qualifiedName)
 
 
+@native
 class DocumentFragment(ParentNode):
     """A fragment (DOM Standard, #interface-documentfragment): inserting it inserts its children."""
 
@@ -184,6 +197,7 @@ class DocumentFragment(ParentNode):
     __slots__ = ()
 
 
+@native
 class ShadowRoot(DocumentFragment):
     """The root of a component's closed tree (DOM Standard, #interface-shadowroot)."""
 

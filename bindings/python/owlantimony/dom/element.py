@@ -8,6 +8,7 @@ from xml.dom.minicompat import NodeList
 
 from ..strings import quote, unquote_known
 from .attributes import Attr, DOMTokenList, NamedNodeMap
+from .extension import native
 from .node import Node
 from .owner import NODE_CLASSES, names_in
 from .parents import ChildNode, ParentNode
@@ -18,6 +19,7 @@ if TYPE_CHECKING:
 __all__ = ["Element"]
 
 
+@native
 class Element(ParentNode, ChildNode):
     """An element (DOM Standard, #interface-element). Names are kept as they are given, and none has a namespace."""
 
@@ -37,7 +39,11 @@ class Element(ParentNode, ChildNode):
         return self.tagName
 
     def __repr__(self) -> str:
-        return f"<Element {self.tagName} {self._shown}>"
+        return f"<Element {self.tagName} {self._shown}{self._told(self._id_and_class)}>"
+
+    def _id_and_class(self) -> str:
+        """Give the attributes by which one knows an element, for a `repr`."""
+        return "".join(f" {name}={value!r}" for name in ("id", "class") if (value := self.getAttribute(name)))
 
     # ---- attributes
 
@@ -50,7 +56,7 @@ class Element(ParentNode, ChildNode):
         """Give the names of the attributes, in order."""
         return list(self._owner.attributes(self._name))
 
-    def getAttribute(self, name: str) -> str | None:
+    def getAttribute(self, name: str, /) -> str | None:
         """Give an attribute's value, and None where there is none."""
         if name not in self._owner.attributes(self._name):
             return None
@@ -66,7 +72,7 @@ class Element(ParentNode, ChildNode):
         """Take an attribute away, if it is there, or is carried beside the element by `owlantimony.html`."""
         self._owner.unset_attribute(self._name, name)
 
-    def hasAttribute(self, name: str) -> bool:
+    def hasAttribute(self, name: str, /) -> bool:
         """Give whether there is such an attribute."""
         return name in self._owner.attributes(self._name)
 

@@ -101,9 +101,11 @@ class Engine:
             self.deliver(self.session.line(f"{word} .")[:-1])
 
     def close(self) -> None:
-        """Free the session."""
+        """Free the session. What was read of it is forgotten, so that each later call asks it, and is told that it is closed."""
         self._turn = None
         self.session.close()
+        for owner in self.owners.values():
+            owner.forget()
 
     def deliver(self, lines: list[str]) -> None:
         """Call back for each line, in order. All are called, also where one raises an exception."""

@@ -4,7 +4,7 @@ from __future__ import annotations
 import sys
 from xml import dom
 
-__all__ = ["CallbackErrors", "InvalidNodeTypeErr", "LimitErr", "refusal", "together"]
+__all__ = ["CallbackErrors", "InvalidNodeTypeErr", "LimitErr", "refusal", "refusal_names", "together"]
 
 if sys.version_info >= (3, 11):
 
@@ -49,6 +49,8 @@ _CLASSES: dict[str, type[Exception]] = {
     "type": TypeError,
     "limit": LimitErr,
 }
+refusal_names = ("ok", *_CLASSES)
+"""The refusals by their numbers in the protocol."""
 _MOST_SHOWN = 200
 LONGEST_LINE = 65_536
 

@@ -6,6 +6,8 @@ from collections.abc import Mapping
 from typing import TYPE_CHECKING, Any
 from xml.dom import NotSupportedErr
 
+from ..pickling import NotPickled
+
 if TYPE_CHECKING:
     from .owner import Owner
 
@@ -97,7 +99,7 @@ class ShownEvent:
         return f"<ShownEvent {self.type} at {self.currentTarget!r}>"
 
 
-class EventTarget:
+class EventTarget(NotPickled):
     """Listeners and dispatch (DOM Standard, #interface-eventtarget)."""
 
     __slots__ = ()

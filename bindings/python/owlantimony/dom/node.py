@@ -1,11 +1,13 @@
 """Nodes: what all kinds have."""
 from __future__ import annotations
 
-from collections.abc import Iterator, Sequence
+from collections.abc import Callable, Iterator, Sequence
 from typing import TYPE_CHECKING, Any
 from xml.dom import NotFoundErr
 
+from ..session import ClosedError, OutOfMemoryError, WrongThreadError
 from .events import EventTarget
+from .extension import native
 from .treetext import tokens
 
 if TYPE_CHECKING:
@@ -34,7 +36,7 @@ class ChildNodes(Sequence[Any]):
 
     def __iter__(self) -> Iterator[Any]:
         """Give the children that are there when the loop begins."""
-        return map(self._parent._owner.node, self._names())
+        return iter(self._parent._owner.child_nodes(self._parent._name))
 
     def __eq__(self, other: object) -> bool:
         if not isinstance(other, (ChildNodes, list, tuple)):
@@ -55,6 +57,7 @@ class ChildNodes(Sequence[Any]):
         return self._parent._owner.node(names[index]) if 0 <= index < len(names) else None
 
 
+@native
 class Node(EventTarget):
     """A node of the page or of a component (DOM Standard, #interface-node).
 
@@ -101,8 +104,26 @@ class Node(EventTarget):
     def __bool__(self) -> bool:
         return True
 
+    def __copy__(self) -> Any:
+        """Give a clone of this node alone."""
+        return self.cloneNode(False)
+
+    def __deepcopy__(self, known: object) -> Any:
+        """Give a clone of this node with all that is below it, of the same document."""
+        return self.cloneNode(True)
+
     def __repr__(self) -> str:
         return f"<{type(self).__name__} {self._shown}>"
+
+    def _told(self, of: Callable[[], str]) -> str:
+        """Give what a `repr` tells by asking the engine. While the owner does not have the turn it tells nothing, so that it ends no turn."""
+        engine = self._owner.engine
+        if engine._turn is not self._owner:
+            return ""
+        try:
+            return of()
+        except (ClosedError, OutOfMemoryError, WrongThreadError):
+            return ""
 
     # ---- reading
 
@@ -230,7 +251,7 @@ class Node(EventTarget):
 
     # ---- changing
 
-    def appendChild(self, node: Node) -> Any:
+    def appendChild(self, node: Node, /) -> Any:
         """Append `node` to the children, and give it (DOM Standard, #dom-node-appendchild).
 
         Raise HierarchyRequestErr where the Standard refuses it."""
@@ -251,7 +272,7 @@ class Node(EventTarget):
         self._owner.replace(self._name, self._owner.name_of(node), self._owner.name_of(child))
         return child
 
-    def removeChild(self, child: Node) -> Any:
+    def removeChild(self, child: Node, /) -> Any:
         """Take `child` out, and give it (DOM Standard, #dom-node-removechild). Raise NotFoundErr where it is no child."""
         name = self._owner.name_of(child)
         if self._owner.parent(name) != self._name:

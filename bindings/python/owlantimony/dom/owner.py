@@ -7,6 +7,7 @@ from typing import TYPE_CHECKING, Any
 from weakref import WeakValueDictionary
 from xml.dom import InvalidCharacterErr, WrongDocumentErr
 
+from ..pickling import NotPickled
 from ..strings import PIECE, pieces_of, quote
 from .callbacks import Callbacks
 from .engine import Engine
@@ -29,7 +30,7 @@ _ROOM = LONGEST_LINE - 200
 _LEAVES = ("#text", "#comment")
 
 
-class ForeignNode:
+class ForeignNode(NotPickled):
     """A node of another owner, as an event or a slot shows it: it may be compared by `==`, and nothing can be asked of it or done to it."""
 
     __slots__ = ("_engine", "_shown")
@@ -49,7 +50,7 @@ class ForeignNode:
         return f"<ForeignNode {self._shown}>"
 
 
-class Owner:
+class Owner(NotPickled):
     """The nodes of a page or a component. A node is one object as long as it is held.
 
     A node's name never changes, and attributes change by `set` and `unset` alone: their names are kept as the commands made them.
@@ -94,9 +95,14 @@ class Owner:
         """Run a command of this owner, and give the value of its reply."""
         return self.engine.ask(self, command)
 
+    def forget(self) -> None:
+        """Forget what was read of trees and attributes."""
+        self.memory.forget_all()
+        self._attributes.clear()
+
     def told_of(self, command: str) -> str:
         """Give in words which nodes a command names in front of its first string."""
-        kinds = [(name, self._kinds[name]) for name in command.split('"', 1)[0].split(" ") if name in self._kinds]
+        kinds = [(name, kind) for name in command.split('"', 1)[0].split(" ") if (kind := self.known_kind(name)) is not None]
         return f" ({', '.join(f'{name} is {kind}' for name, kind in dict.fromkeys(kinds))})" if kinds else ""
 
     # ---- names and objects
@@ -134,6 +140,10 @@ class Owner:
         if kind is None:
             kind = self._kinds[name] = intern(kind_of_first(self.ask(f"tree {name}")))
         return kind
+
+    def known_kind(self, name: str) -> str | None:
+        """Give the node name of a node, or None where it is not known yet, or the word names no node."""
+        return self._kinds.get(name)
 
     # ---- making nodes
 
@@ -200,6 +210,14 @@ class Owner:
             children = () if self.kind(name) in _LEAVES else names_in(self.ask(f"children {name}"))
             self.memory.learn_children(name, children)
         return children
+
+    def child_nodes(self, name: str) -> list[Any]:
+        """Give the objects of a node's children."""
+        return [self.node(child) for child in self.children(name)]
+
+    def query(self, name: str, selectors: str) -> list[Any]:
+        """Give the elements below a node that match. Raise SyntaxErr for text that is no selector here."""
+        return self.nodes(self.ask(f"query {name} {quote(selectors)}"))
 
     def index(self, name: str) -> int:
         """Give the index of a node that has a parent."""
@@ -303,9 +321,12 @@ class Owner:
         """Give an attribute a value. What was carried under this name is dropped."""
         self.ask(f"set {name} {name_or_error(attribute)} {quote(value)}")
         self._drop_carried(name, attribute)
-        known = self._attributes.get(name)
+        known = self._known_attributes(name)
         if known is not None and attribute not in known:
             known.append(attribute)
+
+    def _known_attributes(self, name: str) -> list[str] | None:
+        return self._attributes.get(name)
 
     def unset_attribute(self, name: str, attribute: str) -> None:
         """Take an attribute away, and what was carried under this name."""

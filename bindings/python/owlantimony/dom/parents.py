@@ -2,11 +2,12 @@
 from __future__ import annotations
 
 import re
+from collections.abc import Iterator
 from typing import TYPE_CHECKING, Any
 from xml.dom import HierarchyRequestErr
 from xml.dom.minicompat import NodeList
 
-from ..strings import quote
+from .extension import native
 from .node import Node
 from .owner import NAME
 from .treetext import text_in, tokens
@@ -40,6 +41,7 @@ def _one_node(owner: Owner, nodes: tuple[Node | str, ...]) -> Any:
     return fragment
 
 
+@native
 class ParentNode(Node):
     """A document, a fragment, a shadow root or an element.
 
@@ -47,6 +49,29 @@ class ParentNode(Node):
     """
 
     __slots__ = ()
+
+    def __iter__(self) -> Iterator[Any]:
+        """Give the children that are there when the loop begins."""
+        return iter(self._owner.child_nodes(self._name))
+
+    def __len__(self) -> int:
+        """Give how many children there are."""
+        return len(self.childNodes)
+
+    def __contains__(self, child: object) -> bool:
+        """Give whether something is a child of this node."""
+        return getattr(child, "_owner", None) is self._owner and getattr(child, "parentNode", None) is self
+
+    def iter(self, *names: str) -> Iterator[Element]:
+        """Give this node, if it is an element, and the elements below, in tree order; where names are given, those with one of them.
+
+        They are the elements that are there when this is called."""
+        own: list[Any] = [self] if self.nodeType == Node.ELEMENT_NODE else []
+        return iter([node for node in own + self._query("*") if not names or node.nodeName in names])
+
+    def itertext(self) -> Iterator[str]:
+        """Give the data of each Text below, in tree order, as they are when this is called."""
+        return iter([token.value for token in tokens(self._owner.ask(f"tree {self._name}")) if token.node_name == "#text"])
 
     @property
     def textContent(self) -> str | None:
@@ -156,9 +181,10 @@ class ParentNode(Node):
         return found
 
     def _query(self, selectors: str) -> NodeList[Element]:
-        return NodeList(self._owner.nodes(self._owner.ask(f"query {self._name} {quote(selectors)}")))
+        return NodeList(self._owner.query(self._name, selectors))
 
 
+@native
 class ChildNode(Node):
     """An element, a Text or a Comment. Several nodes go into a fragment first, as `ParentNode` says."""
 

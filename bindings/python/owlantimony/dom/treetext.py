@@ -49,25 +49,30 @@ def tokens(text: str) -> Iterator[Token]:
             yield _CLOSE
         elif last == "string":
             yield Token("attribute", match["name"], value=unquote_known(match["string"]))
-        elif last == "tag":
-            yield Token("open", match["node"], match["tag"])
-        elif last == "value":
-            yield Token("open", match["node"], NODE_NAMES[match["data"]], unquote_known(match["value"]))
         else:
-            yield Token("open", match["node"], NODE_NAMES[match["kind"]])
+            yield Token("open", match["node"], *_name_and_data(match))
+
+
+def _name_and_data(match: re.Match[str]) -> tuple[str, str]:
+    """Give the node name and the data of the node that a match begins."""
+    if match.lastgroup == "tag":
+        return match["tag"], ""
+    if match.lastgroup == "value":
+        return NODE_NAMES[match["data"]], unquote_known(match["value"])
+    return NODE_NAMES[match["kind"]], ""
 
 
 def parts_of(text: str) -> Iterator[Part]:
     """Give the beginnings and the ends of a tree's nodes in tree order."""
     attributes: dict[str, str] = {}
-    for token in tokens(text):
-        if token.what == "attribute":
-            attributes[token.name] = token.value
-        elif token.what == "close":
+    for match in _TOKEN.finditer(text):
+        if match.lastgroup == "close":
             yield _END
+        elif match.lastgroup == "string":
+            attributes[match["name"]] = unquote_known(match["string"])
         else:
             attributes = {}
-            yield Part("begin", token.name, token.node_name, token.value, attributes)
+            yield Part("begin", match["node"], *_name_and_data(match), attributes)
 
 
 def text_in(text: str) -> str:
