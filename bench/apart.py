@@ -268,10 +268,21 @@ def long_text(size):
     return [f'p new text "{"x" * 10 * size}"'], ['p replace-data n1 1 2 "xy"'] * TURNS
 
 
+def listeners_of_types(size):
+    """Listeners of so many types come to one node, and go but for the last, which then hears an event."""
+    types = [f"t{number}" for number in range(size)]
+    listened = [f"p listen n1 {each} l log" for each in types]
+    unlistened = [f"p unlisten n1 {each} l" for each in types[:-1]]
+    return ["p new element b"], [*listened, *unlistened, f"p dispatch n1 {types[-1]}"]
+
+
+# Where a kind is tried at other sizes.
+OWN_SIZES = {listeners_of_types: (20_000, 40_000)}
+
 SURROUNDINGS = (
     append_at_depth, set_at_depth, set_under_observer, dispatch_at_depth, walk_at_depth, slot_among_slots, slottable_before_others,
     slottable_of_last_slot, slottables_of_one_slot, subtree_without_slots, subtree_under_ranges, subtree_under_iterators, two_lists,
-    range_among_ranges, range_start, iterator_among_iterators, last_text_split, long_text,
+    range_among_ranges, range_start, iterator_among_iterators, last_text_split, long_text, listeners_of_types,
 )
 
 
@@ -291,6 +302,10 @@ def lines_of(kind, first):
     return [line.format(next=first + turn) for turn in range(TURNS) for line in LINES[kind](turn)]
 
 
+def sizes_of(kind):
+    return OWN_SIZES.get(kind, AROUND)
+
+
 def counted_around(program, pool, kind):
     """The instructions of a line at both sizes, and how many lines are refused."""
     def counted(size):
@@ -298,7 +313,7 @@ def counted_around(program, pool, kind):
         lines = [line.format(next=size + turn // 2) for turn, line in enumerate(lines)]
         (alone, before), (both, refused) = pool.map(lambda script: instructions_of(program, script), (page, page + lines))
         return (both - alone) / len(lines), refused - before
-    (small, no), (large, none) = (counted(size) for size in AROUND)
+    (small, no), (large, none) = (counted(size) for size in sizes_of(kind))
     return small, large, no + none
 
 
@@ -308,10 +323,12 @@ def around(program, words, print_all):
     with ThreadPoolExecutor(os.cpu_count()) as pool:
         for kind in [it for it in SURROUNDINGS if not words or any(word in it.__name__ for word in words)]:
             small, large, no = counted_around(program, pool, kind)
-            rate = (large - small) / (AROUND[1] - AROUND[0])
+            sizes = sizes_of(kind)
+            rate = (large - small) / (sizes[1] - sizes[0])
+            grows = rate > 2 or kind in OWN_SIZES and large > 1.1 * small
             refused += no
-            grown += rate > 2
-            if rate > 2 or print_all:
+            grown += grows
+            if grows or print_all:
                 print(f"{kind.__name__:28}{small:12,.0f} / {large:,.0f}, {rate:,.1f} a unit", flush=True)
     return grown, refused
 
