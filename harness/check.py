@@ -158,8 +158,16 @@ def words_given() -> argparse.Namespace:
     parser = argparse.ArgumentParser(description="Checks that the judging sees wrong behaviours.")
     parser.add_argument("--engine", choices=engines.ENGINES, help="plant them in this engine, in place of what is recorded")
     parser.add_argument("--record", action="store_true", help="keep what the engine answered in planted/answers.json")
-    parser.add_argument("--program", default=engines.PROGRAM, metavar="DOMRUN", help="the built domrun, where it is there")
+    parser.add_argument("--program", default=engines.PROGRAM, metavar="DOMRUN", help="the built domrun, if it is there")
+    parser.add_argument("--unproved", action="store_true", help="build the program without a proof: two minutes, not kept")
     return parser.parse_args()
+
+
+def program_of(words: argparse.Namespace) -> engines.Program | engines.Unproved | None:
+    """The program that also has to answer as recorded, if there is one."""
+    if words.unproved:
+        return engines.Unproved()
+    return engines.Program(words.program) if os.path.exists(words.program) else None
 
 
 def live(words: argparse.Namespace, wanted: dict) -> tuple[str, str, dict, dict]:
@@ -175,10 +183,10 @@ def live(words: argparse.Namespace, wanted: dict) -> tuple[str, str, dict, dict]
 
 def main() -> int:
     words = words_given()
-    program = engines.Program(words.program) if os.path.exists(words.program) else None
+    program = program_of(words)
     names = sorted({name.split("/")[0] for name in [*names_of_faults(), *OF_THE_PROGRAM]})
     if words.record:
-        wanted = dict(zip(names, engines.Program(words.program).run([script_of(name) for name in names])))
+        wanted = dict(zip(names, (program or engines.Program(words.program)).run([script_of(name) for name in names])))
     else:
         engine, version, wanted, right, wrong = recorded()
     if words.engine:
@@ -191,7 +199,8 @@ def main() -> int:
     for fault in faults:
         print(f"check: {fault}")
     how = "planted in" if words.engine else "recorded in"
-    print(f"check: {len(wrong) + len(OF_THE_PROGRAM)} wrong behaviours, {how} {version}, {len(faults)} faults; {'with' if program else 'without'} the program")
+    known_program = "without the program" if not program else "with the program, built without a proof" if words.unproved else "with the program"
+    print(f"check: {len(wrong) + len(OF_THE_PROGRAM)} wrong behaviours, {how} {version}, {len(faults)} faults; {known_program}")
     return 1 if faults else 0
 
 

@@ -25,6 +25,8 @@ import known
 import scripts
 import shrinking
 
+BATCH = 500  # random scripts that are judged together
+
 
 class Comparison:
     """An engine and a program, and what they are found to have in common."""
@@ -60,9 +62,7 @@ class Comparison:
         return [lines for lines, verdict in zip(tried, judged) if verdict.names is None]
 
     def small(self, verdict):
-        """The verdict on the script made small, as long as a program that need not be built again tells what it answers."""
-        if not isinstance(self.program, engines.Program):
-            return verdict
+        """The verdict on the script made small."""
         script = shrinking.small(verdict.script, self.program, self.unexplained)
         return self.judged([(f"{verdict.title}, made small", script)])[0]
 
@@ -113,10 +113,9 @@ class Json(Printed):
 
 
 def random_batches(words):
-    """Batches of random scripts, titled by seed and number: the size of one is that for which `rt try` builds the program once."""
-    size = max(words.random, 1) if words.unproved else 500
-    for first in range(words.first, words.first + words.random, size):
-        count = min(size, words.first + words.random - first)
+    """Batches of random scripts, titled by seed and number."""
+    for first in range(words.first, words.first + words.random, BATCH):
+        count = min(BATCH, words.first + words.random - first)
         made = scripts.random_scripts(words.seed, count, words.lines, first)
         yield [(f"seed {words.seed} number {first + i}", script) for i, script in enumerate(made)]
 
@@ -172,7 +171,7 @@ def words_given():
     what.add_argument("--examples", action="store_true", help="the scripts in examples/")
     how = parser.add_argument_group("where it is run")
     how.add_argument("--engine", choices=engines.ENGINES, default="chromium", help="the browser or library (chromium)")
-    how.add_argument("--program", default=engines.PROGRAM, metavar="DOMRUN", help="the built domrun (that of `rt run` in crates/domrun)")
+    how.add_argument("--program", default=engines.PROGRAM, metavar="DOMRUN", help="the built domrun (that of tools/build)")
     how.add_argument("--unproved", action="store_true", help="build the program without a proof, by `rt try`: two minutes, not kept")
     random = parser.add_argument_group("random scripts")
     random.add_argument("--seed", default="1", metavar="S", help="which scripts; number I of a seed is the same everywhere (1)")

@@ -73,24 +73,24 @@ class Program:
 
 
 class Unproved:
-    """The program as `rt try` builds it, without a proof: once for each list of scripts, in about two minutes. It is not kept."""
+    """The program as `rt try` builds it, without a proof: once, in about two minutes. It is not kept."""
 
     def __init__(self) -> None:
         find("rt")
+        self.program = unproved.Program(lambda text: print(f"harness: {text}", file=sys.stderr, flush=True))
+
+    def run_one(self, script: str) -> str:
+        answer = self.program.answer(unproved.Case("", script.encode("latin-1")))
+        if answer.fault:
+            raise SystemExit(f"rt try: {answer.fault}\n{script}")
+        return answer.output.decode("latin-1")
 
     def run(self, scripts: list[str]) -> list[str]:
         """What domrun writes for each script."""
-        if not scripts:
-            return []
-        cases = [unproved.Case(f"{number}", script.encode("latin-1")) for number, script in enumerate(scripts, 1)]
         try:
-            answers = unproved.run(cases, lambda text: print(f"compare: {text}", file=sys.stderr, flush=True))
+            return [self.run_one(script) for script in scripts]
         except unproved.Fault as fault:
             raise SystemExit(str(fault)) from None
-        for answer in answers:
-            if answer.fault:
-                raise SystemExit(f"rt try: script {answer.case.name}: {answer.fault}")
-        return [answer.output.decode("latin-1") for answer in answers]
 
 
 def page_of(given):

@@ -111,6 +111,8 @@ class Machine:
                 reached = own
             cancelled = cancelled or flags[1] and not was[1]
         if is_told and not self.is_silent:
+            # The first and the last of the visits are the group's, if any is: so others stop the event between two visits of the group.
+            assert not own or reached is None or 0 < reached < own
             self.records.append(Record(reached, cancelled))
         return not (record.cancelled or flags[1])
 
