@@ -5,19 +5,19 @@ import svg
 
 # The rows from the top, each with its groups: what a group is called, what it is for, and its crates.
 ROWS = (
-    (("the program", "reads lines, writes answers", ("domrun",)), ("the library for C", "sessions behind handles", ("dom_c",)),
+    (("the program", "reads lines, writes answers", ("domrun",)), ("the library for C", "sessions in handles", ("dom_c",)),
      ("tests and callers", "what scripts cannot show", ("dom_tests", "dom_layer_tests", "dom_callers"))),
     (("the engine", "sessions, runs, and the theorems about runs", ("dom_engine",)),),
     (("commands", "what a line does: who may pass, the handlers, listeners, the ends of turns",
       ("dom_admission", "dom_node_commands", "dom_query_commands", "dom_commands")),),
     (("documents", "the Standard's mutation algorithms over all that owners have",
-      ("dom_node_trees", "dom_parts", "dom_mutation", "dom_range_ops")),),
+      ("dom_mutation", "dom_range_ops")),),
     (("beside the trees", "cursors, selectors, ranges, slots, observers, event paths",
       ("dom_traversal", "dom_selectors", "dom_ranges", "dom_slots", "dom_observers", "dom_microtasks", "dom_path", "dom_dispatch")),
      ("lines", "bytes to commands, answers to text",
-      ("dom_words", "dom_reader", "dom_printer", "dom_streams", "dom_program"))),
+      ("dom_words", "dom_reader", "dom_printer", "dom_answers", "dom_streams", "dom_program"))),
     (("trees", "nodes in memory, attributes, the forest of all owners", ("node_arena", "dom_attributes", "dom_tree")),
-     ("laws", "proved of the definitions, without code", ("dom_worlds", "dom_isolation", "dom_examples"))),
+     ("laws", "proved of the definitions, without code", ("dom_worlds", "dom_isolation", "dom_live", "dom_examples"))),
     (("laws of trees", "lists of names, and trees in which each name stands once", ("dom_laws",)),),
     (("the meaning", "the definitions after the DOM Standard, and the text of the protocol", ("dom_base", "dom_model", "dom_text")),),
 )
