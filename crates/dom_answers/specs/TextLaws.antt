@@ -1,5 +1,6 @@
 -- Lines of output that come one after another: what the laws of text as an answer say.
-use Rattle.dom_base.proofs.Std.{◌≡◌, ℕ, List, [], ◌++◌, sym, ap, ◌∙◌, append_assoc, append-nil}
+use Rattle.std.specs.Prelude.{◌≡◌, ℕ, List, [], ◌++◌}
+use Rattle.dom_base.proofs.Std.{sym, ap, ◌∙◌, append_assoc, append-nil}
 use Rattle.dom_model.specs.Output.{Output}
 use Rattle.dom_text.specs.Text.{output_text}
 use Rattle.dom_text.proofs.OutputLaws.{output_text-append}

@@ -1,5 +1,6 @@
 -- Items that come one after another: what the laws of values as an answer say.
-use Rattle.dom_base.proofs.Std.{◌≡◌, List, [], ◌++◌, map, sym, ap, ◌∙◌, append_assoc, append-nil, map-append}
+use Rattle.std.specs.Prelude.{◌≡◌, List, [], ◌++◌, map}
+use Rattle.dom_base.proofs.Std.{sym, ap, ◌∙◌, append_assoc, append-nil, map-append}
 use Rattle.dom_model.specs.Output.{Output}
 use Rattle.dom_answers.specs.Told.{shown_output}
 
