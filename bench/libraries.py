@@ -9,9 +9,12 @@ of each table says what was measured: that library, as `tools/build library` pro
 library that is not the engine, such as bindings/out/standin/libstandin.a, is refused if WORDS do not say what it is.
 
 The page and the steps stand in bench/libraries/work.h. Each program of bench/libraries does them in one library, on a page of its own, one
-process each. A library that is not on this machine (Debian: libxml2-dev, libpugixml-dev) is said on standard error and left out, and so is
-the engine by the lines of owlantimony_dom.h, and by typed calls, where LIBRARY has no such exports. Before anything is timed, all programs
-have to find the same, and to leave the same page, after the first step and after the last.
+process each. libxml2 and pugixml have no selectors: what is asked of them is XPath, as their documentation has it; a program that walked by
+itself would be faster. The engine takes UTF-16, so its program widens its texts, which is timed too.
+
+A library that is not on this machine (Debian: libxml2-dev, libpugixml-dev) is said on standard error and left out, and so is the engine by
+the lines of owlantimony_dom.h, and by typed calls, where LIBRARY has no such exports. Before anything is timed, all programs have to
+find the same, and to leave the same page, after the first step and after the last.
 
 Times are of the processor, the medians of the rounds (25 if no number is given); in a round each program runs once. Instructions are
 counted by `valgrind --tool=callgrind`, which other work does not disturb: of a step the difference of a run with it and one without, of
