@@ -1,4 +1,5 @@
-//! Input and output behind buffers: output is kept until more input is needed, so that nobody waits for an answer that is ready.
+//! Buffered input and output. Before more input is read, the output that is kept is handed on, so that nobody waits for an answer that is
+//! ready.
 ghost use Rattle.std.specs.Prelude.{◌≡◌, ◌+◌, ◌<◌, [], false, IfOk, IsErr, OnOk};
 ghost use Rattle.std.specs.Io.{WritesAtMost};
 ghost use Rattle.std.specs.Io.Buffered.{writer_buffer, writer_contents};
@@ -10,11 +11,11 @@ use std::alloc::{AllocError, Global};
 use std::io;
 use std::io::{BufReader, BufWriter, ErrorKind, Read, Write};
 
-/// How many bytes of input, and how many of output, are kept at most.
+/// The most bytes of input, and the most bytes of output, that are kept.
 const ROOM: usize = 1 << 16;
 
-/// Where output is kept, with the writer that it is handed on to. After a call has failed nothing is handed on any more, and
-/// what is kept at the end is dropped.
+/// Output that is kept, and the writer that it is handed on to. After a call has failed, nothing more is handed on, and what is kept is
+/// dropped at the end.
 pub struct Output<W: Write + Drop> {
     kept: BufWriter<W>,
     has_failed: bool,
@@ -26,7 +27,7 @@ pub struct Output<W: Write + Drop> {
 impl<W: Write + Drop> Output<W> {
     ghost use Rattle.dom_program.specs.Buffers.{handed_to};
 
-    /// Output before its first byte, of which no call has failed yet.
+    /// Output before its first byte. No call of it has failed.
     pub fn new(alloc: Global, writer: W) -> Result<Output<W>, AllocError>
         ensures contents { IfOk result (λ output. ⟦<Output<W> as Sink>⟧.contents output ≡ W.contents writer) }
         ensures taken { IfOk result (λ output. ⟦<Output<W> as Sink>⟧.taken output ≡ 0) }
@@ -41,7 +42,7 @@ impl<W: Write + Drop> Output<W> {
         })
     }
 
-    /// Fails where a call has failed.
+    /// Fails if a call has failed.
     #[inline(always)]
     fn expect_no_failure(&self) -> io::Result<()>
         ensures { 0 < self.now.failed_calls.total → IsErr result }
@@ -62,7 +63,7 @@ impl<W: Write + Drop> Output<W> {
         self.failed_calls = self.failed_calls.with(1);
     }
 
-    /// Keeps some first bytes, and gives their number. What was kept before is handed on where they find no room.
+    /// Keeps some first bytes, and gives their number. If they find no room, what was kept before is handed on.
     #[inline(always)]
     fn keep(&mut self, bytes: &[u8]) -> io::Result<usize>
         ensures bound { WritesAtMost result bytes.now }
@@ -89,8 +90,7 @@ impl<W: Write + Drop> Output<W> {
         self.kept.flush()
     }
 
-    /// Hands on all that is kept. A failure is counted, and after it nothing is handed on any more: a call after one that has
-    /// failed fails too.
+    /// Hands on all that is kept. A failure is counted. After it nothing more is handed on, and every call fails.
     pub fn hand_on(&mut self) -> io::Result<()>
         ensures bytes { Keeps (writer_contents W.contents self.old.kept) (writer_contents W.contents self.new.kept) }
         ensures empty { OnOk result (writer_buffer self.new.kept ≡ []) }
@@ -108,7 +108,7 @@ impl<W: Write + Drop> Output<W> {
     }
 }
 
-/// The error of a call after one that has failed. It is made out of line, since few calls have it.
+/// The error of a call after one that has failed. It is not inlined, since few calls have it.
 #[cold]
 #[inline(never)]
 fn failed_before() -> io::Error {
@@ -158,7 +158,7 @@ impl<W: Write + Drop> Drop for Output<W> {
     }
 }
 
-/// A reader of which many bytes are read at once. Where none of these are left, it asks for a flush before it reads more.
+/// A reader of which many bytes are read at once. When none of them are left, it asks for a flush before it reads more.
 #[derive(Drop)]
 pub struct Input<R: Read + Drop> {
     reader: BufReader<R>,
@@ -167,7 +167,7 @@ pub struct Input<R: Read + Drop> {
 }
 
 impl<R: Read + Drop> Input<R> {
-    /// The reader, which has given no byte and of which no call has failed yet.
+    /// The reader, before its first byte. No call of it has failed.
     pub fn new(alloc: Global, reader: R) -> Result<Input<R>, AllocError>
         ensures remaining { IfOk result (λ input. ⟦<Input<R> as Source>⟧.remaining input ≡ R.remaining reader) }
         ensures failures { IfOk result (λ input. ⟦<Input<R> as Source>⟧.failures input ≡ 0) }

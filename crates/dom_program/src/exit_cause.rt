@@ -7,13 +7,13 @@ use std::alloc::AllocError;
 /// Why the program stopped before the end of its input.
 #[derive(Clone, Copy)]
 pub enum ExitCause {
-    /// Its words are not those that it takes.
+    /// Its words are not as the program takes them.
     Usage,
-    /// The run met this fault, or memory was refused before it.
+    /// The run met this fault, or memory ran out before the run.
     Run(RunFault),
 }
 
-/// Want of memory stays want of memory, and every other error of the words is `Usage`.
+/// If the error of the words is that memory ran out, this is the fault `Memory`. Every other error is `Usage`.
 impl From<Error> for ExitCause {
     ghost use Rattle.std.specs.Prelude.{◌≡◌};
     ghost use Rattle.clap.specs.Words.{kind_of};

@@ -5,8 +5,8 @@ ghost use Rattle.dom_program.specs.Exits.{status_of, text_of};
 use crate::exit_cause::ExitCause;
 use dom_streams::RunFault;
 
-/// How a run has ended, with what came of handing its output on: output that was not taken is a failed write, in whichever
-/// call it was found (own rule).
+/// How a run has ended, once its output was handed on. If the output was not taken, the run has ended with a failed write, in whichever
+/// call that was found (own rule).
 pub fn ending_of(ended: Result<(), RunFault>, is_written: bool) -> Result<(), RunFault>
     ensures written { is_written ≡ true → result ≡ ended }
     ensures lost { is_written ≡ false → result ≡ Err RunFault.Write }
@@ -18,7 +18,7 @@ pub fn ending_of(ended: Result<(), RunFault>, is_written: bool) -> Result<(), Ru
     }
 }
 
-/// The exit status, and what is written to standard error, without its line feed; nothing where the text is empty (own rule).
+/// The exit status, and what is written to standard error, without its line feed. If the text is empty, nothing is written (own rule).
 pub fn exit_of(ended: &Result<(), ExitCause>) -> (u8, &'static str)
     ensures status { result.0 ≡ status_of ended.now }
     ensures text { result.1.now ≡ text_of ended.now }

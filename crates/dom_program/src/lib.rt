@@ -1,4 +1,4 @@
-//! What the program `domrun` is made of, but for its runs: what its words ask for, buffers for its input and output, and how it ends.
+//! The parts of the program `domrun` beside its runs: what its words ask for, buffers for its input and output, and how it ends.
 #![tactic(auto)]
 
 mod buffers;

@@ -15,23 +15,22 @@ use dom_streams::RunFault;
 use std::alloc::{AllocError, Global};
 use std::io::{Error, ErrorKind};
 
-/// What the words ask for: the owner whose lines are written, all of them where there is none, and the file that is read.
+/// What the words ask for: the owner whose lines are written (all lines, if there is none), and the file that is read.
 #[derive(Clone, Copy)]
 pub struct Request<'a> {
     pub view: Option<Owner>,
     pub file: Option<&'a str>,
 }
 
-/// The owner whose word this is, none of another text: `p`, or `c` and one to eight numbers from 1 on with dots between them,
-/// without leading zeros (own rule).
+/// The owner whose word this is, or `None` for any other text. A word is `p`, or `c` and one to eight numbers from 1 on, with dots
+/// between them and without leading zeros (own rule).
 pub fn view_of(word: &str) -> Option<Owner>
     ensures { result ≡ spec_owner_of word.now }
 {
     owner_of(word.as_bytes())
 }
 
-/// Why the program stops where its words could not be read: want of memory, or bytes that are no text, which is `Usage` (own
-/// rule).
+/// Why the program stops if its words could not be read: memory ran out, or bytes are no text, which is `Usage` (own rule).
 pub fn words_refused(error: &Error) -> ExitCause
     ensures memory { error_kind error.now ≡ ErrorKind.OutOfMemory → result ≡ ExitCause.Run Memory }
     ensures usage { (error_kind error.now ≡ ErrorKind.OutOfMemory → ⊥) → result ≡ ExitCause.Usage }
@@ -42,9 +41,9 @@ pub fn words_refused(error: &Error) -> ExitCause
     }
 }
 
-/// What the program's words ask for, the first of them being its own name: `--view` with an owner's word behind it or after
-/// `=`, and one word beside it, behind `--` too, in any order and each at most once (own rule). Other words are refused as
-/// `Usage`, and words that are taken never are; every other error is want of memory.
+/// What the program's words ask for. The first word is the program's own name. It takes `--view` with an owner's word after it or after
+/// `=`, and one other word, which may stand after `--`. They may stand in any order, each at most once (own rule). Other words are
+/// refused as `Usage`. The only other error is that memory ran out.
 pub fn request_of<'a>(alloc: Global, words: &'a [String]) -> Result<Request<'a>, ExitCause>
     ensures taken { IfOk result (λ _. AreTaken (texts_of words.now)) }
     ensures view { IfOk result (λ request. request.view ≡ view_in (texts_of words.now)) }
@@ -55,8 +54,8 @@ pub fn request_of<'a>(alloc: Global, words: &'a [String]) -> Result<Request<'a>,
     request_in(&matches_in(alloc, words)?)
 }
 
-/// What the words that were given to the parts of the command line ask for: the owner whose word stands behind `--view`, and
-/// the file. `Usage`, and nothing else, exactly where a word stands behind `--view` that is no owner's; nothing is allocated.
+/// What the words that were given to the parts of the command line ask for: the owner whose word stands after `--view`, and the file. The
+/// only error is `Usage`, exactly if the word after `--view` is not the word of an owner. Nothing is allocated.
 fn request_in<'a>(matches: &ArgMatches<'a>) -> Result<Request<'a>, ExitCause>
     ensures taken { IfOk result (λ _. NamesAnOwner (rows_of (found_of matches.now))) }
     ensures view { IfOk result (λ request. request.view ≡ owner_among (rows_of (found_of matches.now))) }
@@ -73,7 +72,7 @@ fn request_in<'a>(matches: &ArgMatches<'a>) -> Result<Request<'a>, ExitCause>
     }
 }
 
-/// What the words give to the parts of the command line. `Usage` where they have not its form, else want of memory.
+/// What the words give to the parts of the command line. An error is `Usage` if they do not have its form, else that memory ran out.
 fn matches_in<'a>(alloc: Global, words: &'a [String]) -> Result<ArgMatches<'a>, ExitCause>
     ensures form { IfOk result (λ _. HaveForm (texts_of words.now)) }
     ensures rows { IfOk result (λ found. rows_of (found_of found) ≡ matches_of spec_command_line (texts_of words.now)) }
