@@ -1,8 +1,8 @@
-//! `domrun [--view OWNER] [FILE]`: runs the lines of a file, or of standard input, and writes the lines that answer them; with
-//! a view the lines of that owner alone.
+//! `domrun [--view OWNER] [FILE]`: runs the lines of a file, or of standard input, and writes the lines that answer them. With a view it
+//! writes the lines of that owner alone.
 //!
-//! FILE is a path, or `-`, which is the default and means standard input. The exit statuses are those of `dom_program::exit_of`.
-//! Faults are found in this order: the words, OWNER, the opening of FILE, the run's own.
+//! FILE is a path, or `-`, which is the default and means standard input. `dom_program::exit_of` has the exit statuses. Faults are found
+//! in this order: the words, OWNER, the opening of FILE, the run's own faults.
 #![tactic(auto)]
 
 ghost use Rattle.std.specs.Prelude.{◌≡◌, ◌<◌, ℕ, List, Option, Err, IfErr, IfOk, OnOk};
@@ -23,7 +23,7 @@ use std::{env, fs, io};
 fn main(rt: HostRuntime) -> ExitCode {
     let (status, text) = exit_of(&run_words(&rt));
     if !text.is_empty() {
-        // There is nobody to tell that this cannot be written.
+        // If this cannot be written, there is nobody to tell.
         let _ = rt.eprintln(text);
     }
     ExitCode::from(status)
@@ -36,7 +36,7 @@ fn run_words(rt: &HostRuntime) -> Result<(), ExitCause> {
     run_request(rt, request_of(rt.alloc(), &words)?)
 }
 
-/// Runs the file that is asked for: with `-`, or with none, standard input.
+/// Runs the file that is asked for, or standard input if that is `-` or none is asked for.
 fn run_request(rt: &HostRuntime, request: Request<'_>) -> Result<(), ExitCause> {
     let path = request.file.unwrap_or("-");
     let outcome = if path == "-" {
@@ -48,7 +48,7 @@ fn run_request(rt: &HostRuntime, request: Request<'_>) -> Result<(), ExitCause> 
     outcome.map_err(ExitCause::Run)
 }
 
-/// How a run has ended, and its input and output, as the run has left them.
+/// How a run has ended, and its input and output as the run has left them.
 #[derive(Drop)]
 struct Ended<R: Read + Drop, W: Write + Drop> {
     outcome: Result<(), RunFault>,
@@ -56,8 +56,8 @@ struct Ended<R: Read + Drop, W: Write + Drop> {
     output: Output<W>,
 }
 
-/// Runs the lines of a reader, and writes to the writer. Output that was not taken is the fault `Write`; on every other ending the
-/// writer has taken all that the run wrote, and nothing after it. An error is out of memory before anything was read or written.
+/// Runs the lines of a reader, and writes to the writer. If output was not taken, the fault is `Write`. On every other ending the writer
+/// has taken all that the run wrote, and nothing more. The only error is that memory ran out before anything was read or written.
 fn run_reader<R: Read + Drop, W: Write + Drop>(
     alloc: Global,
     reader: R,
@@ -84,9 +84,9 @@ fn run_reader<R: Read + Drop, W: Write + Drop>(
     })
 }
 
-/// Runs the lines of an input, and hands on all that they write, in large pieces where many lines are read at once. Output that
-/// was not taken is the fault `Write`, in whichever call it was found; on every other ending the writer has taken it all. `Read` is
-/// answered only if a read has failed, and `Write` only if a write, a flush or the handing on has.
+/// Runs the lines of an input, and hands on all that they write, in large pieces if many lines are read at once. If output was not taken,
+/// the fault is `Write`, in whichever call that was found. On every other ending the writer has taken it all. `Read` is answered only if
+/// a read has failed, and `Write` only if a write, a flush or the handing on has failed.
 fn run_between<R: Read + Drop, W: Write + Drop>(
     alloc: Global,
     input: &mut Input<R>,
@@ -100,7 +100,7 @@ fn run_between<R: Read + Drop, W: Write + Drop>(
         (⟦<Input<R> as Source>⟧.remaining input.new) (⟦<Output<W> as Sink>⟧.contents output.old, ⟦<Output<W> as Sink>⟧.taken output.old)
         (W.contents (handed_to output.new), ⟦<Output<W> as Sink>⟧.taken output.new)) }
     ensures failed { ⟦<Output<W> as Sink>⟧.failures output.old < ⟦<Output<W> as Sink>⟧.failures output.new → result ≡ Err RunFault.Write }
-    // What the output has taken is what some run wrote; if the fault is `Write`, the writer may have the first of these bytes alone.
+    // What the output has taken is what some run wrote. If the fault is `Write`, the writer may have only the first of these bytes.
     ensures run { HasRun view (⟦<Input<R> as Source>⟧.remaining input.old) (⟦<Input<R> as Source>⟧.remaining input.new)
         (⟦<Output<W> as Sink>⟧.contents output.old, ⟦<Output<W> as Sink>⟧.taken output.old)
         (⟦<Output<W> as Sink>⟧.contents output.new, ⟦<Output<W> as Sink>⟧.taken output.new) }
