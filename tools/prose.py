@@ -9,7 +9,7 @@ WORDS = 30
 README = ("README.md", 120, 110)
 LENGTHS = {"docs/ARCHITECTURE.md": 2200, "docs/DECISIONS.md": 4800, "docs/GATE.md": 2000, "docs/PERFORMANCE.md": 3600}
 # The pages whose sentences are counted.
-PLAIN = ("README.md", "CONTRIBUTING.md", "SECURITY.md", "CHANGELOG.md", "bindings/README.md", "examples/README.md",
+PLAIN = ("README.md", "CONTRIBUTING.md", "SECURITY.md", "CHANGELOG.md", "bindings/README.md", "examples/README.md", "harness/README.md",
          *(f"docs/{name}.md" for name in ("ADDING-A-COMMAND", "ARCHITECTURE", "BROWSERS", "CRATES", "DECISIONS", "FROM-JAVASCRIPT",
                                           "FROM-PYTHON", "GATE", "GLOSSARY", "ISOLATION", "LOOK", "MOUNTING", "PERFORMANCE", "PROTOCOL",
                                           "PROVED", "TUTORIAL")))
