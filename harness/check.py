@@ -1,13 +1,13 @@
 #!/usr/bin/env python3
-"""Checks that the judging sees wrong behaviours: each that faults.js plants in an engine has to be unexplained.
+"""Checks that the harness sees wrong behaviours: each one that faults.js plants in an engine has to be unexplained.
 
-Usage: harness/check.py                             judges what Chromium answered with each planted; wants Python alone
+Usage: harness/check.py                             judges what Chromium answered with each one planted; needs Python alone
        harness/check.py --engine ENGINE [--record]  plants each in an engine that is here; --record keeps the answers
 
-A wrong behaviour is shown by a script of planted/. It is judged twice: as the engine's, and as the program's, which the engine does not
-share. The scripts themselves have to agree. Where the built program is there, it has to answer them as planted/answers.json has it.
+A script of planted/ shows a wrong behaviour. It is judged twice: as if the engine had it and the program did not, and the other way round.
+The scripts themselves have to agree. If the built program is there, it has to answer them as planted/answers.json has it.
 
-Exit status: 0; 1 where a wrong behaviour goes unseen, or a script does not agree.
+Exit status: 0; 1 if a wrong behaviour goes unseen, or a script does not agree.
 """
 import argparse
 import difflib

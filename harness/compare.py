@@ -3,15 +3,15 @@
 
 Usage: harness/compare.py [--engine chromium|firefox|jsdom] [--program DOMRUN | --unproved] [--verbose] [--json] WHAT
 
-WHAT is SCRIPT.., --random N, --known or --examples. A script whose output differs is tried again with each named difference made good
-(known.py). Where it then agrees it differs by these names (judging.py); else it is unexplained, and is made small. What differs is shown as
+WHAT is SCRIPT.., --random N, --known or --examples. A script whose output differs is run again, with each named difference (known.py)
+corrected. If the outputs then agree, these names explain it (judging.py). Else it is unexplained, and is made small. A difference is shown as
 
-    2.in:7: p take o0                       the script, the line, and the command at which the outputs part
+    2.in:7: p take o0                       the script, the line, and the command at which the outputs differ
       domrun: p record o0 ..                what each wrote there
       engine: p record o0 ..
       named: sibling-inserted               or: UNEXPLAINED
 
-Exit status: 0; 1 where a script is unexplained, or nothing could be run; 2 where the words are refused.
+Exit status: 0; 1 if a script is unexplained, or nothing could be run; 2 if the words are refused.
 """
 import argparse
 import collections

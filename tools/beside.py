@@ -59,7 +59,7 @@ def without_once(found: dict, effects: list[str]) -> None:
 
 
 def listeners(script, count: int) -> list[Listener]:
-    """The listeners behind so many lines, in the order in which they were added."""
+    """The listeners after so many lines, in the order in which they were added."""
     found = {}
     for line, answer in zip(script.lines[:count], script.answers):
         without_once(found, answer.effects)
@@ -76,7 +76,7 @@ def listeners(script, count: int) -> list[Listener]:
 
 
 def observers(script, count: int) -> dict[tuple[str, str], dict[str, str]]:
-    """The observers behind so many lines, by owner and name: the nodes at which each is registered, with its options there."""
+    """The observers after so many lines, by owner and name: the nodes at which each is registered, with its options there."""
     found = {}
     for owner, words, answer in accepted(script, count):
         if words[0] == "observer":

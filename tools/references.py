@@ -61,7 +61,7 @@ def named(text):
 
 
 def resolved(text):
-    """The sections and names of a reference. Behind a semicolon stands another number, or what explains the reference."""
+    """The sections and names of a reference. After a semicolon stands another number, or what explains the reference."""
     first, *others = text.split("; ")
     more = [pair for part in others if part[:1].isdigit() for pair in numbered(part)]
     if first[:1].isdigit():

@@ -1,7 +1,7 @@
 """Runs of the built program, and what its output says: answers, trees, and the paths of events.
 
 Nothing here works out what the engine does. Where something has to be known, the program is asked for it, by lines that are
-put behind a script: `parent` of each name that a node could have, `tree` of each node without a parent, and for the path of an
+put after a script: `parent` of each name that a node could have, `tree` of each node without a parent, and for the path of an
 event a `dispatch` with a listener on every node.
 """
 import os
@@ -54,7 +54,7 @@ class Node:
 
 @dataclass
 class State:
-    """What there is behind a line: of each owner its trees, what is assigned to its slots, and where its ranges, iterators and walkers
+    """What there is after a line: of each owner its trees, what is assigned to its slots, and where its ranges, iterators and walkers
     stand, by their names; and what the turn's end prints."""
 
     trees: dict
@@ -165,7 +165,7 @@ def tree_of(text):
 
 
 class Script:
-    """A script and the runs of it. Its lines are answered once, and each prefix is asked for what there is behind it."""
+    """A script and the runs of it. Its lines are answered once, and each prefix is asked for what there is after it."""
 
     def __init__(self, program, lines):
         self.program = program
@@ -174,7 +174,7 @@ class Script:
         self.counts = {owner: self.count_of(owner) for owner in self.owners(len(lines))}
 
     def owners(self, count):
-        """The owners behind so many lines, each with its host: the page, and the components that were attached."""
+        """The owners after so many lines, each with its host: the page, and the components that were attached."""
         found = {"p": None}
         for line, answer in zip(self.lines[:count], self.answers):
             words = line.split(" ")
@@ -183,7 +183,7 @@ class Script:
         return found
 
     def turns(self):
-        """The owner of the turn that is open behind each line, or None; before the first line too."""
+        """The owner of the turn that is open after each line, or None; before the first line too."""
         found = [None]
         for line, answer in zip(self.lines, self.answers):
             owner, open_turn = line.split(" ")[0], found[-1]
@@ -205,21 +205,21 @@ class Script:
             ask *= 4
 
     def ask(self, count, questions):
-        """What the questions are answered behind so many lines, and what the end of the open turn printed before or between."""
+        """What the questions are answered after so many lines, and what the end of the open turn printed before or between."""
         lines = self.lines[:count] + questions
         answers, ending = self.program.answers(lines)
         told = answers[count:]
         return told, [line for answer in told for line in answer.effects] + ending
 
     def answered(self, count, questions):
-        """Each question of an owner with what it is answered behind so many lines, and what the end of the open turn printed."""
+        """Each question of an owner with what it is answered after so many lines, and what the end of the open turn printed."""
         owners = list(self.owners(count))
         questions = sorted(questions, key=lambda question: owners.index(question[0]))
         told, ending = self.ask(count, in_turns(owners, questions))
         return list(zip(questions, without_turns(told, owners, questions))), ending
 
     def state(self, count):
-        """What there is behind so many lines."""
+        """What there is after so many lines."""
         owners = self.owners(count)
         names = [(owner, f"{prefix_of(owner)}{number}") for owner in owners for number in range(self.counts[owner])]
         parents, ending = self.answered(count, [(owner, f"parent {name}") for owner, name in names])

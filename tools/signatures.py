@@ -1,6 +1,6 @@
 """The signatures of public calls in pages, compared with the sources.
 
-A page shows them in a fenced block whose first line is `// calls of NAME`, where NAME is a type or a crate. Each line behind it that begins
+A page shows them in a fenced block whose first line is `// calls of NAME`, where NAME is a type or a crate. Each line after it that begins
 with `fn` is the head of a public call of NAME as the source has it, without its clauses.
 """
 import os

@@ -1,11 +1,11 @@
 """The public definitions of crates/*/specs, and the references to the DOM Standard in the comments of the sources.
 
 A reference is 'DOM Standard, ' and then one of these, up to the closing bracket or the end of the comment:
-  4.2.3                            a section, alone or with its title behind it; several are joined by 'and'
+  4.2.3                            a section, alone or with its title after it; several are joined by 'and'
   4.2.3: pre-insert, insert        names of that section
   concept: adopt                   a name that one section alone has; 'concepts:' has several, which are all looked up
-  interface Range                  the section of that title; 'dictionary', 'mixin' and 'constructor of' go by the name behind them
-What stands behind a name, after a comma, a colon or a semicolon, explains it.
+  interface Range                  the section of that title; 'dictionary', 'mixin' and 'constructor of' go by the name after them
+What stands after a name and a comma, a colon or a semicolon explains it.
 """
 import os
 import re
@@ -32,7 +32,7 @@ class Definition:
 
 
 def references_in(comment):
-    """The references to the DOM Standard in a comment, each as the text behind 'DOM Standard, '."""
+    """The references to the DOM Standard in a comment, each as the text after 'DOM Standard, '."""
     found = []
     for part in re.split(r"DOM Standard, ", comment)[1:]:
         depth = 0
@@ -104,7 +104,7 @@ def crate_lines():
 
 
 def crates():
-    """The crates, lowest first, as crates.txt has them; the word behind a name says what is built of it."""
+    """The crates, lowest first, as crates.txt has them; the word after a name says what is built of it."""
     return list(crate_lines())
 
 

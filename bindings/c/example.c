@@ -2,7 +2,7 @@
  * Runs the lines of standard input and writes what answers them, as domrun does. With an owner's word it writes that owner's lines.
  *
  * Usage: example [OWNER] < FILE
- * Exit status: 0; 1 where the input could not be read, 2 for a word that is no owner's, 3 for want of memory, 4 where a write failed.
+ * Exit status: 0; 1 if the input could not be read, 2 if the word is not the word of an owner, 3 if memory ran out, 4 if a write failed.
  */
 #include "owlantimony.h"
 
