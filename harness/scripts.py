@@ -328,7 +328,7 @@ def main():
     parser.add_argument("--seed", default="1", help="which scripts: number i of a seed is the same everywhere")
     parser.add_argument("--lines", type=int, default=100, help="of each script")
     parser.add_argument("--count", type=int, default=1, help="how many scripts")
-    parser.add_argument("--coverage", action="store_true", help="print what came in the scripts, in place of them")
+    parser.add_argument("--coverage", action="store_true", help="print counts of commands and answers, in place of the scripts")
     words = parser.parse_args()
     made = random_scripts(words.seed, words.count, words.lines)
     if not words.coverage:
