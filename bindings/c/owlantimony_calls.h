@@ -13,7 +13,7 @@ static inline owl_status owli_fail(owl_dom *dom)
     return OWL_MEMORY;
 }
 
-/* Whether an owner can act: CLOSED where the document is not open or has no such owner, MEMORY where it has failed. */
+/* Whether an owner can act: CLOSED if the document is not open or has no such owner, MEMORY if it has failed. */
 static inline owl_status owli_state(owl_owner owner)
 {
     if (owner.index >= owner.dom->owner_count)
@@ -97,7 +97,7 @@ static inline char *owli_cut_reply(char *text, size_t size)
 }
 
 /* Runs the line, and takes a copy of the answer apart: `value` is the reply's, and *told a copy of the lines in front of it, or NULL. The turn is
- * then as it is given here, where the line was not refused. */
+ * then as it is given here, if the line was not refused. */
 static inline owl_status owli_send(owl_dom *dom, uint32_t turn, char **told)
 {
     const char *text;
@@ -180,7 +180,7 @@ static inline owl_status owli_run_on(owl_owner owner, const char *command, const
     return status ? status : owli_run(owner);
 }
 
-/* Reads the name of a node as an owner is shown it, and gives the place behind it. */
+/* Reads the name of a node as an owner is shown it, and gives the place after it. */
 static inline const char *owli_read_name(owl_owner owner, const char *name, owl_node *node)
 {
     size_t size = strcspn(name, ",] :");
@@ -212,7 +212,7 @@ static inline owl_status owli_read_list(owl_owner owner, const char *list, owl_n
     return found > room ? OWL_SHORT : OWL_OK;
 }
 
-/* Reads what a node is from the text of its tree: the word for its kind, with all that is behind it. */
+/* Reads what a node is from the text of its tree: the word for its kind, with all that stands after it. */
 static inline owl_status owli_read_kind(owl_owner owner, owl_node node, char **kind)
 {
     owl_status status = owli_run_on(owner, "tree", &node, 1);
@@ -230,7 +230,7 @@ static inline owl_status owli_run_for_node(owl_owner owner, owl_node *made)
     return status;
 }
 
-/* Makes room for one more listener, if memory is there: those that are gone give theirs, and where half of all is taken then there is more. */
+/* Makes room for one more listener, if memory is there. Listeners that are gone give theirs, and if half of all room is taken then, there is more. */
 static inline bool owli_room_for_listener(owl_dom *dom)
 {
     size_t kept = 0;
@@ -251,7 +251,7 @@ static inline bool owli_room_for_listener(owl_dom *dom)
     return true;
 }
 
-/* The listener with a number, or NULL where it is gone. They stand in the order of their numbers. It stays where it is until one is added. */
+/* The listener with a number, or NULL if it is gone. Listeners stand in the order of their numbers, and stay in place until one is added. */
 static inline owli_listener *owli_find_listener(owl_dom *dom, size_t listener)
 {
     size_t from = 0, to = dom->listener_count;

@@ -24,12 +24,12 @@
  * Texts are UTF-8 and end in a byte 0. A lone surrogate stands in the three bytes that it would have; all else that is no UTF-8 is SYNTAX. A call
  * sends a line of the protocol, which has at most 65,536 bytes: more is SYNTAX. A character of a text takes one byte of it from space to ~, two
  * for " and \, six else, and twelve past U+FFFF. A text that a call gives holds until the next call on the document, which may be given it.
- * No pointer and no callback is null, but where a call says that it may be.
+ * No pointer and no callback is null, unless a call says that it may be.
  *
  * A call of an owner first ends the turn of another one that acted before. So any call may call back before its own work, with the events of type
  * slotchange that this brings. Those of the last turn come by owl_end_turn alone.
  *
- * What an owner made counts for LIMIT also where it was removed, and stays in memory until owl_close.
+ * What an owner made counts for LIMIT even if it was removed, and stays in memory until owl_close.
  *
  * What the program has to keep:
  *   - An owl_dom begins as OWL_DOM_INIT. It stays where it is from owl_open to owl_close, as its owners point to it, and is never copied.
@@ -189,21 +189,21 @@ static inline owl_status owl_create_fragment(owl_owner owner, owl_node *made)
 
 /* ---- changing trees */
 
-/* Makes node the last child of parent; a fragment gives its children. HIERARCHY where the Standard refuses it. */
+/* Makes node the last child of parent; a fragment gives its children. HIERARCHY if the Standard refuses it. */
 static inline owl_status owl_append(owl_owner owner, owl_node parent, owl_node node)
 {
     const owl_node nodes[] = {parent, node};
     return owli_run_on(owner, "append", nodes, 2);
 }
 
-/* Inserts node before a child of parent, or last where the child is OWL_NONE. HIERARCHY or NOT_FOUND where the Standard refuses it. */
+/* Inserts node before a child of parent, or last if the child is OWL_NONE. HIERARCHY or NOT_FOUND if the Standard refuses it. */
 static inline owl_status owl_insert(owl_owner owner, owl_node parent, owl_node node, owl_node child)
 {
     const owl_node nodes[] = {parent, node, child};
     return owl_is_none(child) ? owli_run_on(owner, "append", nodes, 2) : owli_run_on(owner, "insert", nodes, 3);
 }
 
-/* Puts node in the place of a child of parent. HIERARCHY or NOT_FOUND where the Standard refuses it. */
+/* Puts node in the place of a child of parent. HIERARCHY or NOT_FOUND if the Standard refuses it. */
 static inline owl_status owl_replace(owl_owner owner, owl_node parent, owl_node node, owl_node child)
 {
     const owl_node nodes[] = {parent, node, child};
@@ -243,7 +243,7 @@ static inline owl_status owl_remove_attribute(owl_owner owner, owl_node element,
     return status ? status : owli_run(owner);
 }
 
-/* Writes an attribute's value to *value, or NULL where there is none. */
+/* Writes an attribute's value to *value, or NULL if there is none. */
 static inline owl_status owl_get_attribute(owl_owner owner, owl_node element, const char *name, const char **value)
 {
     owl_status status = owli_begin_on(owner, "attr", element);
@@ -293,7 +293,7 @@ static inline owl_status owl_parent(owl_owner owner, owl_node node, owl_node *pa
     return status;
 }
 
-/* Writes the children to nodes, which has room for so many and may be null where that is 0, and their count to *count.
+/* Writes the children to nodes, which has room for so many and may be null if that is 0, and their count to *count.
  * SHORT: there are more than that, the first of which are written. */
 static inline owl_status owl_children(owl_owner owner, owl_node node, owl_node *nodes, size_t room, size_t *count)
 {

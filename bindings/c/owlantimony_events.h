@@ -5,7 +5,7 @@
 #define OWLANTIMONY_EVENTS_H
 
 /* Adds a listener with OWL_CAPTURE, OWL_ONCE, OWL_PASSIVE joined, and writes its number, for owl_unlisten, to *listener if that is not
- * null. No number is given twice until owl_close. Each call adds one, also where the Standard adds none as the callback is there already.
+ * null. No number is given twice until owl_close. Each call adds one, even if the Standard adds none since the callback is there already.
  * SYNTAX: a type is 1 to 64 letters, digits, '-', '_', '.' and ':', `words` has no others than these three, and an action is one of the four. */
 static inline owl_status owl_listen(owl_owner owner, owl_node node, const char *type, owl_action action, int words, owl_callback *callback,
                                     void *data, size_t *listener)

@@ -21,7 +21,7 @@ typedef enum owl_status {
     OWL_SYNTAX = 1,            /* a type or words that the call can't take, a text that is no UTF-8, or a line past 65,536 bytes */
     OWL_BUSY = 2,              /* the page has the turn: this header ends it, so nobody sees this */
     OWL_FOREIGN = 3,           /* a node is another owner's; no line was sent */
-    OWL_UNKNOWN = 4,           /* a node is not there, or is OWL_NONE where the call does not say that it may be */
+    OWL_UNKNOWN = 4,           /* a node is not there, or is OWL_NONE and the call does not say that it may be */
     OWL_WRONG_KIND = 5,        /* a node is not of the kind that the call asks for */
     OWL_HIERARCHY = 6,         /* HierarchyRequestError */
     OWL_NOT_FOUND = 7,         /* NotFoundError */
@@ -95,7 +95,7 @@ static inline void owli_name(owli_text *text, const char *name)
     owli_word(text, owli_is_word(name) ? name : "-");
 }
 
-/* How many bytes the UTF-8 character at `at` has, and its code point; 0 where none begins there. Surrogates are taken. */
+/* How many bytes the UTF-8 character at `at` has, and its code point; 0 if none begins there. Surrogates are taken. */
 static inline size_t owli_character(const unsigned char *at, uint32_t *code)
 {
     static const uint32_t least[] = {0, 0x80, 0x800, 0x10000};
@@ -136,7 +136,7 @@ static inline void owli_string(owli_text *text, const char *value)
     owli_put(text, "\"", 1);
 }
 
-/* Writes a code point as UTF-8, and gives the place behind it. */
+/* Writes a code point as UTF-8, and gives the place after it. */
 static inline char *owli_write_character(char *to, uint32_t code)
 {
     if (code < 0x80) {
@@ -157,7 +157,7 @@ static inline char *owli_write_character(char *to, uint32_t code)
     return to;
 }
 
-/* Reads a code unit of a string of an answer, and gives the place behind it. */
+/* Reads a code unit of a string of an answer, and gives the place after it. */
 static inline const char *owli_unit(const char *from, uint32_t *unit)
 {
     if (from[0] != '\\') {
@@ -173,7 +173,7 @@ static inline const char *owli_unit(const char *from, uint32_t *unit)
     return from + 6;
 }
 
-/* Puts the text of a string of an answer in the string's own place, as UTF-8 with a byte 0 behind it. A pair of surrogates is joined, a
+/* Puts the text of a string of an answer in the string's own place, as UTF-8 with a byte 0 after it. A pair of surrogates is joined, a
  * lone one is written as the three bytes that it would have. */
 static inline char *owli_unquote(char *value)
 {
