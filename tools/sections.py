@@ -240,7 +240,7 @@ ABSENT = {
     "serializable and declarative shadow roots, `onslotchange`; registries of custom elements",
     "Custom elements": "definitions, upgrades, and all custom element reactions; a name of a custom element is only a name that a host "
     "may have",
-    "Mutation": "the steps that other standards add where a node is inserted, removed, moved or adopted, or its children or attributes "
+    "Mutation": "the steps that other standards add when a node is inserted, removed, moved or adopted, or its children or attributes "
     "change; `moveBefore()`; `append()`, `prepend()`, `before()`, `after()`, `replaceChildren()` and `replaceWith()` of several nodes "
     "and strings",
     "Node": "cloning (`extract` alone clones, one node at a time) and importing, `isEqualNode()`, `compareDocumentPosition()`, `baseURI`, "

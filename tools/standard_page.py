@@ -8,12 +8,12 @@ import sources
 FOLDER = os.path.join(sources.ROOT, "docs")
 HEAD = """# The DOM Standard, section by section
 
-Where each algorithm of the DOM Standard stands here, what is proved of it, and what is not here at all. Beside an algorithm or concept
-stand
+For you, if you know the DOM Standard and ask where one of its algorithms is here, what is proved of it, and what is not here at all. Beside
+an algorithm or concept stand
 
-- its definitions, in `specs/` of a crate: what the algorithm does, as a value that is computed from the state before it. These are the part
-  to read beside the Standard's text. The comments of changes say which of the Standard's numbered steps stand where. The numbers
-  were not compared with the living text: where they differ, go by the words;
+- its definitions, in `specs/` of a crate: what the algorithm does, as a value that is computed from the state before it. Read the
+  definitions beside the Standard's text. Comments at changes give the Standard's numbers of steps. These numbers were not compared with
+  the living text: if they differ, go by the words;
 - a public call whose contract leads to one of these definitions: its `ensures` clauses name it, or name what is defined by it. The prover
   has accepted the call with this contract. If the call is a law (`dom_worlds`, or a name such as `law_one_list_serves_all`), the contract
   is all of it;
