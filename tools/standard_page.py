@@ -30,8 +30,8 @@ ABSENT = """
 ## What of the Standard is not here
 
 None of this is in the protocol, in the definitions or in the code of the crates. `owlantimony.dom` builds some of it of commands
-(docs/FROM-PYTHON.md), as cloning, `querySelector()`, `classList`, `replaceChildren()` and `surroundContents()`. What the engine does in
-another way than the Standard, or than browsers do, is in docs/PROTOCOL.md under 'Where the engine does what browsers do not'.
+(docs/FROM-PYTHON.md), such as cloning, `querySelector()`, `classList`, `replaceChildren()` and `surroundContents()`. What the engine does
+in another way than the Standard, or than browsers do, is in docs/PROTOCOL.md under 'Where the engine does what browsers do not'.
 """
 
 
