@@ -1,29 +1,20 @@
 -- What a command does to parts and signalled slots does not hang on the tasks, nor on the open turn; so it keeps what is asked of live worlds.
-use Rattle.dom_base.proofs.Std.{◌≡◌, ℕ, zero, suc, Bool, true, false, not, List, [], ◌∷◌, filter_map, flat_map, fold, Option, Some, None, refl, sym, ap}
+use Rattle.dom_base.proofs.Std.{◌≡◌, Bool, true, false, not, List, [], ◌∷◌, fold, Option, Some, None, refl, sym, ap}
 use Rattle.dom_base.proofs.Std.{◌∙◌, true≢false, subst, option_or, and-not_self, cond-false}
 use Rattle.dom_model.proofs.Model.{Owner, Page, Component, NodeName, World, Task, part_of, Command, command, Effect, tables, changes, effect, effect_in}
 use Rattle.dom_model.proofs.Model.{perform}
 use Rattle.dom_model.proofs.Model.{refusal, step, world_step, world_after, stepped, with_signal, with_removal_signals, with_shadow_document, signals}
-use Rattle.dom_model.proofs.Model.{components_below, component_at, shadow_root_of, max_depth, trees_with, inclusive_descendants, is_taken, with_notify_if}
+use Rattle.dom_model.proofs.Model.{components_below, max_depth, is_taken, with_notify_if}
 use Rattle.dom_model.proofs.Model.{parent_of}
 use Rattle.dom_model.proofs.Model.{Step, place, take_out, set_document, set_attribute, queue_record, Syntax, Busy, Foreign, Unknown, Refusal, first_refusal}
 use Rattle.dom_model.proofs.Model.{is_command_of, names_foreign, is_there, part_refusal, owner_eq, owner_eq-same, ending_other_turn, quiet, Run}
 use Rattle.dom_model.proofs.Model.{run_command, unless_refused, accepted, run_then}
-use Rattle.dom_worlds.specs.Definitions.{IsWorld, Invariant, IsReached, IsWhole, ComponentsOnlyLog}
-use Rattle.dom_base.proofs.Std.{◌&&◌, ◌||◌, is_none, or-true}
-use Rattle.dom_model.proofs.Model.{is_page}
-use Rattle.dom_model.specs.Trace.{may_stop, is_log}
-use Rattle.dom_worlds.proofs.ListLemmas.{by_cases}
-use Rattle.dom_live.specs.Lines.{said, plain}
-use Rattle.dom_live.specs.Honesty.{lets_alone}
+use Rattle.dom_worlds.specs.Definitions.{IsWorld, Invariant, IsReached, IsWhole}
 use Rattle.dom_worlds.proofs.CommandLemmas.{accepted-facts}
 use Rattle.dom_worlds.proofs.WorldLemmas.{quiet-step, step-keeps_reached, step-keeps_whole}
 use Rattle.dom_live.specs.Laws.{IsLiveWorld, IsLiveWhole}
 use Rattle.dom_live.proofs.OtherLines.{is_still}
-
--- a world with other tasks, in another turn
-abbrev with_rest : World → List Task → Option Owner → World
-with_rest w ts t = record w { tasks = ts; turn = t }
+use Rattle.dom_live.proofs.Rested.{with_rest, below-rested}
 
 -- the same parts and signalled slots
 record AreSame (u v : World) : Type 0 where
@@ -46,14 +37,6 @@ documents-same : (d : NodeName) (cs : List Owner) (w : World) (ts : List Task) (
 documents-same d [] w ts t = record { parts = refl; signalled = refl }
 documents-same d (c ∷ cs) w ts t = documents-same d cs (with_shadow_document d w c) ts t
 
--- the components below a node
-below-same : (w : World) (ts : List Task) (t : Option Owner) (n : ℕ) → components_below n (with_rest w ts t) ≡ components_below n w
-below-same w ts t zero = refl
-below-same w ts t (suc n) = ap below (below-same w ts t n)
-  where
-    below : (NodeName → List Owner) → NodeName → List Owner
-    below f x = flat_map (λ c. c ∷ f (shadow_root_of c)) (filter_map (component_at w) (inclusive_descendants (trees_with w x) x))
-
 -- a step
 step-same : (o : Owner) (w : World) (ts : List Task) (t : Option Owner) (s : Step) → AreSame (world_step o (with_rest w ts t) s) (world_step o w s)
 step-same o w ts t (place x parent before) =
@@ -68,7 +51,7 @@ step-same o w ts t (set_attribute x a v) =
     signals-same (signals w (stepped o w (set_attribute x a v)) x x false) (stepped o w (set_attribute x a v)) ts t
 step-same o w ts t (set_document x d) =
     subst (λ (f : NodeName → List Owner). AreSame (fold (with_shadow_document d) (with_rest (stepped o w (set_document x d)) ts t) (f x))
-    (world_step o w (set_document x d))) (sym (below-same w ts t max_depth))
+    (world_step o w (set_document x d))) (sym (below-rested w ts t max_depth))
     (documents-same d (components_below max_depth w x) (stepped o w (set_document x d)) ts t)
 step-same o w ts t (queue_record c) = from (is_taken (part_of w o) c)
   where
@@ -219,25 +202,3 @@ module _ (w : World) (o : Owner) (c : Command) (i : IsLiveWorld w) (k : IsLiveWh
       (subst (λ (r : Run World). IsReached false r.0) (lent-done w o c i r q)
       (step-keeps_reached false u (command o c) lent-reached (λ h. absurd (true≢false (sym h)))))
       (subst (λ (r : Run World). IsWhole r.0) (lent-done w o c i r q) (step-keeps_whole false u (command o c) lent-reached lent-whole))
-
--- Where components' listeners only log, and a component adds none that does more, they only log afterwards.
-module _ (w : World) (o : Owner) (c : Command) (i : IsLiveWorld w) (r : refusal w o c ≡ None) (logs : ComponentsOnlyLog w)
-    (adds : is_page o ≡ false → lets_alone (said o (plain c)) ≡ true) where
-  -- the line adds no other
-  adds-none : (u : World) → may_stop u o c ≡ false
-  adds-none u = from c adds
-    where
-      from : (c : Command) → (is_page o ≡ false → lets_alone (said o (plain c)) ≡ true) → may_stop u o c ≡ false
-      from (Command.listen x words) f =
-          ap (λ b. not b && is_none (refusal u o (Command.listen x words)))
-          (by_cases (is_page o) (λ k. ap (λ b. b || is_log words.action) k) (λ k. ap (λ b. is_page o || b) (f k) ∙ or-true (is_page o)))
-      from c f = refl
-
-  -- the law
-  pub perform-logs : is_still c ≡ true → ComponentsOnlyLog (perform w o c).0
-  perform-logs q =
-      let u = lent w o c i r in
-      let first : Invariant true u = record { world = (lent-world w o c i r).world; logs = λ h. logs } in
-      let after = (quiet-step u (command o c) first (λ h. adds-none (ending_other_turn u o).0)).logs refl in
-      subst ComponentsOnlyLog (rest-of (perform u o c).0 (perform w o c).0 (perform-same w [] (Some o) o c q))
-      (subst (λ (r : Run World). ComponentsOnlyLog r.0) (lent-done w o c i r q) after)

@@ -31,11 +31,11 @@ goes-on n s h =
     (cond-false (is_resting s) (still s) (and_then (advance world_documents s) (going world_documents n)) h)
 
 -- sums
-none-more : (n : ℕ) → 0 + n ≡ n
+pub none-more : (n : ℕ) → 0 + n ≡ n
 none-more n = omega arith
 
 -- one more
-one-more : (m n : ℕ) → suc m + n ≡ suc (m + n)
+pub one-more : (m n : ℕ) → suc m + n ≡ suc (m + n)
 one-more m n = omega arith
 
 -- so many steps, and then more

@@ -12,6 +12,7 @@ mod OwnLines
 mod FrameSteps
 mod WholeWorlds
 mod KeptSteps
+mod Rested
 mod Turned
 mod OneStep
 mod ToldRuns
@@ -32,6 +33,17 @@ mod ProgramRuns
 mod Goes
 mod EventEnds
 mod RunEnds
+mod OtherLogs
 mod QuietEvents
 mod QuietTraces
 mod PlainRuns
+mod Visited
+mod StillRuns
+mod StillParts
+mod StillEvents
+mod OncePending
+mod StillTasks
+mod TurnedCommands
+mod LineSquares
+mod LineRuns
+mod LineGuarantees

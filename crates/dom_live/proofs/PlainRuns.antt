@@ -89,7 +89,7 @@ acted-still o true Cancel u c = c
 acted-still o false Cancel u c = c
 
 -- no waiting microtask is live
-none-live : (o : Owner) (es : List (Owner × Bool)) → AllByRecursion (λ (e : Owner × Bool). e.1 ≡ false) es → first_is_live o es ≡ false
+pub none-live : (o : Owner) (es : List (Owner × Bool)) → AllByRecursion (λ (e : Owner × Bool). e.1 ≡ false) es → first_is_live o es ≡ false
 none-live o [] h = refl
 none-live o (e ∷ es) h =
     by_cases (is_entry_of o e)
@@ -98,7 +98,7 @@ none-live o (e ∷ es) h =
     ∙ none-live o es h.1)
 
 -- nor are those behind the first
-without-live : (o : Owner) (es : List (Owner × Bool)) → AllByRecursion (λ (e : Owner × Bool). e.1 ≡ false) es →
+pub without-live : (o : Owner) (es : List (Owner × Bool)) → AllByRecursion (λ (e : Owner × Bool). e.1 ≡ false) es →
     AllByRecursion (λ (e : Owner × Bool). e.1 ≡ false) (without_first o es)
 without-live o [] h = tt
 without-live o (e ∷ es) h =

@@ -91,8 +91,25 @@ IsQuietThing was_stopped = ⊥
 IsQuietThing was_cancelled = ⊥
 IsQuietThing x = ⊤
 
--- Where no line of a component adds a listener that stops or cancels, or acts on an event, the page is told neither a stop nor a cancel.
+-- Where no line of an owner outside a group adds a listener that stops or cancels, or acts on an event, the group is told neither a stop nor a cancel.
+abbrev pub QuietGroup : {L : Type 0} → (L → LiveLine) → (Owner → Bool) → Type 0
+QuietGroup {L = L} read group =
+    (ls : List L) → AllByRecursion (λ l. IsTrue (is_of group (owner_said (read l)) || lets_alone (read l))) ls →
+    AllByRecursion (λ (x : ℕ × Thing L). IsQuietThing x.1) (whole_trace group read ls).things
+
+-- So it is of the page: where no line of a component does.
 abbrev pub QuietPage : {L : Type 0} → (L → LiveLine) → Type 0
-QuietPage {L = L} read =
-    (ls : List L) → AllByRecursion (λ l. IsTrue (is_of is_page (owner_said (read l)) || lets_alone (read l))) ls →
-    AllByRecursion (λ (x : ℕ × Thing L). IsQuietThing x.1) (whole_trace is_page read ls).things
+QuietPage read = QuietGroup read is_page
+
+-- a thing that is a line of the group, a checkpoint of others that runs its tasks, or the end of input
+abbrev pub IsOwnThing : {L : Type 0} → Thing L → Type 0
+IsOwnThing (sent_out e) = ⊥
+IsOwnThing x = IsQuietThing x
+
+-- And where none of them sends an event out to the group either, it is told its own lines, the checkpoints of others that run its tasks, and the end of input
+-- alone.
+abbrev pub AloneGroup : {L : Type 0} → (L → LiveLine) → (Owner → Bool) → Type 0
+AloneGroup {L = L} read group =
+    (ls : List L) → AllByRecursion (λ l. IsTrue (is_of group (owner_said (read l)) || lets_alone (read l))) ls →
+    sent_from read group (at_rest first_world) ls ≡ [] →
+    AllByRecursion (λ (x : ℕ × Thing L). IsOwnThing x.1) (whole_trace group read ls).things

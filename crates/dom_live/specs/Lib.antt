@@ -16,3 +16,4 @@ pub mod NestedScripts
 pub mod Laws
 pub mod Programs
 pub mod Honesty
+pub mod LineScripts

@@ -10,7 +10,8 @@ ghost use Rattle.dom_live.specs.Laws.{PageStepAgrees, GroupStepAgrees, PageSteps
 ghost use Rattle.dom_live.specs.Laws.{LinesKeep, PageLineAgrees, PageLinesAgree, PageRunAgrees, SamePage};
 ghost use Rattle.dom_live.specs.Laws.{GroupLineAgrees, GroupLinesAgree, GroupRunAgrees, SameGroup};
 ghost use Rattle.dom_model.specs.Trace.{is_page};
-ghost use Rattle.dom_live.specs.Honesty.{TellsOwnLines, TellsOutwardEvents, CountsOwnSteps, QuietPage};
+ghost use Rattle.dom_live.specs.Honesty.{TellsOwnLines, TellsOutwardEvents, CountsOwnSteps, QuietPage, QuietGroup, AloneGroup};
+ghost use Rattle.dom_live.specs.LineScripts.{KeptOutIsBusy, LinesTranslate, RunsTranslate, SameLines, SamePageLines};
 ghost use Rattle.dom_live.specs.Programs.{Program, SameByProgram, SameToEndByProgram, PlaysFollow};
 ghost use Rattle.dom_live.specs.Examples.{AnswersSo};
 ghost use Rattle.dom_live.specs.EventScripts.{cancelled_in_callback, outward_within, removed_and_added, path_stays, passive_and_outer};
@@ -92,12 +93,29 @@ pub fn group_scripts()
 
 /// A trace tells of a script what it should and no more, for any group of owners. Its lines are the group's own, in order. Its outward events are those of
 /// others' accepted dispatches, in order. Its numbers come to as many own steps as are made. And the page is told neither a stop nor a cancel where no line of
-/// a component adds a listener that stops or cancels, or acts on an event. Lines are bytes, and `read` is any reading of them.
+/// a component adds a listener that stops or cancels, or acts on an event; nor is any group where no line of others does; and where others send no event out to
+/// it either, it is told its own lines, the checkpoints of others that run its tasks, and the end of input alone. Lines are bytes, and `read` is any reading of
+/// them.
 pub fn honest_traces()
     ensures lines { (read : List ℕ → LiveLine) (group : Owner → Bool) → TellsOwnLines read group }
     ensures outward { (read : List ℕ → LiveLine) (group : Owner → Bool) → TellsOutwardEvents read group }
     ensures steps { (read : List ℕ → LiveLine) (group : Owner → Bool) → CountsOwnSteps read group }
     ensures quiet { (read : List ℕ → LiveLine) → QuietPage read }
+    ensures quiet_group { (read : List ℕ → LiveLine) (group : Owner → Bool) → QuietGroup read group }
+    ensures alone { (read : List ℕ → LiveLine) (group : Owner → Bool) → AloneGroup read group }
+{}
+
+/// The line protocol is the case without anything live. Each of its scripts has a script of live documents that stands for it: each line where it is carried
+/// out; the event loop's checkpoint before a line that ends another component's turn; and what is refused in the page's turn is left out, of which that refusal
+/// is all. After each list of lines, and to the end of input, live documents have then the world of the document machine, but that no turn is open, and answer
+/// what it answers. So two scripts of the line protocol whose live scripts have equal traces for the page are answered the same to the page; and so it is of
+/// each group that has with each component its maker, but for lines that are left out. Lines of live scripts are bytes, and `read` is any reading of them.
+pub fn line_scripts()
+    ensures kept_out { KeptOutIsBusy }
+    ensures lines { LinesTranslate }
+    ensures run { RunsTranslate }
+    ensures page { (read : List ℕ → LiveLine) → SamePageLines read }
+    ensures group { (read : List ℕ → LiveLine) (group : Owner → Bool) → KeepsMakers group → SameLines read group }
 {}
 
 /// Whatever components do, build, listen to or queue, whenever and in whosever callbacks they do it: in two scripts each line of the page is what one program
