@@ -17,12 +17,9 @@ use node_arena::Key;
 use std::alloc::AllocError;
 
 impl Machine {
-    /// Runs tasks, first in, first out, until none is left, and puts their lines (HTML Standard, perform a microtask checkpoint).
-    pub(crate) fn run_tasks<A: Answers>(
-        &mut self,
-        mut tasks: Queue,
-        out: &mut A,
-    ) -> Result<(), AllocError>
+    /// Runs tasks, first in, first out, until none is left, and puts their lines (HTML Standard, perform a microtask checkpoint). After an error the
+    /// machine may stand between two steps.
+    pub fn run_tasks<A: Answers>(&mut self, mut tasks: Queue, out: &mut A) -> Result<(), AllocError>
         requires sound { IsAtRest self.old }
         requires there { AreThere self.old.world tasks }
         ensures told { OnOk result (A.adds out.old (run_each running_task self.old.world tasks).1 out.new) }

@@ -1,17 +1,45 @@
 //! The ends of turns.
-ghost use Rattle.std.specs.Prelude.{◌≡◌, [], OnOk};
+ghost use Rattle.std.specs.Prelude.{◌≡◌, ◌||◌, [], None, OnOk};
 ghost use Rattle.dom_model.specs.Command.{end_turn};
+ghost use Rattle.dom_model.specs.DocumentMachine.{is_busy};
 ghost use Rattle.dom_model.specs.Turns.{has_other_turn, ending_turn, ending_other_turn, ending_any_turn};
+ghost use Rattle.dom_model.specs.World.{is_there};
 ghost use Rattle.dom_admission.specs.Handled.{IsHandled};
-ghost use Rattle.dom_commands.specs.Machine.{IsAtRest, KeepsListeners};
+ghost use Rattle.dom_commands.specs.Machine.{AreThere, IsAtRest, KeepsListeners};
 
 use crate::machine::Machine;
 use dom_answers::Answers;
 use dom_base::{Fault, Owner};
+use dom_microtasks::Queue;
 use dom_printer::Value;
 use std::alloc::AllocError;
 
 impl Machine {
+    /// Whether a turn of another owner is open, the page's among them.
+    pub fn has_turn_of_another(&self, owner: &Owner) -> bool
+        ensures { result ≡ (has_other_turn self.now.world owner.now || is_busy self.now.world owner.now) }
+    {
+        self.state.has_other_turn(owner) || self.state.is_busy(*owner)
+    }
+
+    /// Whether an owner has a part.
+    pub fn is_there(&self, owner: &Owner) -> bool
+        ensures { result ≡ is_there self.now.world owner.now }
+    {
+        self.state.is_there(*owner)
+    }
+
+    /// Takes all tasks out, for the caller to run them, and closes the open turn, if there is one.
+    pub fn take_tasks(&mut self) -> Queue
+        requires { IsAtRest self.old }
+        ensures tasks { result ≡ self.old.world.tasks }
+        ensures world { self.new.world ≡ record self.old.world { tasks = []; turn = None } }
+        ensures there { AreThere self.new.world result }
+        ensures sound { IsAtRest self.new }
+    {
+        self.state.take_tasks()
+    }
+
     /// Ends the open turn, if there is one: the microtasks run, and their lines are put.
     fn close_turn<A: Answers>(&mut self, out: &mut A) -> Result<(), AllocError>
         requires { IsAtRest self.old }
@@ -19,7 +47,7 @@ impl Machine {
         ensures world { OnOk result (self.new.world ≡ (ending_turn self.old.world).0) }
         ensures sound { OnOk result (IsAtRest self.new) }
     {
-        let tasks = self.state.take_tasks();
+        let tasks = self.take_tasks();
         self.run_tasks(tasks, out)
     }
 

@@ -8,3 +8,4 @@ pub mod Sessions
 pub mod Calls
 pub mod CallSessions
 pub mod GroupPrefixes
+pub mod Documents

@@ -159,7 +159,7 @@ impl Session {
 }
 
 /// Ends a call: an answer for which memory ran out is emptied.
-fn settle(done: Result<(), AllocError>, partial: &mut Answer) -> Result<(), AllocError>
+pub(crate) fn settle(done: Result<(), AllocError>, partial: &mut Answer) -> Result<(), AllocError>
     ensures same { result ≡ done }
     ensures ok { OnOk result (partial.new ≡ partial.old) }
     ensures err { OnErr result (partial.new ≡ empty) }
