@@ -105,11 +105,9 @@ module _ (s t : DocState) (ls : List (Listener ℕ)) (m : MachineNow) (seen : ma
       let same : ts ≡ m.world.tasks = is ∙ ap (λ (n : MachineNow). n.world.tasks) seen in
       subst (λ us. AreThere (machine_now t ls).world us) (sym same) (subst (λ w. AreThere w m.world.tasks) (sym closed_world) sound.reached.owners.tasks)
 
-  -- what they run to
-  pub closed_run : (ts : List Task) → ts ≡ s.world.tasks → run_each running_task (machine_now t ls).world ts ≡ ending_turn m.world
-  closed_run ts is =
-      ap (λ w. run_each running_task w ts) closed_world ∙ ap (run_each running_task (record m.world { tasks = []; turn = None }))
-      (is ∙ ap (λ (n : MachineNow). n.world.tasks) seen)
+-- what they run to
+pub closed_run : (w v : World) (ts : List Task) → v ≡ record w { tasks = []; turn = None } → ts ≡ w.tasks → run_each running_task v ts ≡ ending_turn w
+closed_run w v ts taken is = ap (λ u. run_each running_task u ts) taken ∙ ap (run_each running_task (record w { tasks = []; turn = None })) is
 
 -- however it ends
 pub ended_world : {T E : Type 0} {q p : Run World} (r : Result T E) (u : World) → q ≡ p → OnOk r (u ≡ q.0) → OnOk r (u ≡ p.0)

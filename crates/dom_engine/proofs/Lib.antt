@@ -10,3 +10,11 @@ mod GroupRuns
 mod MemberRuns
 mod SessionRuns
 mod StatedLaws
+mod OtherTasks
+mod KeptOwners
+mod Queues
+mod FreeCalls
+mod CalmCalls
+mod EndedTasks
+mod LineActs
+mod DocumentCalls

@@ -1,5 +1,5 @@
 -- What a contract sees of a `Document`: a world in which no turn is open. Any owner's call is taken at any time, and tasks wait for a checkpoint.
-use Rattle.std.specs.Prelude.{Bool, List, [], ◌∷◌, ◌++◌, fold, None}
+use Rattle.std.specs.Prelude.{Bool, true, false, List, [], ◌∷◌, ◌++◌, fold, None}
 use Rattle.dom_base.specs.declared.Owner.{Owner}
 use Rattle.dom_model.specs.Command.{Command, command}
 use Rattle.dom_model.specs.DocumentMachine.{step}
@@ -25,10 +25,15 @@ called w o c = let r = step w (command o c) in (without_turn r.0, r.1)
 abbrev pub checkpoint : World → Run World
 checkpoint w = ending_turn w
 
--- ---- the tasks, which a document keeps in two queues: those of the turn that its machine has open, and before them those that wait
+-- whether a command ends a turn; as a call it is a checkpoint, and then a reply (own rule)
+abbrev pub is_end_turn : Command → Bool
+is_end_turn Command.end_turn = true
+is_end_turn c = false
 
--- a queue with one more task: an owner's notification is queued once (DOM Standard, 4.3: queue a mutation observer microtask; HTML Standard, queue
--- a microtask)
+-- ---- the tasks: those of the turn that the document's machine has open, and before them those that wait
+
+-- a queue with one more task; an owner's notification is queued once (DOM Standard, 4.3: queue a mutation observer microtask; HTML Standard, queue a
+-- microtask)
 abbrev pub with_task : List Task → Task → List Task
 with_task tasks (micro_task o label) = tasks ++ micro_task o label ∷ []
 with_task tasks (notify_task o) = queued_notify o tasks

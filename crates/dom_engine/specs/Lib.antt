@@ -9,3 +9,4 @@ pub mod Calls
 pub mod CallSessions
 pub mod GroupPrefixes
 pub mod Documents
+pub mod DocumentLaws

@@ -1,18 +1,20 @@
 //! Documents: any owner's call is taken at any time, and tasks wait for a checkpoint.
-ghost use Rattle.std.specs.Prelude.{◌≡◌, ◌++◌, [], true, false, IfOk, OnOk, OnErr, None, map};
+ghost use Rattle.std.specs.Prelude.{◌≡◌, ◌&&◌, ◌++◌, [], true, false, IfOk, OnOk, OnErr, None, map};
 ghost use Rattle.dom_model.specs.Command.{end_turn};
 ghost use Rattle.dom_model.specs.DocumentMachine.{first_world, is_busy};
 ghost use Rattle.dom_model.specs.Turns.{has_other_turn};
+ghost use Rattle.dom_model.specs.World.{is_there};
 ghost use Rattle.dom_reader.specs.Views.{command_view};
 ghost use Rattle.dom_answers.specs.Told.{empty, shown_output, told};
 ghost use Rattle.dom_microtasks.specs.Tasks.{task_of};
-ghost use Rattle.dom_engine.specs.Documents.{called, checkpoint, queued, turnless, with_task, IsReady};
+ghost use Rattle.dom_engine.specs.Documents.{called, checkpoint, is_end_turn, queued, turnless, with_task, IsReady};
 
 use crate::session::settle;
-use dom_answers::Answer;
+use dom_answers::{Answer, Answers};
 use dom_base::Owner;
 use dom_commands::Machine;
 use dom_microtasks::{Queue, Task};
+use dom_printer::Value;
 use dom_reader::Command;
 use std::alloc::{AllocError, Global};
 use std::marker::Model;
@@ -136,34 +138,37 @@ fn call(
         (called (turnless machine.old.world waiting.old) owner.now (command_view command.old)).0) }
     ensures ready { OnOk result (IsReady machine.new waiting.new) }
 {
-    if matches!(command, Command::EndTurn) {
-        return end_turn(machine, waiting, alloc, owner, answer);
+    if is_checkpoint(machine, owner, command) {
+        return reply_after_tasks(machine, waiting, alloc, owner, answer);
     }
     make_way(machine, waiting, owner)?;
     machine.answer(owner, command, answer)
 }
 
-/// The end of a turn: a checkpoint, and then the owner's reply. Of an owner that is not there it is refused.
-fn end_turn(
+/// Whether a command is the end of a turn, of an owner that is there.
+fn is_checkpoint(machine: &Machine, owner: &Owner, command: &Command) -> bool
+    ensures { result ≡ (is_end_turn (command_view command.now) && is_there machine.now.world owner.now) }
+{
+    matches!(command, Command::EndTurn) && machine.is_there(owner)
+}
+
+/// The end of a turn, of an owner that is there: a checkpoint, and then the owner's reply.
+fn reply_after_tasks(
     machine: &mut Machine,
     waiting: &mut Queue,
     alloc: Global,
     owner: &Owner,
     answer: &mut Answer,
 ) -> Result<(), AllocError>
-    requires { IsReady machine.old waiting.old }
+    requires ready { IsReady machine.old waiting.old }
+    requires there { is_there machine.old.world owner.now ≡ true }
     ensures told { OnOk result (told answer.new ≡ told answer.old ++ map shown_output
         (called (turnless machine.old.world waiting.old) owner.now end_turn).1) }
     ensures world { OnOk result (turnless machine.new.world waiting.new ≡ (called (turnless machine.old.world waiting.old) owner.now end_turn).0) }
     ensures ready { OnOk result (IsReady machine.new waiting.new) }
 {
-    if machine.is_there(owner) {
-        run_tasks(machine, waiting, alloc, answer)?;
-    } else {
-        make_way(machine, waiting, owner)?;
-    }
-    let mut command = Command::EndTurn;
-    machine.answer(owner, &mut command, answer)
+    run_tasks(machine, waiting, alloc, answer)?;
+    answer.reply(owner, &Value::Nothing)
 }
 
 /// Runs all tasks, and puts what they tell.
@@ -175,8 +180,7 @@ fn run_tasks(
 ) -> Result<(), AllocError>
     requires { IsReady machine.old waiting.old }
     ensures told { OnOk result (told answer.new ≡ told answer.old ++ map shown_output (checkpoint (turnless machine.old.world waiting.old)).1) }
-    ensures world { OnOk result (machine.new.world ≡ (checkpoint (turnless machine.old.world waiting.old)).0) }
-    ensures none { OnOk result (waiting.new ≡ []) }
+    ensures world { OnOk result (turnless machine.new.world waiting.new ≡ (checkpoint (turnless machine.old.world waiting.old)).0) }
     ensures ready { OnOk result (IsReady machine.new waiting.new) }
 {
     set_aside(machine, waiting)?;
@@ -192,10 +196,10 @@ fn make_way(machine: &mut Machine, waiting: &mut Queue, owner: &Owner) -> Result
     ensures calm { OnOk result (is_busy machine.new.world owner.now ≡ false) }
     ensures ready { OnOk result (IsReady machine.new waiting.new) }
 {
-    if machine.has_turn_of_another(owner) {
-        return set_aside(machine, waiting);
+    if !machine.has_turn_of_another(owner) {
+        return Ok(());
     }
-    Ok(())
+    set_aside(machine, waiting)
 }
 
 /// Puts the tasks of the machine's open turn after those that wait, and closes the turn.

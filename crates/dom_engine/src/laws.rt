@@ -1,4 +1,4 @@
-//! Laws of runs and of sessions, over the definitions that the contracts of `run` and of `Session` cite.
+//! Laws of runs, of sessions and of documents, over the definitions that the contracts of `run`, `Session` and `Document` cite.
 ghost use Rattle.std.specs.Prelude.{ℕ, List};
 ghost use Rattle.dom_model.specs.Command.{Line};
 ghost use Rattle.dom_model.specs.Isolation.{SamePage, SameFamily, SameFamilyWhileTurnsStand, SameComponent, SameComponentWhileTurnsStand};
@@ -15,6 +15,7 @@ ghost use Rattle.dom_engine.specs.GroupLaws.{SameComponentRuns, SameComponentRun
 ghost use Rattle.dom_engine.specs.Calls.{LineIsItsCommand, LineIsItsCall, CommandEndsInReply, CallEndsInReply, ForeignCommandIsRefused, ForeignCallIsRefused};
 ghost use Rattle.dom_engine.specs.CallSessions.{CallsBegin, CallsGoOn, CallsTellAll, LinesAreTheirCalls, CallsHavePage, CallsHaveGroup, SameCalls};
 ghost use Rattle.dom_engine.specs.CallSessions.{SameCallsByStrategy, SameCallsByStrategies};
+ghost use Rattle.dom_engine.specs.DocumentLaws.{NeverBusy, TasksWait, LinesAreActs, ScriptsAreActs, BusyLinesDoNothing};
 ghost use Rattle.dom_isolation.specs.FullIsolation.{SamePageInFull};
 ghost use Rattle.dom_engine.specs.PageLaws.{PageTextIsThePageMachinesInFull, SamePageTextInFull, PageSeesLinesNamedInFull, PageSeesPrefixInFull};
 ghost use Rattle.dom_engine.specs.PageLaws.{PageTextIsThePageMachines, SamePageText, PageSeesLinesNamed, PageSeesPrefix};
@@ -175,4 +176,24 @@ pub fn law_same_calls()
     ensures same { SameCalls }
     ensures strategy { SameCallsByStrategy }
     ensures strategies { SameCallsByStrategies }
+{}
+
+/// No call of a document is refused as `busy`, whatever the owner, since no turn is open in it.
+pub fn law_never_busy()
+    ensures { NeverBusy }
+{}
+
+/// A call of a document runs no task, whoever queued it, but for the end of a turn: the call tells what it would tell if no task waited, and what
+/// it queues comes after the tasks that wait.
+pub fn law_tasks_wait()
+    ensures { TasksWait }
+{}
+
+/// A script by lines is the same calls of a document, with a checkpoint where a turn was ended: the lines leave the world that these leave, but for the
+/// turn, and tell what these tell. Left out are the lines that say no command, and those that are refused as `busy`, which tell this alone and change
+/// nothing.
+pub fn law_lines_are_acts()
+    ensures lines { LinesAreActs }
+    ensures script { ScriptsAreActs }
+    ensures busy { BusyLinesDoNothing }
 {}

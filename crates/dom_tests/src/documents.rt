@@ -1,0 +1,134 @@
+//! Documents that are called. `examples/faults/check` runs this test with one request for memory after the other refused.
+
+use dom_answers::{Answer, Item, Reply, Said};
+use dom_base::{Owner, Refusal};
+use dom_engine::Document;
+use dom_reader::parse_line;
+use std::alloc::{AllocError, Global};
+use std::process::Abort;
+
+/// What is done with a document: a checkpoint, or the call that a line says.
+#[derive(Clone, Copy)]
+enum Act {
+    Checkpoint,
+    Call(&'static [u8]),
+}
+
+/// How an answer is to end: a checkpoint's has no reply.
+#[derive(Clone, Copy)]
+enum Ending {
+    Open,
+    Nothing,
+    Node(u32),
+    Component,
+    Refused(Refusal),
+}
+
+/// The microtasks that an answer is to tell, in their order: whether each is the page's, and its label.
+type Runs = &'static [(bool, &'static [u8])];
+
+/// A component's calls come among the page's: none is refused as busy, none ends a turn, and the microtasks of both run at checkpoints, first in,
+/// first out.
+const ACTS: [(Act, Runs, Ending); 15] = [
+    (Act::Call(b"p new element div"), &[], Ending::Node(1)),
+    (Act::Call(b"p append n0 n1"), &[], Ending::Nothing),
+    (Act::Call(b"p attach n1"), &[], Ending::Component),
+    (Act::Call(b"p micro first"), &[], Ending::Nothing),
+    (Act::Call(b"c1 micro second"), &[], Ending::Nothing),
+    (Act::Call(b"c1 new element b"), &[], Ending::Node(1)),
+    (Act::Call(b"p micro third"), &[], Ending::Nothing),
+    (
+        Act::Checkpoint,
+        &[(true, b"first"), (false, b"second"), (true, b"third")],
+        Ending::Open,
+    ),
+    (Act::Checkpoint, &[], Ending::Open),
+    (Act::Call(b"c1 micro fourth"), &[], Ending::Nothing),
+    (Act::Call(b"p micro fifth"), &[], Ending::Nothing),
+    (Act::Call(b"c2 ."), &[], Ending::Refused(Refusal::Unknown)),
+    (
+        Act::Call(b"p ."),
+        &[(false, b"fourth"), (true, b"fifth")],
+        Ending::Nothing,
+    ),
+    (Act::Call(b"c1 remove m1"), &[], Ending::Nothing),
+    (Act::Checkpoint, &[], Ending::Open),
+];
+
+/// Whether the item at a place is the run of this microtask.
+fn is_run(answer: &Answer, at: usize, is_page: bool, label: &[u8]) -> bool {
+    let items = answer.items();
+    if at >= items.len() {
+        return false;
+    }
+    let Item::Says(owner, Said::Microtask(span)) = items[at] else {
+        return false;
+    };
+    matches!(owner, Owner::Page) == is_page && span.of(answer.bytes()) == label
+}
+
+/// Whether the first items are the runs of these microtasks, in their order, and there are so many.
+fn are_runs(answer: &Answer, count: usize, runs: Runs) -> bool {
+    if runs.len() != count {
+        return false;
+    }
+    for at in 0..count {
+        let (is_page, label) = runs[at];
+        if !is_run(answer, at, is_page, label) {
+            return false;
+        }
+    }
+    true
+}
+
+/// Whether an answer tells these microtasks, and ends so.
+fn tells(answer: &Answer, runs: Runs, ending: Ending) -> bool {
+    if matches!(ending, Ending::Open) {
+        return are_runs(answer, answer.items().len(), runs);
+    }
+    let Some(Item::Says(_, said)) = answer.last() else {
+        return false;
+    };
+    let ends = match (ending, said) {
+        (Ending::Nothing, Said::Replied(Reply::Nothing)) => true,
+        (Ending::Node(number), Said::Replied(Reply::Node(node))) => node.number == number,
+        (Ending::Component, Said::Replied(Reply::Component(_))) => true,
+        (Ending::Refused(one), Said::Refused(other)) => one == *other,
+        _ => false,
+    };
+    ends && are_runs(answer, answer.deliveries().len(), runs)
+}
+
+/// Does an act; an error is out of memory.
+fn act(
+    rt: &impl Abort,
+    alloc: Global,
+    document: &mut Document,
+    act: Act,
+    answer: &mut Answer,
+) -> Result<(), AllocError> {
+    let line = match act {
+        Act::Checkpoint => return document.checkpoint(answer),
+        Act::Call(line) => line,
+    };
+    let Ok(mut said) = parse_line(alloc, line)? else {
+        panic!(rt; "the line says no command");
+    };
+    document.call(&said.owner, &mut said.command, answer)
+}
+
+#[test]
+fn tasks_of_all_owners_wait_for_a_checkpoint(rt: HostRuntime) {
+    let Ok(mut document) = Document::new(rt.alloc()) else {
+        return;
+    };
+    let mut answer = Answer::new(rt.alloc());
+    for (each, runs, ending) in ACTS {
+        if act(&rt, rt.alloc(), &mut document, each, &mut answer).is_err() {
+            assert!(rt; document.checkpoint(&mut answer).is_err());
+            assert!(rt; answer.last().is_none());
+            return;
+        }
+        assert!(rt; tells(&answer, runs, ending));
+    }
+}
