@@ -1,9 +1,11 @@
 mod Cited
 mod Connecting
+mod Looking
 mod Notices
 mod ObserverLaws
 mod Places
 mod Requesting
+mod Rows
 mod SelectorLaws
 mod Siblings
 mod SpotReads

@@ -1,4 +1,5 @@
 -- Unmarked: own rules, about what the code holds and its contracts say.
+pub mod Looks
 pub mod Recorded
 pub mod Requests
 pub mod TreeText

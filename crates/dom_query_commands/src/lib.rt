@@ -4,10 +4,15 @@
 #![tactic(auto)]
 
 pub mod cursors;
+pub mod looks;
 pub mod microtasks;
 pub mod observing;
 pub mod reads;
 mod records;
 pub mod selecting;
+mod structure;
 pub mod things;
 mod tree_text;
+
+pub use looks::NodeLinks;
+pub use structure::StructureRow;

@@ -14,7 +14,7 @@ use std::alloc::{AllocError, Global};
 
 /// A place in the text of trees: where a node opens, or where it closes.
 #[derive(Clone, Copy)]
-enum Place {
+pub(crate) enum Place {
     Opening(Key),
     Closing(Key),
 }
@@ -43,7 +43,7 @@ pub(crate) fn tree_steps<'a>(
 
 /// The place after this one, up to where the node given closes: behind an opening the first child opens, or else the node
 /// closes; behind a closing the next sibling opens, or else the parent closes.
-fn after(forest: &Forest, place: Place, top: Key) -> Option<Place>
+pub(crate) fn after(forest: &Forest, place: Place, top: Key) -> Option<Place>
     requires place_is_node { IsNode forest.now (key_of place) }
     requires top_is_node { IsNode forest.now top }
     ensures value { option_map (place_view forest.now.names) result ≡ place_after forest.now.trees (name_of forest.now top)
@@ -80,7 +80,11 @@ fn step<'a>(alloc: Global, forest: &'a Forest, place: Place) -> Result<TreeStep<
 }
 
 /// A node where its tree begins: an element with its local name and its attributes, a Text or a Comment with its data.
-fn opening<'a>(alloc: Global, forest: &'a Forest, key: Key) -> Result<Opening<'a>, AllocError>
+pub(crate) fn opening<'a>(
+    alloc: Global,
+    forest: &'a Forest,
+    key: Key,
+) -> Result<Opening<'a>, AllocError>
     requires { IsNode forest.now key }
     ensures { IfOk result (λ opening. opening_view opening ≡ shown (node_in forest.now.trees (name_of forest.now key))) }
 {
