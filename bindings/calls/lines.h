@@ -91,8 +91,8 @@ owl_node node_of(const script *in, named node);
 
 /* ---- what is written */
 
-/* Writes the deliveries of the last call. */
-void tell(script *in);
+/* Writes the deliveries of the last call. Gives OK, or the status of the call that shows them. */
+uint32_t tell(script *in);
 
 /* Each writes a reply of the owner who acts, and gives OK: `ok` alone, or with a value. */
 uint32_t say_done(script *in);

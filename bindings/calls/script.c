@@ -22,9 +22,7 @@ static uint32_t end_turn(script *in)
 {
     uint32_t status = dom_checkpoint(&in->document);
     in->turn = NO_TURN;
-    if (status == OWL_OK)
-        tell(in);
-    return status;
+    return status ? status : tell(in);
 }
 
 static uint32_t refuse(script *in, bytes word, uint32_t refusal)

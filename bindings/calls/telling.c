@@ -92,11 +92,12 @@ static void write_record(script *in, const owl_answer *answer, const owl_deliver
     write_old_value(in, answer, told);
 }
 
-void tell(script *in)
+uint32_t tell(script *in)
 {
     owl_answer answer;
-    if (in->document.told == 0 || dom_answer(&in->document, &answer) != OWL_OK)
-        return;
+    uint32_t status = in->document.told ? dom_answer(&in->document, &answer) : OWL_OK;
+    if (status || !in->document.told)
+        return status;
     for (size_t at = 0; at < answer.delivery_count; at++) {
         const owl_delivery *told = answer.deliveries + at;
         fprintf(in->to, "%s ", in->owners[told->owner].word);
@@ -110,6 +111,7 @@ void tell(script *in)
         }
         fputc('\n', in->to);
     }
+    return OWL_OK;
 }
 
 /* ---- trees */

@@ -88,20 +88,16 @@ static uint32_t dispatch(script *in, const line *read)
     bool truth;
     owl_node related = read->node_count > 1 ? node_of(in, read->nodes[1]) : OWL_NONE;
     uint32_t status = dom_dispatch(WHO, FIRST, WORD, read->flags, related, &truth);
-    if (status)
-        return status;
-    tell(in);
-    return say_truth(in, truth);
+    status = IF_DONE(tell(in));
+    return IF_DONE(say_truth(in, truth));
 }
 
 /* Says the records of an observer, and then their count. */
 static uint32_t take_records(script *in, const line *read)
 {
     uint32_t count, status = dom_take_records(WHO, THING, &count);
-    if (status)
-        return status;
-    tell(in);
-    return say_number(in, "", count);
+    status = IF_DONE(tell(in));
+    return IF_DONE(say_number(in, "", count));
 }
 
 uint32_t perform_on_things(script *in, const line *read)
