@@ -47,3 +47,5 @@ mod TurnedCommands
 mod LineSquares
 mod LineRuns
 mod LineGuarantees
+mod StopCounts
+mod StopTraces

@@ -11,6 +11,7 @@ ghost use Rattle.dom_live.specs.Laws.{LinesKeep, PageLineAgrees, PageLinesAgree,
 ghost use Rattle.dom_live.specs.Laws.{GroupLineAgrees, GroupLinesAgree, GroupRunAgrees, SameGroup};
 ghost use Rattle.dom_model.specs.Trace.{is_page};
 ghost use Rattle.dom_live.specs.Honesty.{TellsOwnLines, TellsOutwardEvents, CountsOwnSteps, QuietPage, QuietGroup, AloneGroup};
+ghost use Rattle.dom_live.specs.Honesty.{TellsMadeStops};
 ghost use Rattle.dom_live.specs.LineScripts.{KeptOutIsBusy, LinesTranslate, RunsTranslate, SameLines, SamePageLines};
 ghost use Rattle.dom_live.specs.Programs.{Program, SameByProgram, SameToEndByProgram, PlaysFollow};
 ghost use Rattle.dom_live.specs.Examples.{AnswersSo};
@@ -93,9 +94,9 @@ pub fn group_scripts()
 
 /// A trace tells of a script what it should and no more, for any group of owners. Its lines are the group's own, in order. Its outward events are those of
 /// others' accepted dispatches, in order. Its numbers come to as many own steps as are made. And the page is told neither a stop nor a cancel where no line of
-/// a component adds a listener that stops or cancels, or acts on an event; nor is any group where no line of others does; and where others send no event out to
-/// it either, it is told its own lines, the checkpoints of others that run its tasks, and the end of input alone. Lines are bytes, and `read` is any reading of
-/// them.
+/// a component adds a listener that stops or cancels, or acts on an event; nor is any group where no line of others does; and where others send no event out
+/// to it either, it is told its own lines, the checkpoints of others that run its tasks, and the end of input alone. And it is told no more stops than others
+/// make: by a listener with that action, called at a node of theirs, or by a line in a call of their own. Lines are bytes, and `read` is any reading of them.
 pub fn honest_traces()
     ensures lines { (read : List ℕ → LiveLine) (group : Owner → Bool) → TellsOwnLines read group }
     ensures outward { (read : List ℕ → LiveLine) (group : Owner → Bool) → TellsOutwardEvents read group }
@@ -103,6 +104,7 @@ pub fn honest_traces()
     ensures quiet { (read : List ℕ → LiveLine) → QuietPage read }
     ensures quiet_group { (read : List ℕ → LiveLine) (group : Owner → Bool) → QuietGroup read group }
     ensures alone { (read : List ℕ → LiveLine) (group : Owner → Bool) → AloneGroup read group }
+    ensures stops { (read : List ℕ → LiveLine) (group : Owner → Bool) → TellsMadeStops group read }
 {}
 
 /// The line protocol is the case without anything live. Each of its scripts has a script of live documents that stands for it: each line where it is carried
