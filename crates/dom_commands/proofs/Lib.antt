@@ -9,6 +9,7 @@ mod Firing
 mod ListenerWorlds
 mod HeardCommands
 mod Listening
+mod Looking
 mod Machines
 mod Opening
 mod RangePlans

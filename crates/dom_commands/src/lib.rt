@@ -5,10 +5,12 @@ mod answering;
 mod calls;
 mod commands;
 mod events;
+mod looks;
 mod machine;
 mod path_text;
 mod ranging;
 mod tasks;
 mod turns;
 
+pub use dom_query_commands::{NodeLinks, StructureRow};
 pub use machine::Machine;
