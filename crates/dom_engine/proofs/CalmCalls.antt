@@ -3,7 +3,8 @@ use Rattle.dom_base.proofs.Std.{◌≡◌, ◌≢◌, ℕ, ◌+◌, Bool, true, 
 use Rattle.dom_base.proofs.Std.{option_or, option_map_or, option_to_list, AllByRecursion, nat_lt}
 use Rattle.dom_model.proofs.Model.{Owner, Page, Component, NodeName, World, part_of, is_there, Part, Command, is_command_of, names_foreign, part_refusal}
 use Rattle.dom_model.proofs.Model.{own_refusal, nodes_exist, thing_exists, nodes_fit, first_refusal, refusal, Refusal, Syntax, Busy, Foreign, Unknown}
-use Rattle.dom_model.proofs.Model.{WrongKind, Hierarchy, IndexSize, InvalidCharacter, Limit, NotSupported, Selector, TypeFault, NodeWord, related_refusal, has_other_root}
+use Rattle.dom_model.proofs.Model.{WrongKind, Hierarchy, IndexSize, InvalidCharacter, Limit, NotSupported, Selector, TypeFault}
+use Rattle.dom_model.proofs.Model.{NodeWord, related_refusal, has_other_root}
 use Rattle.dom_model.proofs.Model.{Trees, Node, Range, range_at, MAX_COMPONENTS, limit_on, past_limit, past_end, may_be_host, may_attach, made_by_text}
 use Rattle.dom_model.proofs.Model.{made_by_extracting, made_by_insert_node, asks_for_nothing, options_of, is_name, is_in, name_eq, node_in, kind_of}
 use Rattle.dom_model.proofs.Model.{is_document, is_shadow, named, parse_selectors, child_nodes}

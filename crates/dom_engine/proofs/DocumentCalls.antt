@@ -1,6 +1,6 @@
 -- What the functions of a document leave and tell, from what its machine leaves and tells.
-use Rattle.dom_base.proofs.Std.{◌≡◌, Bool, true, false, ◌&&◌, ◌||◌, List, [], ◌∷◌, ◌++◌, None, Result, Ok, Err, OnOk, map, list_any, refl, sym, ap, ◌∙◌}
-use Rattle.dom_base.proofs.Std.{subst, true≢false, AllByRecursion}
+use Rattle.dom_base.proofs.Std.{◌≡◌, Bool, true, false, ◌&&◌, List, [], ◌∷◌, ◌++◌, None, Result, Ok, Err, OnOk, map, list_any, refl, sym, ap, ◌∙◌}
+use Rattle.dom_base.proofs.Std.{subst, AllByRecursion}
 use Rattle.dom_model.proofs.Model.{Owner, World, Task, micro_task, notify_task, is_notify_of, is_there, Command, command, refusal, step, is_busy}
 use Rattle.dom_model.proofs.Model.{has_other_turn, running_task, run_each, ending_turn, Output, says, replied, nothing, Run}
 use Rattle.dom_worlds.specs.Definitions.{IsThere, task_owner}
@@ -45,26 +45,6 @@ module _ (m n : MachineNow) (q ts us : List Task) where
     there = subst (AreThere n.world) (sym queue)
         (all-queued (λ t. IsThere n.world (task_owner t)) ts q (subst (λ w. AreThere w q) (sym world) ready.there) there);
   }
-
--- and has the same world
-pub world-aside : (w v : World) (q us : List Task) → v ≡ record w { tasks = []; turn = None } → us ≡ queued q w.tasks → turnless v us ≡ turnless w q
-world-aside w v q us world queue = ap (λ u. turnless u us) world ∙ ap (λ ts. record w { tasks = ts; turn = None }) queue
-
--- no turn is open then
-pub ended-aside : (w v : World) (o : Owner) → v ≡ record w { tasks = []; turn = None } → has_other_turn v o ≡ false
-ended-aside w v o world = ap (λ u. has_other_turn u o) world
-
-pub calm-aside : (w v : World) (o : Owner) → v ≡ record w { tasks = []; turn = None } → is_busy v o ≡ false
-calm-aside w v o world = ap (λ u. is_busy u o) world
-
--- of two tests that both fail
-pub first-false : (a b : Bool) → (a || b) ≡ false → a ≡ false
-first-false true b h = absurd (true≢false h)
-first-false false b h = refl
-
-pub second-false : (a b : Bool) → (a || b) ≡ false → b ≡ false
-second-false true b h = absurd (true≢false h)
-second-false false b h = h
 
 -- ---- a checkpoint
 

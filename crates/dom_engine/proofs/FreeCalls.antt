@@ -1,6 +1,6 @@
 -- A call is the machine's command in whatever turn, where it is not refused as busy, and its tasks come after those that wait.
 use Rattle.dom_base.proofs.Std.{◌≡◌, ◌≢◌, Bool, true, false, not, ◌&&◌, List, [], ◌∷◌, ◌++◌, Option, Some, None, is_some, refl, sym, ap, ◌∙◌, subst, true≢false}
-use Rattle.dom_base.proofs.Std.{if◌then◌else◌, option_or}
+use Rattle.dom_base.proofs.Std.{if◌then◌else◌, option_or, and-false}
 use Rattle.dom_model.proofs.Model.{Owner, Page, Component, World, Task, part_of, is_there, Command, is_command_of, names_foreign, part_refusal, first_refusal}
 use Rattle.dom_model.proofs.Model.{Refusal, Syntax, Busy, Foreign, Unknown, refusal, accepted, perform, run_command, step, command, is_busy, Run, run_then}
 use Rattle.dom_model.proofs.Model.{unless_refused, quiet, ending_turn, has_other_turn, opening_turn, says, replied, nothing}
@@ -62,17 +62,12 @@ module _ (f : List Task → List Task) (k : KeepsQueues f) (m : World) (o : Owne
   call-other c h e =
       command-other c (refusal (other m) o c) e ∙ ap (λ r. other_run (unless_refused o r m (accepted m o c))) (sym (refusal-other c h))
 
--- what is not busy
-not_busy : (mine busy : Bool) → busy ≡ false → (mine && busy) ≡ false
-not_busy true busy e = e
-not_busy false busy e = refl
-
 -- A command in a machine in which no other owner's turn is open is the call in the document's world.
 module _ (q : List Task) (m : World) (o : Owner) (c : Command) where
   pub call-is : has_other_turn m o ≡ false → is_busy m o ≡ false → (refusal (turnless m q) o c ≡ None → is_end_turn c ≡ false) →
       called (turnless m q) o c ≡ (turnless (step m (command o c)).0 q, (step m (command o c)).1)
   call-is ended calm e =
-      call-other (queued q) (queued-keeps q) m o c (not_busy (is_command_of o c) (is_busy m o) calm) e
+      call-other (queued q) (queued-keeps q) m o c (ap (λ b. is_command_of o c && b) calm ∙ and-false (is_command_of o c)) e
       ∙ sym (ap (λ b. let s = run_then (if b then ending_turn m else quiet m) (run_command o c) in (turnless s.0 q, s.1)) ended)
 
 -- the end of a turn

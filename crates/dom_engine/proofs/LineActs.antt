@@ -15,16 +15,15 @@ use Rattle.dom_engine.proofs.EndedTasks.{still-ended}
 
 -- ---- acts one after another
 
--- two runs one after another, and a third
-then-then : {S : Type 0} (r : Run S) (g h : S → Run S) → run_then (run_then r g) h ≡ run_then r (λ s. run_then (g s) h)
-then-then r g h = ap (λ xs. ((h (g r.0).0).0, xs)) (append_assoc r.1 (g r.0).1 (h (g r.0).0).1)
-
 -- of two lists
 acts-append : (w : World) (xs ys : List Act) → run_each acting w (xs ++ ys) ≡ run_then (run_each acting w xs) (λ v. run_each acting v ys)
 acts-append w [] ys = refl
 acts-append w (x ∷ xs) ys =
-    ap (λ (r : Run World). ((r.0, (acting w x).1 ++ r.1))) (acts-append (acting w x).0 xs ys)
-    ∙ sym (then-then (acting w x) (λ v. run_each acting v xs) (λ v. run_each acting v ys))
+    let first = acting w x in
+    let second = run_each acting first.0 xs in
+    let last = run_each acting second.0 ys in
+    ap (λ (r : Run World). (r.0, first.1 ++ r.1)) (acts-append first.0 xs ys)
+    ∙ sym (ap (λ (told : List Output). (last.0, told)) (append_assoc first.1 second.1 last.1))
 
 -- ---- a command
 
