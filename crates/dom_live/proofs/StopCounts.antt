@@ -30,20 +30,26 @@ and-right true = refl
 and-right false = refl
 
 -- where a stop comes to one that is counted
-more : (b c : Bool) (n : ℕ) → b ≡ c → one_if (b && true) ≤ n + one_if (c && true)
-more true true n h = omega arith
-more false c n h = omega arith
-more true false n h = absurd (true≢false h)
+more : (e b c : Bool) (n : ℕ) → (e && b) ≡ c → one_if (e && (b && true)) ≤ n + one_if (c && true)
+more true true true n h = omega arith
+more true true false n h = absurd (true≢false h)
+more true false c n h = let m = one_if (c && true) in omega arith
+more false b c n h = let m = one_if (c && true) in omega arith
+
+-- three tests
+joined : (a b c : Bool) → one_if ((a && b) && c) ≡ one_if (a && (b && c))
+joined true b c = refl
+joined false b c = refl
 
 module _ (g : Owner → Bool) where
   -- a stop by another in the visit that is made, of which the group is not told yet
-  abbrev pub untold_in : Bool → Option Visiting → ℕ
-  untold_in stopped None = 0
-  untold_in stopped (Some v) = one_if (not (is_own_visit g v.visit) && stopped)
+  abbrev pub untold_in : Bool → Bool → Option Visiting → ℕ
+  untold_in own stopped None = 0
+  untold_in own stopped (Some v) = one_if (own && (not (is_own_visit g v.visit) && stopped))
 
   -- in a frame
   abbrev pub untold : Frame → ℕ
-  untold (an_event u) = untold_in u.stopped u.visiting
+  untold (an_event u) = untold_in (is_own_event g u) u.stopped u.visiting
   untold f = 0
 
   -- in all
@@ -59,7 +65,8 @@ module _ (g : Owner → Bool) where
       ap (λ n. n + all_untold (map (without_calls x event label capture) fs)) (from u.visiting)
       ∙ ap (λ n. untold (an_event u) + n) (sifted-untold x event label capture fs)
     where
-      from : (m : Option Visiting) → untold_in u.stopped (option_map (without_call x event label capture) m) ≡ untold_in u.stopped m
+      from : (m : Option Visiting) →
+          untold_in (is_own_event g u) u.stopped (option_map (without_call x event label capture) m) ≡ untold_in (is_own_event g u) u.stopped m
       from None = refl
       from (Some v) = refl
   sifted-untold x event label capture (a_notification n ∷ fs) = ap (λ n. 0 + n) (sifted-untold x event label capture fs)
@@ -76,21 +83,21 @@ module _ (g : Owner → Bool) where
 
   -- an act in a visit, which is another's or not
   pub acted-untold : (o : Owner) (may : Bool) (a : Action) (u : UnderWay) (other : Bool) →
-      AllByRecursion (λ (v : Visiting). not (is_own_visit g v.visit) ≡ other) (option_to_list u.visiting) →
+      AllByRecursion (λ (v : Visiting). (is_own_event g u && not (is_own_visit g v.visit)) ≡ other) (option_to_list u.visiting) →
       untold (an_event (acted o may a u)) ≤ untold (an_event u) + one_if (other && is_stop a)
   acted-untold o may Log u other i = let n = one_if (other && false) in omega arith
   acted-untold o may Stop u other i = from u.visiting i
     where
-      from : (m : Option Visiting) → AllByRecursion (λ (v : Visiting). not (is_own_visit g v.visit) ≡ other) (option_to_list m) →
-          untold_in true m ≤ untold_in u.stopped m + one_if (other && true)
+      from : (m : Option Visiting) → AllByRecursion (λ (v : Visiting). (is_own_event g u && not (is_own_visit g v.visit)) ≡ other) (option_to_list m) →
+          untold_in (is_own_event g u) true m ≤ untold_in (is_own_event g u) u.stopped m + one_if (other && true)
       from None i = let n = one_if (other && true) in omega arith
-      from (Some v) i = more (not (is_own_visit g v.visit)) other (untold_in u.stopped (Some v)) i.0
+      from (Some v) i = more (is_own_event g u) (not (is_own_visit g v.visit)) other (untold_in (is_own_event g u) u.stopped (Some v)) i.0
   acted-untold o may StopNow u other i = from u.visiting i
     where
-      from : (m : Option Visiting) → AllByRecursion (λ (v : Visiting). not (is_own_visit g v.visit) ≡ other) (option_to_list m) →
-          untold_in true (option_map stopped_visit m) ≤ untold_in u.stopped m + one_if (other && true)
+      from : (m : Option Visiting) → AllByRecursion (λ (v : Visiting). (is_own_event g u && not (is_own_visit g v.visit)) ≡ other) (option_to_list m) →
+          untold_in (is_own_event g u) true (option_map stopped_visit m) ≤ untold_in (is_own_event g u) u.stopped m + one_if (other && true)
       from None i = let n = one_if (other && true) in omega arith
-      from (Some v) i = more (not (is_own_visit g v.visit)) other (untold_in u.stopped (Some v)) i.0
+      from (Some v) i = more (is_own_event g u) (not (is_own_visit g v.visit)) other (untold_in (is_own_event g u) u.stopped (Some v)) i.0
   acted-untold o true Cancel u other i = let n = one_if (other && false) in omega arith
   acted-untold o false Cancel u other i = let n = one_if (other && false) in omega arith
 
@@ -133,11 +140,8 @@ module _ (g : Owner → Bool) where
         w : UnderWay
         w = record u { visiting = Some v }
 
-        by : (e s x o : Bool) → false ≡ (e && o) → told_count (if e && (s && x) then Some was_stopped else None) ≤ one_if (not o && s)
-        by false s x o h = zero-least (one_if (not o && s))
-          where
-            zero-least : (n : ℕ) → 0 ≤ n
-            zero-least n = omega arith
+        by : (e s x o : Bool) → false ≡ (e && o) → told_count (if e && (s && x) then Some was_stopped else None) ≤ one_if (e && (not o && s))
+        by false s x o h = omega arith
         by true s x true h = absurd (true≢false (sym h))
         by true true true false h = omega arith
         by true true false false h = omega arith
@@ -243,8 +247,10 @@ module _ (g : Owner → Bool) where
                 by_cases u.stopped
                 (λ k. subst (λ (r : LiveRun (Live World)). all_untold r.0.frames ≤ all_untold fs) (sym (cond-true u.stopped _ _ k)) (omega arith))
                 (λ k. subst (λ (r : LiveRun (Live World)). all_untold r.0.frames ≤ all_untold fs) (sym (cond-false u.stopped _ _ k))
-                (let e : one_if (not (is_own_visit g v) && u.stopped) ≡ 0 =
-                ap (λ c. one_if (not (is_own_visit g v) && c)) k ∙ ap one_if (and-right (not (is_own_visit g v))) in omega (arith, e)))
+                (let e : one_if (is_own_event g u && (not (is_own_visit g v) && u.stopped)) ≡ 0 =
+                ap (λ c. one_if (is_own_event g u && (not (is_own_visit g v) && c))) k
+                ∙ ap (λ c. one_if (is_own_event g u && c)) (and-right (not (is_own_visit g v))) ∙ ap one_if (and-right (is_own_event g u)) in
+                omega (arith, e)))
 
         module _ (x : Visit NodeName) where
           -- in a visit
@@ -276,8 +282,10 @@ module _ (g : Owner → Bool) where
               let n = one_if (stops_next g s.live_listeners (in_visit (l ∷ ls) None false ∷ fs)) in omega (arith, a, o, t)))
               (λ k. subst Holds (sym (cond-false lives _ _ k))
               (let t = acted-untold x.current.owner (may_cancel u.event l.words) l.words.action
-              (record u { visiting = Some (record { visit = x; calls = ls; called = None; stopped_now = false }) }) (not (is_own_visit g x)) (refl, tt) in
-              let n = ap (λ b. one_if (not (is_own_visit g x) && (not b && is_stop l.words.action))) k in omega (arith, a, o, t, n)))
+              (record u { visiting = Some (record { visit = x; calls = ls; called = None; stopped_now = false }) })
+              (is_own_event g u && not (is_own_visit g x)) (refl, tt) in
+              let n = ap (λ b. one_if (is_own_event g u && (not (is_own_visit g x) && (not b && is_stop l.words.action)))) k in
+              let j = joined (is_own_event g u) (not (is_own_visit g x)) (is_stop l.words.action) in omega (arith, a, o, t, n, j)))
 
           -- any step in it
           visit-counts : (ls : List (Listener NodeName)) (c : Option ListenerWords) (b : Bool) → Counts (in_visit ls c b)

@@ -13,7 +13,7 @@ use Rattle.dom_live.specs.SmallSteps.{advance, pushed}
 use Rattle.dom_live.specs.Runs.{is_resting, frames_left, going}
 use Rattle.dom_live.specs.Machine.{taken, ending, live_step, obeyed, acting, act_in, act_refusal, on_own_call, call_returned, plain_refusal, return_refusal}
 use Rattle.dom_live.specs.Machine.{caller_may_cancel, is_under_way}
-use Rattle.dom_live.specs.Groups.{is_own_visit, is_own_step}
+use Rattle.dom_live.specs.Groups.{is_own_visit, is_own_event, is_own_step}
 use Rattle.dom_live.specs.Things.{Thing, own_line, shut_out, input_over, LiveTrace, no_things, with_thing, with_thing_if, told_next, step_traced}
 use Rattle.dom_live.specs.Things.{steps_traced, run_traced, line_thing, line_traced, is_shut_out, owner_said, goes_out, out_thing}
 use Rattle.dom_live.specs.Honesty.{stop_in, stops_told, is_stop, stops_next, stops_by, stops_made, stops_from, TellsMadeStops}
@@ -27,7 +27,9 @@ module _ (g : Owner → Bool) where
   returned-untold : (f : Frame) (fs : List Frame) → all_untold g (returned f ++ fs) ≤ all_untold g (f ∷ fs)
   returned-untold (an_event u) fs = from u.visiting
     where
-      from : (m : Option Visiting) → untold_in g u.stopped (option_map returned_visit m) + all_untold g fs ≤ untold_in g u.stopped m + all_untold g fs
+      from : (m : Option Visiting) →
+          untold_in g (is_own_event g u) u.stopped (option_map returned_visit m) + all_untold g fs
+          ≤ untold_in g (is_own_event g u) u.stopped m + all_untold g fs
       from None = omega arith
       from (Some v) = omega arith
   returned-untold (a_notification n) fs = omega arith
@@ -36,17 +38,23 @@ module _ (g : Owner → Bool) where
 
   -- an act in a frame where its owner is called
   act-untold : (o : Owner) (a : Action) (f : Frame) → is_called o f ≡ true → untold g (act_in o a f) ≤ untold g f + one_if (not (g o) && is_stop a)
-  act-untold o a (an_event u) c = acted-untold g o (caller_may_cancel u.event u.visiting) a u (not (g o)) (at u.visiting c)
+  act-untold o a (an_event u) c =
+      let h = acted-untold g o (caller_may_cancel u.event u.visiting) a u (is_own_event g u && not (g o)) (at u.visiting c) in
+      let k = fewer (is_own_event g u) (not (g o)) (is_stop a) in omega (arith, h, k)
     where
+      fewer : (e b c : Bool) → one_if ((e && b) && c) ≤ one_if (b && c)
+      fewer true b c = omega arith
+      fewer false b c = let n = one_if (b && c) in omega arith
+
       at : (m : Option Visiting) → is_of (owner_eq o) (event_caller m) ≡ true →
-          AllByRecursion (λ (v : Visiting). not (is_own_visit g v.visit) ≡ not (g o)) (option_to_list m)
+          AllByRecursion (λ (v : Visiting). (is_own_event g u && not (is_own_visit g v.visit)) ≡ (is_own_event g u && not (g o))) (option_to_list m)
       at None c = tt
       at (Some v) c = (by v.called c, tt)
         where
           by : (m : Option ListenerWords) → is_of (owner_eq o) (event_caller (Some (record v { called = m }))) ≡ true →
-              not (is_own_visit g v.visit) ≡ not (g o)
+              (is_own_event g u && not (is_own_visit g v.visit)) ≡ (is_own_event g u && not (g o))
           by None c = absurd (true≢false (sym c))
-          by (Some w) c = ap (λ x. not (g x)) (sym (owner_eq-true o v.visit.current.owner c))
+          by (Some w) c = ap (λ x. is_own_event g u && not (g x)) (sym (owner_eq-true o v.visit.current.owner c))
   act-untold o a (a_notification n) c = let n = one_if (not (g o) && is_stop a) in omega arith
   act-untold o a (a_microtask x) c = let n = one_if (not (g o) && is_stop a) in omega arith
   act-untold o a (a_checkpoint x) c = let n = one_if (not (g o) && is_stop a) in omega arith

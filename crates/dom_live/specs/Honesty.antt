@@ -13,12 +13,12 @@ use Rattle.dom_model.specs.Listeners.{Listener}
 use Rattle.dom_model.specs.Trace.{OutwardEvent, is_of, is_page, is_log}
 use Rattle.dom_model.specs.World.{World}
 use Rattle.dom_live.specs.Lines.{LiveLine, said, plain, prevent, stop, stop_now}
-use Rattle.dom_live.specs.Frames.{Visiting, Frame, an_event, own_call}
+use Rattle.dom_live.specs.Frames.{Visiting, UnderWay, Frame, an_event, own_call}
 use Rattle.dom_live.specs.Documents.{Live, at_rest, world_documents, is_live}
 use Rattle.dom_live.specs.SmallSteps.{advance}
 use Rattle.dom_live.specs.Runs.{is_resting, frames_left}
 use Rattle.dom_live.specs.Machine.{taken, ending, live_step, act_refusal}
-use Rattle.dom_live.specs.Groups.{is_own_visit, is_own_step}
+use Rattle.dom_live.specs.Groups.{is_own_visit, is_own_event, is_own_step}
 use Rattle.dom_live.specs.Things.{Thing, own_line, shut_out, sent_out, was_stopped, was_cancelled, LiveTrace, owner_said, goes_out, whole_trace}
 
 module _ {L : Type 0} where
@@ -142,14 +142,14 @@ module _ (group : Owner → Bool) where
       not (is_own_visit group v.visit)
       && (is_none v.called && (not v.stopped_now && (not (is_live live v.visit.current l.words) && is_stop l.words.action)))
 
-  -- of an event, by the visit that is made
-  abbrev pub stops_event : List (Listener NodeName) → Option Visiting → Bool
-  stops_event live None = false
-  stops_event live (Some v) = stops_in live v v.calls
+  -- of an event, if it is the group's, by the visit that is made
+  abbrev pub stops_event : List (Listener NodeName) → UnderWay → Option Visiting → Bool
+  stops_event live u None = false
+  stops_event live u (Some v) = is_own_event group u && stops_in live v v.calls
 
   -- whether the next small step does so
   abbrev pub stops_next : List (Listener NodeName) → List Frame → Bool
-  stops_next live (an_event u ∷ fs) = stops_event live u.visiting
+  stops_next live (an_event u ∷ fs) = stops_event live u u.visiting
   stops_next live fs = false
 
   -- whether a line is an accepted stop of another, in a call of its own
@@ -158,7 +158,7 @@ module _ (group : Owner → Bool) where
   stops_by fs (said o (stop_now k)) = not (group o) && is_none (act_refusal (own_call o k fs))
   stops_by fs l = false
 
-  -- how often others stop an event in so many small steps, unless the machine comes to rest before
+  -- how often listeners of others stop an event of the group in so many small steps, unless the machine comes to rest before
   abbrev pub stops_made : ℕ → Live World → ℕ
   stops_made zero s = 0
   stops_made (suc n) s =
@@ -176,6 +176,7 @@ module _ (group : Owner → Bool) where
         (if stops_by s.frames (read l) then 1 else 0)
         + (stops_after (taken world_documents s (read l)).0 + stops_from (live_step world_documents s (read l)).0 ls)
 
-    -- A trace tells no more stops than others make, by listeners that are called at nodes of theirs, or by lines in calls of their own.
+    -- A trace tells no more stops than others make, by listeners that are called at nodes of theirs in events of the group, or by lines in calls of their
+    -- own.
     abbrev pub TellsMadeStops : Type 0
     TellsMadeStops = (ls : List L) → stops_told (whole_trace group read ls) ≤ stops_from (at_rest first_world) ls

@@ -96,7 +96,8 @@ pub fn group_scripts()
 /// others' accepted dispatches, in order. Its numbers come to as many own steps as are made. And the page is told neither a stop nor a cancel where no line of
 /// a component adds a listener that stops or cancels, or acts on an event; nor is any group where no line of others does; and where others send no event out
 /// to it either, it is told its own lines, the checkpoints of others that run its tasks, and the end of input alone. And it is told no more stops than others
-/// make: by a listener with that action, called at a node of theirs, or by a line in a call of their own. Lines are bytes, and `read` is any reading of them.
+/// make: by a listener with that action, called at a node of theirs in an event of the group, or by a line in a call of their own. Lines are bytes, and `read`
+/// is any reading of them.
 pub fn honest_traces()
     ensures lines { (read : List ℕ → LiveLine) (group : Owner → Bool) → TellsOwnLines read group }
     ensures outward { (read : List ℕ → LiveLine) (group : Owner → Bool) → TellsOutwardEvents read group }
