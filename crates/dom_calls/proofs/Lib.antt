@@ -1,0 +1,4 @@
+mod Options
+mod Lasts
+mod Places
+mod Giving
