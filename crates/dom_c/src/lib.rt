@@ -1,14 +1,23 @@
-//! Sessions for C: what the static library exports. `bindings/c/owlantimony.h` declares it.
+//! Sessions and documents for C: what the static library exports. `bindings/c/owlantimony.h` declares the sessions, which take lines, and
+//! `bindings/c/owlantimony_typed.h` the documents, which take calls (`dom_calls`).
 //!
 //! A handle is a block of the caller's own. All zero bytes are a closed handle; `dom_session_new` opens it, and `dom_session_drop`
 //! closes it. Each call answers a status: `DONE`, or why not. Where memory is refused to a line, an ending or a view,
 //! every later call but `dom_session_drop` answers `MEMORY`. All own rules.
 #![tactic(auto)]
 
+mod content;
+mod cursors;
+mod documents;
+mod events;
 mod exports;
 mod handle;
 mod held;
+mod making;
 mod place;
+mod ranges;
+mod reads;
+mod trees;
 
 pub use exports::{
     CLOSED, DONE, MEMORY, OPEN, OWNER, SHORT, dom_session_answer, dom_session_drop,
