@@ -1,8 +1,8 @@
 //! Calls with a handle.
 
+use crate::commands::{new_element, set_attribute, word};
 use crate::document::{DONE, DomDocument};
-use crate::structs::{DomAnswer, DomNode, NONE, word};
-use crate::{new_element, set_attribute};
+use crate::structs::{DomNode, NONE};
 use dom_reader::Command;
 use std::process::Abort;
 
