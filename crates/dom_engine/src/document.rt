@@ -26,9 +26,9 @@ use std::mem;
 /// After out of memory in one call every call answers `AllocError`.
 #[derive(Drop)]
 pub struct Document {
-    machine: Machine,
+    pub(crate) machine: Machine,
     waiting: Queue,
-    has_failed: bool,
+    pub(crate) has_failed: bool,
     alloc: Global,
 }
 

@@ -1,7 +1,7 @@
 -- The refusal of a look, by its tests.
-use Rattle.dom_base.proofs.Std.{Err, Result}
+use Rattle.dom_base.proofs.Std.{Err}
 use Rattle.dom_query_commands.proofs.Cited.{◌≡◌, ◌∷◌, ◌&&◌, ◌||◌, [], Bool, true, false, not, Option, Some, None, Ok, refl, sym, ap, ◌∙◌, option_or}
-use Rattle.dom_query_commands.proofs.Cited.{first_refusal, named, namings, Any, Fault, Owner, NodeName, Refusal, Refused, World, part_of, word_view, Command}
+use Rattle.dom_query_commands.proofs.Cited.{first_refusal, named, namings, Any, Owner, NodeName, Refusal, Refused, World, part_of, word_view, Command}
 use Rattle.dom_admission.proofs.Finding.{owner-named}
 use Rattle.dom_admission.proofs.Refusing.{refusal-naming}
 use Rattle.dom_admission.specs.Handled.{let_pass}
@@ -14,7 +14,8 @@ use Rattle.dom_reader.specs.declared.line.NodeWord.{NodeWord}
 abbrev by_tests : Bool → Bool → Bool → Option Refusal
 by_tests others there present =
     option_or
-    (first_refusal ((false, Busy) ∷ (others || false, Foreign) ∷ (not there, Unknown) ∷ (not (present && true), Unknown) ∷ (not (true && true), WrongKind) ∷ []))
+    (first_refusal
+    ((false, Busy) ∷ (others || false, Foreign) ∷ (not there, Unknown) ∷ (not (present && true), Unknown) ∷ (not (true && true), WrongKind) ∷ []))
     None
 
 absent_either_way : (there : Bool) → by_tests false there false ≡ Some Unknown
@@ -23,7 +24,8 @@ absent_either_way false = refl
 
 -- A look of an owner at a node.
 module _ (w : World) (o : Owner) (x : NodeWord) where
-  tested : look_refusal w o (word_view x) ≡ by_tests (is_foreign (word_view x)) (is_there w o) (has_node (part_of w o).trees (named (part_of w o) (word_view x)))
+  tested : look_refusal w o (word_view x) ≡
+      by_tests (is_foreign (word_view x)) (is_there w o) (has_node (part_of w o).trees (named (part_of w o) (word_view x)))
   tested = refusal-naming (record w { turn = None }) o (Command.parent (word_view x)) (Any x ∷ []) (search namings)
 
   pub foreign_refused : is_foreign (word_view x) ≡ true → Err (Refused Foreign) ≡ let_pass (look_refusal w o (word_view x))

@@ -7,6 +7,8 @@ mod calls;
 #[cfg(test)]
 mod documents;
 #[cfg(test)]
+mod looks;
+#[cfg(test)]
 mod run;
 #[cfg(test)]
 mod session;

@@ -13,4 +13,5 @@ returns c =
     let top : c.copied.result ≡ slice_get c.args.places.now.items (length c.args.places.now.items - 1) =
     c.copied.ensures ∙ (c.last.ensures.value ∙ ap (λ ks. slice_get ks (length ks - 1)) c.deref.ensures.value) in
     let at : c.len.result ≡ length c.args.rows.now.items = omega (arith, c.args.rows.now.ok.0) in
-    begun (opened c.args.rows.now.items c.args.places.now.items) node c.in_ok-push-2.ensures.items c.in_ok-push.ensures.items (row_begun node name c.kind.ensures top) at
+    begun (opened c.args.rows.now.items c.args.places.now.items) node c.in_ok-push-2.ensures.items c.in_ok-push.ensures.items
+    (row_begun node name c.kind.ensures top) at
