@@ -12,7 +12,7 @@ use dom_calls::{
 use dom_reader::Command;
 use std::alloc::Global;
 
-/// Sets an attribute (DOM Standard, setAttribute).
+/// Sets an attribute (DOM Standard, set an attribute value).
 #[unsafe(no_mangle)]
 pub extern "C" fn dom_set_attribute(
     alloc: Global,
@@ -53,7 +53,7 @@ pub extern "C" fn dom_remove_attribute(
     )
 }
 
-/// Lends an attribute's value, if there is one (DOM Standard, getAttribute).
+/// Lends an attribute's value, if there is one (DOM Standard, get an attribute by name).
 #[unsafe(no_mangle)]
 pub extern "C" fn dom_get_attribute(
     alloc: Global,
@@ -120,7 +120,7 @@ pub extern "C" fn dom_replace_data(
     )
 }
 
-/// Splits a Text (DOM Standard, splitText); writes down the new one.
+/// Splits a Text (DOM Standard, split a Text node); writes down the new one.
 #[unsafe(no_mangle)]
 pub extern "C" fn dom_split_text(
     alloc: Global,

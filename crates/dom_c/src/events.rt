@@ -81,7 +81,7 @@ pub extern "C" fn dom_dispatch(
     )
 }
 
-/// Makes an observer; writes down its number (DOM Standard, new MutationObserver). A live one is not supported.
+/// Makes an observer; writes down its number (DOM Standard, MutationObserver). A live one is not supported.
 #[unsafe(no_mangle)]
 pub extern "C" fn dom_observer_create(
     alloc: Global,

@@ -26,7 +26,7 @@ pub extern "C" fn dom_create_element(
     document.run_for_node(alloc, owner, new_element(alloc, name), made)
 }
 
-/// Makes a Text (DOM Standard, createTextNode).
+/// Makes a Text (DOM Standard, 4.11).
 #[unsafe(no_mangle)]
 pub extern "C" fn dom_create_text(
     alloc: Global,
@@ -42,7 +42,7 @@ pub extern "C" fn dom_create_text(
     document.run_for_node(alloc, owner, new_text(alloc, units), made)
 }
 
-/// Makes a Comment (DOM Standard, createComment).
+/// Makes a Comment (DOM Standard, 4.14).
 #[unsafe(no_mangle)]
 pub extern "C" fn dom_create_comment(
     alloc: Global,
@@ -58,7 +58,7 @@ pub extern "C" fn dom_create_comment(
     document.run_for_node(alloc, owner, new_comment(alloc, units), made)
 }
 
-/// Makes a DocumentFragment (DOM Standard, createDocumentFragment).
+/// Makes a DocumentFragment (DOM Standard, 4.7).
 #[unsafe(no_mangle)]
 pub extern "C" fn dom_create_fragment(
     alloc: Global,
@@ -73,7 +73,7 @@ pub extern "C" fn dom_create_fragment(
     document.run_for_node(alloc, owner, Ok(Command::NewFragment), made)
 }
 
-/// Makes a Document (DOM Standard, new Document).
+/// Makes a Document (DOM Standard, 4.5).
 #[unsafe(no_mangle)]
 pub extern "C" fn dom_create_document(
     alloc: Global,
@@ -88,7 +88,7 @@ pub extern "C" fn dom_create_document(
     document.run_for_node(alloc, owner, Ok(Command::NewDocument), made)
 }
 
-/// Gives an element a closed shadow root (DOM Standard, attachShadow); writes down the place of the component that owns it.
+/// Gives an element a closed shadow root (DOM Standard, attach a shadow root); writes down the place of the component that owns it.
 #[unsafe(no_mangle)]
 pub extern "C" fn dom_attach(
     alloc: Global,

@@ -112,7 +112,7 @@ pub extern "C" fn dom_range_points(
     document.run_for_points(alloc, owner, Ok(Command::RangeGet(range)), start, end)
 }
 
-/// Lends the text of a range (DOM Standard, the stringifier of Range).
+/// Lends the text of a range (DOM Standard, 5.5).
 #[unsafe(no_mangle)]
 pub extern "C" fn dom_range_text(
     alloc: Global,

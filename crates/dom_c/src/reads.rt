@@ -24,7 +24,7 @@ pub extern "C" fn dom_parent(
     document.run_for_node(alloc, owner, Ok(Command::Parent(word(owner, node))), parent)
 }
 
-/// Asks for the node document of a node (DOM Standard, ownerDocument).
+/// Asks for the node document of a node (DOM Standard, node document).
 #[unsafe(no_mangle)]
 pub extern "C" fn dom_owner_document(
     alloc: Global,
@@ -88,7 +88,7 @@ pub extern "C" fn dom_contains(
     )
 }
 
-/// Asks whether a node is connected (DOM Standard, isConnected).
+/// Asks whether a node is connected (DOM Standard, shadow-including root).
 #[unsafe(no_mangle)]
 pub extern "C" fn dom_is_connected(
     alloc: Global,
@@ -142,7 +142,7 @@ pub extern "C" fn dom_assigned_slot(
     document.run_for_node(alloc, owner, Ok(Command::SlotOf(word(owner, node))), slot)
 }
 
-/// Lends the nodes that are assigned to a slot of a component (DOM Standard, assignedNodes).
+/// Lends the nodes that are assigned to a slot of a component (DOM Standard, find slottables).
 #[unsafe(no_mangle)]
 pub extern "C" fn dom_assigned(
     alloc: Global,

@@ -29,7 +29,7 @@ IsAllowed refusal (Ok x) = refusal ≡ None
 IsAllowed refusal (Err (Refused r)) = refusal ≡ Some r
 IsAllowed refusal (Err Memory) = Unit {0}
 
--- the nodes around a node (DOM Standard, 4.4: parentNode, firstChild, lastChild, previousSibling, nextSibling)
+-- the nodes around a node (DOM Standard, 4.4)
 abbrev pub links_of : Trees → NodeName → NodeLinks
 links_of ts x = record {
   parent = parent_of ts x;

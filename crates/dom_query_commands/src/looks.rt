@@ -22,7 +22,7 @@ use dom_tree::Forest;
 use node_arena::Key;
 use std::alloc::AllocError;
 
-/// The nodes around a node in its tree (DOM Standard, 4.4: parentNode, firstChild, lastChild, previousSibling, nextSibling).
+/// The nodes around a node in its tree (DOM Standard, 4.4).
 #[derive(Clone, Copy)]
 pub struct NodeLinks {
     pub parent: Option<NodeName>,
