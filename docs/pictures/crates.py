@@ -5,7 +5,8 @@ import svg
 
 # The rows from the top, each with its groups: what a group is called, what it is for, and its crates.
 ROWS = (
-    (("the program", "reads lines, writes answers", ("domrun",)), ("the library for C", "sessions and documents in handles", ("dom_calls", "dom_c")),
+    (("the program", "reads lines, writes answers", ("domrun",)), ("the library for C", "sessions and documents in handles",
+      ("dom_calls", "dom_c")),
      ("tests and callers", "what scripts cannot show", ("dom_tests", "dom_layer_tests", "dom_callers"))),
     (("the engine", "sessions, runs, and the theorems about runs", ("dom_engine",)),),
     (("commands", "what a line does: who may pass, the handlers, listeners, the ends of turns",
