@@ -22,17 +22,18 @@ ghost use Rattle.dom_engine.specs.PageLaws.{PageTextIsThePageMachines, SamePageT
 
 use dom_answers::law_text;
 
-/// What a run writes with the page's view is the page machine's output on the trace of the lines read, where no component
-/// listener stops or cancels; and with interference it is that on the full trace, whatever listeners do.
+/// What a run writes with the page's view is the page machine's output on the full trace of the lines read, whatever listeners do. If no
+/// component's listener stops or cancels, it is the page machine's output on the trace, which has no interference.
 #[tactic(auto, using(crate::proofs::StatedLaws::page_laws))]
 pub fn law_page_text()
     ensures quiet { PageTextIsThePageMachines }
     ensures in_full { PageTextIsThePageMachinesInFull }
 {}
 
-/// Two scripts with equal traces give the page equal output, where no component listener stops or cancels: lists of lines, by
-/// whatever reading, and the text that runs of two inputs write with the page's view. Two scripts with equal full traces, that is with equal lines of the
-/// page, equal outward events and equal interference, give it equal output whatever listeners do.
+/// Two scripts with equal full traces give the page equal output, whatever listeners do. The full traces are equal if the scripts have
+/// equal lines of the page, equal outward events and equal interference, in order. Equal traces, without the interference, are enough if
+/// no component's listener stops or cancels. This is said of lists of lines, read in any way, and of the text that runs of two inputs
+/// write with the page's view.
 #[tactic(auto, using(crate::proofs::StatedLaws::page_laws))]
 pub fn law_same_page()
     ensures lines { (read : List ℕ → Line) → SamePage read }
@@ -41,11 +42,13 @@ pub fn law_same_page()
     ensures text_in_full { SamePageTextInFull }
 {}
 
-/// Two scripts that agree for a group of owners, which has the page and with each component its maker, give each member equal output, where no
-/// component listener stops or cancels, and each component's turn is ended by its own `.`, or at least no line of an owner outside ends a
-/// member's. They agree in the members' lines, and in the outward events of all others, each at the first host that is a member's: lists of
-/// lines, by whatever reading, and the text that runs of two inputs write with the member's view. The clauses in full have no such premise: there
-/// the scripts agree in what others' listeners did to the events that reach the members, and where others end their turns, too.
+/// Two scripts that agree for a group of owners give each member equal output. A group contains the page, and the maker of each of its
+/// components. In the clauses in full, two scripts agree in the members' lines, in the outward events of all others, in what others'
+/// listeners did to events that reach the members, and in where others end members' turns. These clauses have no premise on listeners or
+/// turns. In the other clauses, scripts agree in the members' lines and in the outward events, each at the first host that is a member's.
+/// These clauses ask that no component's listener stops or cancels. They also ask that each component's turn is ended by its own `.`, or
+/// at least that no line of an owner outside ends a member's turn (`standing`). All is said of lists of lines, read in any way, and of
+/// the text that runs of two inputs write with the member's view.
 #[tactic(auto, using(crate::proofs::StatedLaws::group_laws))]
 pub fn law_same_group()
     ensures lines { (read : List ℕ → Line) → SameMember read }
@@ -56,9 +59,8 @@ pub fn law_same_group()
     ensures text_in_full { SameGroupRunsInFull }
 {}
 
-/// Two scripts that agree for a family of components, in the page's lines, in its members' lines and in the outward events of all others, give each
-/// member equal output, where no component listener stops or cancels, and each component's turn is ended by its own `.`, or at least
-/// no line of another owner ends a member's: lists of lines, by whatever reading, and the text that runs of two inputs write with the member's view.
+/// The same for the page with a family, and the output of each member of the family. A family is a component that the page attached, with
+/// all components inside it.
 #[tactic(auto, using(crate::proofs::StatedLaws::family_laws))]
 pub fn law_same_family()
     ensures lines { (read : List ℕ → Line) → SameFamily read }
@@ -69,8 +71,8 @@ pub fn law_same_family()
     ensures text_in_full { SameFamilyRunsInFull }
 {}
 
-/// Two scripts that agree for a component and its makers give the component equal output, under the same premises: what it is told hangs neither on
-/// its siblings, nor on what it attached, nor on other families, but for the outward events that they send out.
+/// The same for a component and its makers, and the component's output. So what a component is told depends on its siblings, on what it
+/// attached and on other families only by what two scripts have to agree in.
 #[tactic(auto, using(crate::proofs::StatedLaws::component_laws))]
 pub fn law_same_component()
     ensures lines { (read : List ℕ → Line) → SameComponent read }
@@ -81,8 +83,8 @@ pub fn law_same_component()
     ensures text_in_full { SameComponentRunsInFull }
 {}
 
-/// Two scripts that agree for all owners who are not inside a component give each of them equal output, under the same premises: of what happens
-/// inside the component nobody else is told anything but the events that it sends out of its host, its maker neither.
+/// The same for all owners who are not inside a component. So nobody outside, not even its maker, is told more of what happens inside the
+/// component than what two scripts have to agree in, such as the events that it sends out of its host.
 #[tactic(auto, using(crate::proofs::StatedLaws::around_laws))]
 pub fn law_same_around()
     ensures lines { (read : List ℕ → Line) → SameAround read }
@@ -93,10 +95,10 @@ pub fn law_same_around()
     ensures text_in_full { SameAroundRunsInFull }
 {}
 
-/// What a fault leaves of a run, where no component listener of its lines stops or cancels: on `Read`, `Memory` and `InputLimit` the
-/// page sees the page machine's output on the trace of the lines whose text is written, without the ending; and on every
-/// fault some first bytes of the page machine's output on the trace of any input that begins with the bytes read. Where the
-/// end was reached that input is these bytes. With interference the same holds of full traces, whatever listeners do.
+/// What the page sees of a run that a fault stops. On `Read`, `Memory` and `InputLimit` it is the page machine's output on the full trace
+/// of the lines whose text is written, without the end of input. On every fault it is some first bytes of that machine's output on the
+/// full trace of any input that begins with the bytes read. If the end was reached, that input is the bytes read. If no component's
+/// listener of these lines stops or cancels, the same holds of traces.
 #[tactic(auto, using(crate::proofs::StatedLaws::prefix_laws))]
 pub fn law_page_prefix()
     ensures lines { PageSeesLinesNamed }
@@ -105,28 +107,29 @@ pub fn law_page_prefix()
     ensures prefix_in_full { PageSeesPrefixInFull }
 {}
 
-/// What a member of a group of owners, which has the page and with each component its maker, sees of a run, whatever listeners do: at the end its
-/// output in the silent run on the full trace of the lines read. On `Read`, `Memory` and `InputLimit` it is that on the full trace of the lines whose
-/// text is written, without the end of input; and on every fault some first bytes of that on any input that begins with the bytes read. Where the end
-/// was reached that input is these bytes.
+/// What a member of a group sees of a run, whatever listeners do. (A group contains the page, and the maker of each of its components.)
+/// At the end it is the member's output in the silent run on the full trace of the lines read. On `Read`, `Memory` and `InputLimit` it is
+/// that output on the full trace of the lines whose text is written, without the end of input. On every fault it is some first bytes of
+/// that output on any input that begins with the bytes read. If the end was reached, that input is the bytes read.
 pub fn law_member_prefix()
     ensures text { MemberTextIsTheSilentRuns }
     ensures lines { MemberSeesLinesNamed }
     ensures prefix { MemberSeesPrefix }
 {}
 
-/// A line, the page's or a component's, whose command names another owner's node is refused (own rule): as `busy` where it is a
-/// component's and the page's turn is open, else as `foreign`. Nothing changes but that another component's open turn ends.
-/// `Session::line` answers just so.
+/// A line of the page or a component whose command names another owner's node is refused (own rule): as `busy` if the line is a
+/// component's and the page's turn is open, else as `foreign`. Nothing changes, except that another component's open turn ends.
+/// `Session::line` answers in this way.
 pub fn law_foreign_lines()
     ensures { ForeignLinesAreRefused }
 {}
 
-/// A session that was new and has taken these lines, each call of `Session::line` answering Ok, has the machine's world on these lines, and has told
-/// the machine's text for them: by the contracts of `Session::new` and `Session::line` alone (`begins`, `goes_on`). So all claims on lists of lines are
-/// claims on what a program with a session is told: of the page, and of each member of a group that has the page and with each component its maker. Two
-/// sessions are one to such a group where the full traces of their lines are equal. So they are where its owners choose their lines by one
-/// strategy, or each by its own, whatever that does with what they were told, and others do the same to the group.
+/// Take a session that was new and has answered Ok to some lines. It has the document machine's world on these lines, and has told the
+/// machine's text for them. The contracts of `Session::new` and `Session::line` are all that is used of them (`begins`, `goes_on`). So
+/// all claims on lists of lines are claims on what a program with a session is told: for the page, and for each member of a group. Two
+/// sessions tell a group the same if the full traces of their lines are equal. They also tell it the same if its owners choose their
+/// lines by one strategy, or each by its own, and others do the same to the group. A strategy may do anything with what its owners were
+/// told.
 pub fn law_sessions()
     ensures begins { SessionBegins }
     ensures goes_on { SessionGoesOn }
@@ -138,8 +141,9 @@ pub fn law_sessions()
     ensures strategies { SameSessionsByStrategies }
 {}
 
-/// A text that says a command of an owner by the grammar does what the command does. A line that is read as the command leaves a session as
-/// `Session::call` leaves it, and its text is the text of what the call's answer tells. So it is of all lines that a session has taken.
+/// A text that says a command of an owner by the grammar does what the command does. A line that is read as the command leaves a session
+/// as `Session::call` leaves it, and its text is the text of what the call's answer tells. The same holds of all lines that a session has
+/// taken.
 pub fn law_lines_are_calls()
     ensures command { LineIsItsCommand }
     ensures call { LineIsItsCall }
@@ -148,25 +152,26 @@ pub fn law_lines_are_calls()
     law_text();
 }
 
-/// What a command tells ends in its owner's reply or refusal, and no line of output before that one is a reply or a refusal. So it is of
-/// what the answer of a call tells.
+/// What a command tells ends in its owner's reply or refusal, and no line of output before that one is a reply or a refusal. The same
+/// holds of what the answer of a call tells.
 pub fn law_last_is_reply()
     ensures command { CommandEndsInReply }
     ensures call { CallEndsInReply }
 {}
 
-/// A command that names another owner's node is refused (own rule): as `syntax` if it is no command of its owner's, as `busy` if the owner is
-/// a component and the page's turn is open, else as `foreign`. Nothing changes but that another component's open turn ends. So it is of a call.
+/// A command that names another owner's node is refused (own rule): as `syntax` if it is no command of its owner's, as `busy` if the
+/// owner is a component and the page's turn is open, else as `foreign`. Nothing changes, except that another component's open turn ends.
+/// The same holds of a call.
 pub fn law_foreign_calls()
     ensures command { ForeignCommandIsRefused }
     ensures call { ForeignCallIsRefused }
 {}
 
-/// A session that was new and has done these calls, each of which has answered Ok, has the machine's world on them, and its answers have told
-/// what the machine's output shows: by the contracts of `Session::new` and `Session::call` alone (`begins`, `goes_on`). So all claims on scripts
-/// are claims on what a program is told that calls a session, whatever listeners do: of the page, and of a group that has the page and with each
-/// component its maker. Two sessions are one to such a group if the full traces of their calls are equal. So they are if its owners choose their
-/// calls by one strategy, or each by its own, and others do the same to the group.
+/// Take a session that was new and has done some calls, each of which answered Ok. It has the document machine's world on these calls,
+/// and its answers have told what the machine's output shows. The contracts of `Session::new` and `Session::call` are all that is used of
+/// them (`begins`, `goes_on`). So all claims on scripts are claims on what a program is told that calls a session, whatever listeners do:
+/// for the page, and for a group. Two sessions tell a group the same if the full traces of their calls are equal. They also tell it the
+/// same if its owners choose their calls by one strategy, or each by its own, and others do the same to the group.
 pub fn law_same_calls()
     ensures begins { CallsBegin }
     ensures goes_on { CallsGoOn }

@@ -1,5 +1,5 @@
-//! The engine: a session takes lines of commands and gives the lines that answer them, a run does so for all lines of a
-//! source, and a document takes calls alone, of any owner at any time.
+//! The engine. A session takes a line, or a call with a command as a value, and answers it. A run takes all lines of a source, and writes
+//! their answers. A document takes calls alone, of any owner at any time.
 #![tactic(auto)]
 
 mod document;

@@ -22,13 +22,14 @@ use dom_reader::Splitter;
 use dom_streams::{RunFault, Sink, Source, View, flush, flush_before_read, line_end};
 use std::alloc::{AllocError, Global};
 
-/// How many bytes one read is asked for at most.
+/// The most bytes that one read asks for.
 const READ_SIZE: usize = 4096;
 
-/// How many bytes a run reads at most.
+/// The most bytes that a run reads.
 const INPUT_LIMIT: usize = 1 << 30;
 
-/// A run under way: the unfinished line, the session, whose lines are written, and the buffer for the lines that answer one.
+/// A run under way: the unfinished line, the session, the owner whose lines are written, and the buffer for the lines that answer one
+/// line.
 #[derive(Drop)]
 struct Runner {
     splitter: Splitter,
@@ -82,7 +83,7 @@ impl Runner {
         self.view.write(sink, &self.text)
     }
 
-    /// Runs lines one after another, each one's output being written before the next is run.
+    /// Runs lines one after another. The output of each is written before the next is run.
     fn run_lines<W: Sink>(&mut self, sink: &mut W, lines: &[Vec<u8>]) -> Result<(), RunFault>
         ensures written { EndsLines result (W.failures sink.old) (W.failures sink.new)
             (W.contents sink.old, W.taken sink.old) (W.contents sink.new, W.taken sink.new)
@@ -110,9 +111,8 @@ impl Runner {
         self.run_lines(sink, &lines)
     }
 
-    /// Takes bytes of the input, and runs the lines that they end: a line that lies whole in them where it stands, without a
-    /// copy. Each other piece of them has one line feed at most, so that memory which is refused to a piece is refused to one
-    /// line.
+    /// Takes bytes of the input, and runs the lines that they end. A line that lies whole in the bytes is not copied. Any other piece of
+    /// them has at most one line feed. So memory that is refused to a piece is refused to one line.
     fn take_bytes<W: Sink>(&mut self, sink: &mut W, bytes: &[u8]) -> Result<(), RunFault>
         requires kept { IsKept self.old.splitter }
         ensures written { EndsLines result (W.failures sink.old) (W.failures sink.new)
@@ -136,8 +136,8 @@ impl Runner {
         Ok(())
     }
 
-    /// Reads once, behind the flush that the source may ask for, and runs the lines that the bytes end. The answer is how many
-    /// bytes there were, 0 at the end.
+    /// Reads once, after the flush that the source may ask for, and runs the lines that the bytes end. The answer is how many bytes there
+    /// were, 0 at the end.
     fn take_read<R: Source, W: Sink>(
         &mut self,
         source: &mut R,
@@ -168,8 +168,8 @@ impl Runner {
         Ok(n)
     }
 
-    /// Reads to the end of the source, and runs the lines that are ended by then. Past the limit of a run's input one more
-    /// read decides.
+    /// Reads to the end of the source, and runs the lines that are ended by then. After as many bytes as a run reads, one more read says
+    /// whether that was the end.
     fn read_all<R: Source, W: Sink>(&mut self, source: &mut R, sink: &mut W) -> Result<(), RunFault>
         requires splitter { self.old.splitter ≡ [] }
         requires world { self.old.session.world ≡ first_world }
@@ -197,7 +197,7 @@ impl Runner {
         expect_end(source, &mut buffer[..1])
     }
 
-    /// Runs the line that is not ended, where there is one, as the last line.
+    /// Runs the line that is not ended, if there is one, as the last line.
     fn run_last_line<W: Sink>(&mut self, sink: &mut W) -> Result<(), RunFault>
         ensures written { EndsLines result (W.failures sink.old) (W.failures sink.new)
             (W.contents sink.old, W.taken sink.old) (W.contents sink.new, W.taken sink.new)
@@ -211,7 +211,7 @@ impl Runner {
         }
     }
 
-    /// Runs what is left at the end of the input: the last line, where it is not ended, and the ending.
+    /// Runs what is left at the end of the input: the last line, if it is not ended, and the ending.
     fn run_end<W: Sink>(&mut self, sink: &mut W) -> Result<(), RunFault>
         ensures { EndsWriting result (W.failures sink.old) (W.failures sink.new) (W.contents sink.old, W.taken sink.old) (W.contents sink.new, W.taken sink.new)
             (shown self.old.view self.old.session.world (last_line self.old.splitter)
@@ -223,7 +223,7 @@ impl Runner {
         self.run_ending(sink)
     }
 
-    /// Ends the turn that is open, writes what that says, and flushes.
+    /// Ends the turn that is open, writes what the ending prints, and flushes.
     fn run_ending<W: Sink>(&mut self, sink: &mut W) -> Result<(), RunFault>
         ensures { EndsWriting result (W.failures sink.old) (W.failures sink.new) (W.contents sink.old, W.taken sink.old) (W.contents sink.new, W.taken sink.new)
             (viewed self.old.view (ending self.old.session.world)) (Takes (W.contents sink.old, W.taken sink.old) (W.contents sink.new, W.taken sink.new) []) }
@@ -234,7 +234,7 @@ impl Runner {
     }
 }
 
-/// How many bytes stand up to and with the first line feed, or in all where there is none.
+/// The number of bytes up to and with the first line feed, or of all bytes if there is none.
 fn piece_len(bytes: &[u8]) -> usize
     requires { 0 < length bytes.now }
     ensures some { 0 < result }
@@ -257,7 +257,7 @@ fn read_some<R: Source>(source: &mut R, buffer: &mut [u8]) -> Result<usize, RunF
     source.read(buffer).map_err(|_| RunFault::Read)
 }
 
-/// Reads once more, where a run has read as much as it reads.
+/// Reads once more, after a run has read as many bytes as it may.
 fn expect_end<R: Source>(source: &mut R, buffer: &mut [u8]) -> Result<(), RunFault>
     requires room { 0 < length buffer.old }
     requires few { length buffer.old ≤ read_size }
@@ -272,20 +272,19 @@ fn expect_end<R: Source>(source: &mut R, buffer: &mut [u8]) -> Result<(), RunFau
     }
 }
 
-/// Runs all that the source gives, to its end: each line is run as soon as its line feed is read, and its output is written
-/// before the next line is run or more is read; at the end a last line that is not ended, where it is not empty, and the
-/// ending of the turn that is open. Then the sink is flushed. With a view only the lines of that owner are written.
+/// Runs all that the source gives, to its end. Each line is run as soon as its line feed is read, and its output is written before the
+/// next line is run or more is read. At the end a last line that is not ended is run, unless it is empty, and the open turn is ended.
+/// Then the sink is flushed. With a view only the lines of that owner are written.
 ///
-/// The first fault stops the run. On `Read`, `Memory` and `InputLimit` what is written is the text of lines that are
-/// finished: an unfinished line is not run, and no turn is ended. On `Write` it is some first bytes of such a text, or of the
-/// whole run's. A read or write that was interrupted has failed like any other. What the page sees then is in
-/// `laws::law_page_prefix`.
+/// The first fault stops the run. On `Read`, `Memory` and `InputLimit` the text of finished lines is written: an unfinished line is not
+/// run, and no turn is ended. On `Write` some first bytes of such a text are written, or of the whole run's text. A read or write that
+/// was interrupted has failed like any other. `laws::law_page_prefix` says what the page sees then.
 ///
-/// What was read, and that the end was reached, is said of a source that tells its bytes (`remaining`); what was written, of a sink
-/// that does (`contents`), and of every sink how many bytes these were (`taken`). Of every source and sink the counts say which
-/// fault it was: one read has failed on `Read`, one write or flush on `Write`, and no call on any other ending; and how many bytes
-/// were read: on `InputLimit` more than 2^30, and else no more. What is written is the text of some input of at most 2^30 bytes,
-/// whatever the source tells. Before each read the sink is flushed where the source asks for it.
+/// If the source tells its bytes (`remaining`), the contract says which bytes were read, and that the end was reached. If the sink tells
+/// its bytes (`contents`), it says what was written. For every sink it says how many bytes were written (`taken`). For every source and
+/// sink the counts say which fault it was: one read has failed on `Read`, one write or flush on `Write`, and no call on any other ending.
+/// They also say how many bytes were read: more than 2^30 on `InputLimit`, and no more than that otherwise. What is written is the text
+/// of some input of at most 2^30 bytes, whatever the source tells. Before each read the sink is flushed if the source asks for it.
 pub fn run<R: Source, W: Sink>(
     alloc: Global,
     source: &mut R,
@@ -295,18 +294,18 @@ pub fn run<R: Source, W: Sink>(
     // All that the source gave was read, and the whole run's text was written.
     ensures ok { OnOk result (RunsToEnd view (R.remaining source.old) (R.remaining source.new)
         (W.contents sink.old, W.taken sink.old) (W.contents sink.new, W.taken sink.new)) }
-    // Isolation: where no component listener stops or cancels, what the page sees of it is the page machine's output on the trace.
+    // Isolation: if no component's listener stops or cancels, what the page sees of it is the page machine's output on the trace.
     ensures page { OnOk result (IfSome (R.remaining source.old) (λ bytes. HasPage view → IsTrue (no_component_stops decode (lines_of bytes)) →
         PageSees view (W.contents sink.old, W.taken sink.old) (W.contents sink.new, W.taken sink.new) (page_text bytes))) }
     // Whatever listeners do, it is the page machine's output on the full trace, which tells the interference.
     ensures page_in_full { OnOk result (IfSome (R.remaining source.old) (λ bytes. HasPage view →
         PageSees view (W.contents sink.old, W.taken sink.old) (W.contents sink.new, W.taken sink.new) (full_page_text bytes))) }
-    // A fault is `Read` only where a read failed, and `Write` only where a write or the flush failed.
+    // The fault is `Read` only if a read failed, and `Write` only if a write or the flush failed.
     ensures reads { CountsReads result (R.failures source.old) (R.failures source.new) }
     ensures writes { CountsWrites result (W.failures sink.old) (W.failures sink.new) }
-    // How many bytes it read, of whatever source: at most 2^30, and more on `InputLimit` alone, which comes nowhere else.
+    // How many bytes it read, of any source: more than 2^30 on `InputLimit`, and at most 2^30 otherwise.
     ensures delivered { ReadsWithin result (R.delivered source.old) (R.delivered source.new) }
-    // At the end these are all the bytes that there were, of a source that tells its bytes.
+    // At the end these are all the bytes that there were, if the source tells its bytes.
     ensures counted { OnOk result (IfSome (R.remaining source.old) (λ bytes. R.delivered source.new ≡ R.delivered source.old + length bytes)) }
     // What was read and written when a fault stopped the run.
     ensures stops { IfErr result (λ e. StopsRun e view (R.remaining source.old) (R.remaining source.new)

@@ -17,9 +17,9 @@ use dom_words::NotRead;
 use std::alloc::{AllocError, Global};
 use std::marker::Model;
 
-/// A run of the line protocol: the world as the lines so far have made it.
+/// A session: the world as the lines and calls so far have made it.
 ///
-/// After want of memory in one call every call answers `AllocError`.
+/// After one call has run out of memory, every call answers `AllocError`.
 #[derive(Drop)]
 pub struct Session {
     machine: Machine,
@@ -45,7 +45,7 @@ impl Model for Session {
 }
 
 impl Session {
-    /// A session before its first line: the page has its first document, `n0`. There is none where memory is refused.
+    /// A session before its first line. The page has its first document, `n0`. The only error is that memory ran out.
     pub fn new(alloc: Global) -> Result<Session, AllocError>
         ensures { IfOk result (λ session. session ≡ record { world = first_world; has_failed = false }) }
     {
@@ -57,9 +57,9 @@ impl Session {
         })
     }
 
-    /// Takes a line, without its 0x0A, and gives the lines that answer it, each with its 0x0A. A line that is refused is answered
-    /// too (own rule), one that names another owner's node among them (`foreign`). An error is want of memory alone, now or in a
-    /// call before.
+    /// Takes a line, without its 0x0A, and gives the lines that answer it, each with its 0x0A. A line that is refused is answered too
+    /// (own rule), also if it names another owner's node (`foreign`). The only error is that memory ran out, in this call or an earlier
+    /// one.
     pub fn line(&mut self, line: &[u8]) -> Result<Vec<u8>, AllocError>
         ensures was { OnOk result (self.old.has_failed ≡ false) }
         ensures text { IfOk result (λ text. text.items ≡ output_text (step self.old.world (decode line.now)).1) }
@@ -72,7 +72,7 @@ impl Session {
         Ok(out)
     }
 
-    /// Takes a line as `line` does, and puts the lines that answer it behind what a buffer holds.
+    /// Takes a line as `line` does, and adds the lines that answer it to a buffer.
     #[inline(always)]
     pub(crate) fn put_line(&mut self, line: &[u8], out: &mut Vec<u8>) -> Result<(), AllocError>
         ensures was { OnOk result (self.old.has_failed ≡ false) }
@@ -88,9 +88,10 @@ impl Session {
         answer
     }
 
-    /// Does a command of an owner, as a line that says it does. What it tells is then in the answer, in place of what was there, and its last
-    /// item is the reply or refusal. A command that no line can say is done too: a text or a number may be longer. What the command holds may be
-    /// taken out of it. An error is out of memory alone, now or in a call before, and leaves the answer empty.
+    /// Does a command of an owner, as a line with this command does. The answer then has what the command tells, in place of what was
+    /// there, and its last item is the reply or refusal. A command that no line can say is done too: a text or a number may be longer.
+    /// What the command holds may be taken out of it. The only error is that memory ran out, in this call or an earlier one. It leaves
+    /// the answer empty.
     pub fn call(
         &mut self,
         owner: &Owner,
@@ -110,8 +111,9 @@ impl Session {
         settle(done, answer)
     }
 
-    /// Ends the input as `finish` does. What the microtasks of an open turn tell is then in the answer, in place of what was there. No turn is open
-    /// then. More calls and lines may follow (own rule). An error is out of memory alone, now or in a call before, and leaves the answer empty.
+    /// Ends the input as `finish` does. The answer then has what the microtasks of an open turn tell, in place of what was there. No turn
+    /// is open afterwards. More calls and lines may follow (own rule). The only error is that memory ran out, in this call or an earlier
+    /// one. It leaves the answer empty.
     #[tactic(auto, using(crate::proofs::ForeignLines::closing))]
     pub fn close(&mut self, answer: &mut Answer) -> Result<(), AllocError>
         ensures was { OnOk result (self.old.has_failed ≡ false) }
@@ -127,7 +129,7 @@ impl Session {
         settle(done, answer)
     }
 
-    /// Begins a call: the answer is emptied. A session that has failed does no more.
+    /// Begins a call: empties the answer. An error says that the session has run out of memory before.
     fn begin(&self, answer: &mut Answer) -> Result<(), AllocError>
         ensures ok { OnOk result (self.now.has_failed ≡ false) }
         ensures err { OnErr result (self.now.has_failed ≡ true) }
@@ -140,8 +142,8 @@ impl Session {
         Ok(())
     }
 
-    /// Ends the input: an open turn is ended, and the lines of its microtasks are given. No turn is open then. More lines may follow (own rule). An error
-    /// is want of memory alone, now or in a call before.
+    /// Ends the input: ends an open turn, and gives the lines of its microtasks. No turn is open afterwards. More lines may follow (own
+    /// rule). The only error is that memory ran out, in this call or an earlier one.
     pub fn finish(&mut self) -> Result<Vec<u8>, AllocError>
         ensures was { OnOk result (self.old.has_failed ≡ false) }
         ensures text { IfOk result (λ text. text.items ≡ output_text (finish self.old.world).1) }
@@ -158,7 +160,7 @@ impl Session {
     }
 }
 
-/// Ends a call: an answer for which memory ran out is emptied.
+/// Ends a call: empties the answer if memory ran out.
 pub(crate) fn settle(done: Result<(), AllocError>, partial: &mut Answer) -> Result<(), AllocError>
     ensures same { result ≡ done }
     ensures ok { OnOk result (partial.new ≡ partial.old) }
@@ -183,10 +185,10 @@ fn end(machine: &mut Machine, alloc: Global) -> Result<Vec<u8>, AllocError>
     Ok(out)
 }
 
-/// The owner of most lines. It stands once, so that no line makes it anew.
+/// The owner of most lines, as one value for all of them.
 static PAGE: Owner = Owner::Page;
 
-/// What a line does, with the lines that answer it.
+/// Carries out a line, and adds the lines that answer it.
 fn answer(
     machine: &mut Machine,
     alloc: Global,
@@ -204,7 +206,7 @@ fn answer(
     }
 }
 
-/// What a line does whose owner is spelled in whatever way. It is kept out of line, so that the page's lines make no room for an owner.
+/// Carries out a line of any owner. It is not inlined, so that the page's lines need no room for an owner.
 #[inline(never)]
 fn answer_spelled(
     machine: &mut Machine,
@@ -223,7 +225,7 @@ fn answer_spelled(
     }
 }
 
-/// What an owner's line does, with these bytes behind the owner's word.
+/// Carries out an owner's line, with these bytes after the owner's word.
 #[inline(always)]
 fn answer_owner(
     machine: &mut Machine,
