@@ -1,4 +1,4 @@
-//! What C calls. A size is a count of bytes.
+//! The functions that C calls. A size is a number of bytes.
 ghost use Rattle.std.specs.Prelude.{◌≡◌, ◌<◌, ◌++◌, [], ◌∷◌, None, IsSome, IsSomeAnd, IsTrue, length, drop};
 ghost use Rattle.dom_model.specs.DocumentMachine.{first_world, step, finish};
 ghost use Rattle.dom_text.specs.Decode.{decode};
@@ -9,26 +9,25 @@ use crate::handle::DomSession;
 use crate::held::Held;
 use std::alloc::Global;
 
-/// The call did what it is for.
+/// The call did all that it is for.
 pub const DONE: u32 = 0;
 
 /// The handle is closed.
 pub const CLOSED: u32 = 1;
 
-/// Memory was refused, to this call or to a line, an ending or a view before.
+/// Memory ran out, in this call, or in an earlier line, ending or view.
 pub const MEMORY: u32 = 2;
 
-/// The caller's buffer is too short; nothing is lost.
+/// The caller's buffer is too short. Nothing is lost.
 pub const SHORT: u32 = 3;
 
-/// The word is no owner's.
+/// The word is not the word of an owner.
 pub const OWNER: u32 = 4;
 
-/// The handle is open already.
+/// The handle is already open.
 pub const OPEN: u32 = 5;
 
-/// Opens a handle: a session before its first line, with no text. Where memory is refused the handle stays closed, and may be
-/// opened later.
+/// Opens a handle: a session before its first line, with no text. If memory runs out, the handle stays closed, and may be opened later.
 #[unsafe(no_mangle)]
 pub extern "C" fn dom_session_new(alloc: Global, session: &mut DomSession) -> u32
     ensures done { result ≡ DONE → (session.old.held.value ≡ None) × Holds session.new.held.value first_world [] }
@@ -48,8 +47,8 @@ pub extern "C" fn dom_session_new(alloc: Global, session: &mut DomSession) -> u3
     }
 }
 
-/// Runs a line, without its 0x0A, and keeps the text that answers it in place of the one before; writes that text's size, and 0
-/// where it answers another status than `DONE`.
+/// Runs a line, without its 0x0A, and keeps the text that answers it in place of the text before. Writes the size of that text, or 0 if
+/// the status is not `DONE`.
 #[unsafe(no_mangle)]
 pub extern "C" fn dom_session_line(
     alloc: Global,
@@ -77,8 +76,8 @@ pub extern "C" fn dom_session_line(
     }
 }
 
-/// Ends the input: an open turn is ended, and the text of its microtasks is kept in place of the one before. More lines may
-/// follow. Writes that text's size, and 0 where it answers another status than `DONE`.
+/// Ends the input: ends an open turn, and keeps the text of its microtasks in place of the text before. More lines may follow. Writes the
+/// size of that text, or 0 if the status is not `DONE`.
 #[unsafe(no_mangle)]
 pub extern "C" fn dom_session_finish(
     alloc: Global,
@@ -106,8 +105,8 @@ pub extern "C" fn dom_session_finish(
     }
 }
 
-/// Copies the text of the last answer into the buffer's first bytes, and writes its size; where the buffer is too short it
-/// writes the size alone. The text is kept.
+/// Copies the text of the last answer into the buffer's first bytes, and writes its size. If the buffer is too short, it only writes the
+/// size. The text is kept.
 #[unsafe(no_mangle)]
 pub extern "C" fn dom_session_text(
     alloc: Global,
@@ -135,8 +134,8 @@ pub extern "C" fn dom_session_text(
     status
 }
 
-/// Shows the text of the last answer where it stands: writes the address of its first byte, and its size. Behind it stands a byte 0.
-/// They stay so until the next call with this handle. Where memory is refused for the byte 0, nothing is lost.
+/// Shows the text of the last answer in place: writes the address of its first byte, and its size. A byte 0 stands after the text. Text
+/// and address stay valid until the next call with this handle. If memory runs out for the byte 0, nothing is lost.
 #[unsafe(no_mangle)]
 pub extern "C" fn dom_session_answer(
     alloc: Global,
@@ -169,8 +168,7 @@ pub extern "C" fn dom_session_answer(
     }
 }
 
-/// Copies as `dom_session_text` does, of the text's lines only those that begin with an owner's word, as `p`, `c1` or `c1.2`,
-/// and a space.
+/// Copies as `dom_session_text` does, but only the lines that begin with an owner's word, such as `p`, `c1` or `c1.2`, and a space.
 #[unsafe(no_mangle)]
 pub extern "C" fn dom_session_view(
     alloc: Global,
@@ -203,7 +201,7 @@ pub extern "C" fn dom_session_view(
     }
 }
 
-/// Closes a handle. That what it held is freed is tested, and in no clause.
+/// Closes a handle. No clause says that what it held is freed: that is tested.
 #[unsafe(no_mangle)]
 pub extern "C" fn dom_session_drop(alloc: Global, session: &mut DomSession) -> u32
     ensures done { result ≡ DONE → IsSome session.old.held.value }
@@ -220,7 +218,7 @@ pub extern "C" fn dom_session_drop(alloc: Global, session: &mut DomSession) -> u
     }
 }
 
-/// Copies a text into the buffer's first bytes, and writes its size; where the buffer is too short it writes the size alone.
+/// Copies a text into the buffer's first bytes, and writes its size. If the buffer is too short, it only writes the size.
 fn copied(text: &[u8], buffer: &mut [u8], size: &mut usize) -> u32
     ensures done { result ≡ DONE → buffer.new ≡ text.now ++ drop (length text.now) buffer.old }
     ensures short { result ≡ SHORT → length buffer.old < length text.now }

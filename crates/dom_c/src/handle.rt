@@ -7,7 +7,8 @@ use node_arena::Raw;
 use std::alloc::Global;
 use std::mem;
 
-/// A handle. It is the caller's block, and holds nothing where all its bytes are zero; C reads and writes none of it otherwise.
+/// A handle. It is a block of the caller's, and holds nothing if all its bytes are zero. C sets it to zeros, and neither reads nor writes
+/// it otherwise.
 #[repr(C)]
 pub struct DomSession {
     is_open: bool,

@@ -11,8 +11,8 @@ use dom_reader::owner_of;
 use std::alloc::{AllocError, Global};
 use std::marker::Model;
 
-/// A session, and the text of what it answered last: none before its first line. The bytes are that text, and a 0 behind it where it
-/// was shown in place. After want of memory in a call of the session every call answers `AllocError`.
+/// A session, and the text of its last answer, which is empty before its first line. The bytes are that text, with a 0 after it if it was
+/// shown in place. After a call of the session has run out of memory, every call answers `AllocError`.
 #[derive(Drop)]
 pub struct Held {
     session: Session,
@@ -57,7 +57,7 @@ impl Held {
         Ok(Box::new(alloc, held)?)
     }
 
-    /// Runs a line, and keeps the text that answers it; gives that text's length.
+    /// Runs a line, keeps the text that answers it, and gives its length.
     pub(crate) fn line(&mut self, line: &[u8]) -> Result<usize, AllocError>
         ensures was { OnOk result (self.old.has_failed ≡ false) }
         ensures world { OnOk result (self.new.world ≡ (step self.old.world (decode line.now)).0) }
@@ -73,7 +73,7 @@ impl Held {
         self.keep(answer)
     }
 
-    /// Ends an open turn, and keeps the text of that; gives that text's length.
+    /// Ends an open turn, keeps the text of its ending, and gives its length.
     pub(crate) fn finish(&mut self) -> Result<usize, AllocError>
         ensures was { OnOk result (self.old.has_failed ≡ false) }
         ensures world { OnOk result (self.new.world ≡ (finish self.old.world).0) }
@@ -90,7 +90,7 @@ impl Held {
         self.keep(answer)
     }
 
-    /// Keeps the text of an answer, and gives its length; or that there was want of memory.
+    /// Keeps the text of an answer, and gives its length, or says that memory ran out.
     fn keep(&mut self, answer: Result<Vec<u8>, AllocError>) -> Result<usize, AllocError>
         ensures world { self.new.world ≡ self.old.world }
         ensures answered { OnOk result (IsOk answer) }
@@ -131,7 +131,7 @@ impl Held {
         Ok(&self.bytes[..self.size])
     }
 
-    /// Where the text of the last answer stands, with a 0 behind it. Where memory is refused for the 0, the session goes on.
+    /// Where the text of the last answer stands, with a 0 after it. If memory runs out for the 0, the session goes on.
     pub(crate) fn shown(&mut self) -> Result<*const u8, AllocError>
         ensures was { OnOk result (self.old.has_failed ≡ false) }
         ensures at { IfOk result (λ at. at ≡ self.new.at) }
@@ -149,7 +149,7 @@ impl Held {
         Ok(self.bytes.as_ptr())
     }
 
-    /// The lines of the last answer that begin with an owner's word; none where the word is no owner's.
+    /// The lines of the last answer that begin with an owner's word, or `None` if the word is not the word of an owner.
     pub(crate) fn seen_by(
         &mut self,
         alloc: Global,

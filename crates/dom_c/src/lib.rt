@@ -1,9 +1,9 @@
 //! Sessions and documents for C: what the static library exports. `bindings/c/owlantimony.h` declares the sessions, which take lines, and
 //! `bindings/c/owlantimony_typed.h` the documents, which take calls (`dom_calls`).
 //!
-//! A handle is a block of the caller's own. All zero bytes are a closed handle; `dom_session_new` opens it, and `dom_session_drop`
-//! closes it. Each call answers a status: `DONE`, or why not. Where memory is refused to a line, an ending or a view,
-//! every later call but `dom_session_drop` answers `MEMORY`. All own rules.
+//! A handle is a block of the caller's own. If all its bytes are zero it is closed. `dom_session_new` opens it, and `dom_session_drop`
+//! closes it. Each call answers a status: `DONE`, or why not. After memory ran out in a line, an ending or a view, every later call
+//! except `dom_session_drop` answers `MEMORY`. All of these are own rules.
 #![tactic(auto)]
 
 mod content;

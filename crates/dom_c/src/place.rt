@@ -10,7 +10,7 @@ use std::alloc::Global;
 use std::marker::Model;
 use std::ptr;
 
-/// A block of the heap with what a handle holds, by its address; or nothing, and then the address says nothing.
+/// The address of a block of the heap with what a handle holds. Or nothing, and then the address has no meaning.
 #[repr(C)]
 pub struct Place {
     at: *mut u8,
@@ -34,7 +34,7 @@ impl Place {
         }
     }
 
-    /// The place of a box of the heap, whose allocator takes no space and is forgotten.
+    /// The place of a box. The box's allocator takes no space, and is forgotten.
     pub(crate) fn of(held: Raw<Held, Global>) -> Place
         ensures { result.value ≡ Some held.value }
     {
@@ -42,7 +42,7 @@ impl Place {
         Place { at: at as *mut u8 }
     }
 
-    /// The box again, of the heap.
+    /// The box again.
     pub(crate) fn into_raw(self, alloc: Global) -> Raw<Held, Global>
         requires { IsSome self.value }
         ensures { self.value ≡ Some result.value }
