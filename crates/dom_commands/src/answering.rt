@@ -1,4 +1,4 @@
-//! What a line does, and the lines that answer it.
+//! Carrying out a command, and answering it.
 ghost use Rattle.std.specs.Prelude.{◌≡◌, ◌∷◌, [], true, false, Some, OnOk};
 ghost use Rattle.std.specs.Option.{option_map};
 ghost use Rattle.dom_model.specs.Command.{command as model_command};
@@ -18,8 +18,9 @@ use std::alloc::AllocError;
 use std::mem;
 
 impl Machine {
-    /// Does what an owner's line says, and puts the lines that answer it. What the command holds may be taken out of it. After an error
-    /// the machine may stand between two steps. It is kept out of line, so that a command stays where it was read.
+    /// Does a command of an owner, and adds what it tells to the answers: last its reply or refusal. What the command holds may be taken
+    /// out of it. The only error is that memory ran out; then the machine may stand between two steps. It is not inlined, so that a
+    /// command stays where it was read.
     #[inline(never)]
     pub fn answer<A: Answers>(
         &mut self,
@@ -35,8 +36,8 @@ impl Machine {
         self.command(owner, command, out)
     }
 
-    /// Answers a line without a command, of an owner if it has one. It is kept out of line, since few lines have none. After an error the
-    /// machine may stand between two steps.
+    /// Refuses a line that has no command, of an owner if it has one. It is not inlined, since few lines have no command. The only error
+    /// is that memory ran out; then the machine may stand between two steps.
     #[cold]
     #[inline(never)]
     pub fn answer_no_command<A: Answers>(
@@ -52,7 +53,7 @@ impl Machine {
         self.no_command(owner.copied(), out)
     }
 
-    /// A line without a command: it is refused as such.
+    /// Refuses a line that has no command, after it has ended another component's turn.
     fn no_command<A: Answers>(
         &mut self,
         owner: Option<Owner>,
@@ -69,7 +70,7 @@ impl Machine {
         out.refuse(owner, Refusal::Syntax)
     }
 
-    /// A command of an owner: first the ending of another component's turn, and then what it does.
+    /// Does a command of an owner: first ends another component's turn, if one is open.
     fn command<A: Answers>(
         &mut self,
         owner: &Owner,
@@ -85,7 +86,7 @@ impl Machine {
         self.run(owner, command, out)
     }
 
-    /// A command that may be made now: what it does, or its refusal.
+    /// Does a command, and adds the refusal if it is refused. No other component's turn is open.
     fn run<A: Answers>(
         &mut self,
         owner: &Owner,
@@ -104,8 +105,8 @@ impl Machine {
         }
     }
 
-    /// A command, by its handler. What it holds is taken out of its place by the handler that keeps it, so that no other command makes
-    /// room for it.
+    /// Gives a command to its handler. Only a handler that keeps what the command holds takes that out of its place, so that no other
+    /// command needs room for it.
     fn perform<A: Answers>(
         &mut self,
         owner: &Owner,
@@ -125,7 +126,8 @@ impl Machine {
         }
     }
 
-    /// A command on listeners or events, by its handler. It is kept out of line, so that no other command makes room for these.
+    /// Gives a command on listeners or events, or the end of a turn, to its handler. It is not inlined, so that no other command needs
+    /// room for these.
     #[inline(never)]
     fn perform_heard<A: Answers>(
         &mut self,
@@ -151,7 +153,7 @@ impl Machine {
         }
     }
 
-    /// A command that neither reads listeners nor changes them: they stay as they are.
+    /// Gives a command that neither reads nor changes listeners to its handler.
     fn perform_plain<A: Answers>(
         &mut self,
         owner: &Owner,
@@ -168,7 +170,7 @@ impl Machine {
     }
 }
 
-/// Puts the refusal of an owner's line. It is kept out of line, so that a command that is done makes no room for it.
+/// Adds the refusal of an owner's command. It is not inlined, so that a command that is done needs no room for it.
 #[cold]
 #[inline(never)]
 fn refuse<A: Answers>(out: &mut A, owner: &Owner, refusal: Refusal) -> Result<(), AllocError>

@@ -1,4 +1,4 @@
-//! Dispatches of events, and the lines that tell of them.
+//! Dispatches of events, and what they tell.
 ghost use Rattle.std.specs.Prelude.{◌≡◌, ℕ, ◌<◌, ◌∷◌, [], true, All, List, length, map, IfOk, OnOk};
 ghost use Rattle.std.specs.Option.{option_map, ForSome};
 ghost use Rattle.dom_base.specs.declared.NodeName.{NodeName};
@@ -18,8 +18,8 @@ use node_arena::Key;
 use std::alloc::AllocError;
 
 impl Machine {
-    /// Dispatches an event at a node, puts the lines of the calls of listeners, and answers whether it was not cancelled (DOM
-    /// Standard, concept: dispatch).
+    /// Dispatches an event at a node, adds the calls of listeners to the answers, and gives whether it was not cancelled (DOM Standard,
+    /// concept: dispatch).
     pub(crate) fn fire<A: Answers>(
         &mut self,
         target: Key,
@@ -53,8 +53,8 @@ impl Machine {
     }
 }
 
-/// Puts what tells of the calls of listeners, each as its owner sees it. A path is made ready once for lines on end that
-/// show the same owner the same path.
+/// Adds the calls of listeners to the answers, each as its owner sees it. Successive calls that show the same owner the same path share
+/// one path, which is made ready once.
 fn put_lines<A: Answers>(
     path: &mut PathText,
     forest: &Forest,
@@ -81,7 +81,7 @@ fn put_lines<A: Answers>(
     Ok(())
 }
 
-/// Whether a line shows the owner of another one the same path.
+/// Whether two calls of listeners show the same owner the same path.
 fn has_path_of(line: &LogLine, other: &LogLine) -> bool
     ensures owner { result ≡ true → other.now.owner ≡ line.now.owner }
     ensures path { result ≡ true → (names : List NodeName) (paths : ℕ → List ℕ) → HasPathOf paths line.now → HasPathOf paths other.now →
@@ -90,7 +90,7 @@ fn has_path_of(line: &LogLine, other: &LogLine) -> bool
     line.owner == other.owner && line.path_at == other.path_at
 }
 
-/// Puts what tells of the call of a listener, as its owner sees it, with its path, which was made ready.
+/// Adds the call of a listener to the answers, as its owner sees it, with the path that was made ready.
 fn put_line<A: Answers>(
     forest: &Forest,
     line: &LogLine,

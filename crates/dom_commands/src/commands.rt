@@ -59,7 +59,7 @@ pub(crate) fn perform<A: Answers>(
     }
 }
 
-/// `new element WORD`, with the word taken out of the command. It is kept out of line, so that no other command makes room for it.
+/// `new element WORD`, with the word taken out of the command. It is not inlined, so that no other command needs room for the word.
 #[inline(never)]
 fn new_element<A: Answers>(
     state: &mut State,
@@ -74,7 +74,7 @@ fn new_element<A: Answers>(
     making::new_element(state, owner, mem::replace(name, String::new(alloc)), out)
 }
 
-/// `set E WORD STR`, with the word and the string taken out of the command. It is kept out of line, so that no other command makes room for
+/// `set E WORD STR`, with the word and the string taken out of the command. It is not inlined, so that no other command needs room for
 /// them.
 #[inline(never)]
 fn set_attribute<A: Answers>(
@@ -95,8 +95,8 @@ fn set_attribute<A: Answers>(
     attributes::set_attribute(state, owner, element, name, value, out)
 }
 
-/// Another command that changes with a word or a string, which is taken out of it, by its handler. It is kept out of line, so that no other
-/// command makes room for these.
+/// Gives another command that makes a change with a word or a string to its handler. The word or string is taken out of the command. It
+/// is not inlined, so that no other command needs room for these.
 #[inline(never)]
 fn change_in_words<A: Answers>(
     state: &mut State,
@@ -124,7 +124,7 @@ fn change_in_words<A: Answers>(
     }
 }
 
-/// A command that asks or is on live ranges, by its handler. It is in line, since most of them do little.
+/// Gives a command that asks or is on live ranges to its handler. It is inlined, since most of these commands do little.
 #[inline(always)]
 fn ask<A: Answers>(
     state: &mut State,
@@ -161,8 +161,8 @@ fn ask<A: Answers>(
     }
 }
 
-/// A command that asks with a text, a filter or the words of `observe`, or is on live ranges, by its handler. It is kept out of line, so that
-/// no other command makes room for these.
+/// Gives a command that asks with a text, a filter or the words of `observe`, or is on live ranges, to its handler. It is not inlined, so
+/// that no other command needs room for these.
 #[inline(never)]
 fn ask_in_words<A: Answers>(
     state: &mut State,

@@ -94,7 +94,7 @@ impl Machine {
         Ok(())
     }
 
-    /// Opens an owner's turn, where none is open.
+    /// Opens an owner's turn, if none is open.
     fn open_turn(&mut self, owner: Owner)
         requires sound { IsAtRest self.old }
         requires owner_is_there { is_there self.old.world owner ≡ true }

@@ -1,4 +1,4 @@
-//! What one line does: the dispatch of commands to their handlers, the live ranges, the listeners and the events, and the ends of turns.
+//! What one command does: how commands come to their handlers; the handlers on live ranges, listeners and events; and the ends of turns.
 #![tactic(auto)]
 
 mod answering;

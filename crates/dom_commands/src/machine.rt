@@ -1,4 +1,4 @@
-//! The document machine: what a run holds between its lines.
+//! The document machine: what is held between two commands.
 ghost use Rattle.std.specs.Prelude.{◌≡◌, IfOk};
 ghost use Rattle.dom_model.specs.DocumentMachine.{first_world};
 ghost use Rattle.dom_commands.specs.Machine.{IsAtRest};
@@ -31,8 +31,8 @@ impl Model for Machine {
 }
 
 impl Machine {
-    /// The machine before the first line: the page has its first document, and there is no more. It is refused where memory is
-    /// refused, and only then.
+    /// The machine before the first command: the page has its first document, and nothing else is there. The only error is that memory
+    /// ran out.
     pub fn new(alloc: Global) -> Result<Machine, AllocError>
         ensures world { IfOk result (λ machine. machine.world ≡ first_world) }
         ensures sound { IfOk result (λ machine. IsAtRest machine) }

@@ -42,7 +42,7 @@ impl PathText {
         self.text.as_slice()
     }
 
-    /// Makes a line's path ready, as the line's owner sees it. Where answers are text, this is its text.
+    /// Makes the path of a listener's call ready, as the listener's owner sees it. If the answers are text, this writes the path's text.
     pub(crate) fn set<A: Answers>(
         &mut self,
         forest: &Forest,

@@ -64,8 +64,8 @@ fn new_range<A: Answers>(state: &mut State, owner: Owner, out: &mut A) -> Result
     state.accept(&owner, &Value::Range(number), out)
 }
 
-/// `range-start R N OFFSET`: another start of a range, or `range-end R N OFFSET`: another end; its other one follows where it would stand
-/// wrongly.
+/// `range-start R N OFFSET`: another start of a range, or `range-end R N OFFSET`: another end. The range's other end follows if it would
+/// stand on the wrong side.
 fn set_boundary<A: Answers>(
     state: &mut State,
     owner: Owner,

@@ -1,4 +1,4 @@
-//! The microtasks: what they do when a turn ends.
+//! Microtasks: what they do when a turn ends.
 ghost use Rattle.std.specs.Prelude.{◌≡◌, ◌<◌, All, map, length, OnOk};
 ghost use Rattle.dom_model.specs.Runs.{run_each};
 ghost use Rattle.dom_model.specs.Turns.{notifying, firing_slotchange, running_task};
@@ -17,8 +17,8 @@ use node_arena::Key;
 use std::alloc::AllocError;
 
 impl Machine {
-    /// Runs tasks, first in, first out, until none is left, and puts their lines (HTML Standard, perform a microtask checkpoint). After an error the
-    /// machine may stand between two steps.
+    /// Runs tasks, first in, first out, until none is left, and adds what they tell to the answers (HTML Standard, perform a microtask
+    /// checkpoint). After an error the machine may stand between two steps.
     pub fn run_tasks<A: Answers>(&mut self, mut tasks: Queue, out: &mut A) -> Result<(), AllocError>
         requires sound { IsAtRest self.old }
         requires there { AreThere self.old.world tasks }
@@ -32,7 +32,7 @@ impl Machine {
         Ok(())
     }
 
-    /// Runs a task: a label is printed, or an owner's observers are notified.
+    /// Runs a task: tells that a microtask ran, or notifies an owner's observers.
     fn run_task<A: Answers>(&mut self, task: Task, out: &mut A) -> Result<(), AllocError>
         requires sound { IsAtRest self.old }
         requires there { IsThere self.old.world (task_owner (task_of task)) }
@@ -61,7 +61,7 @@ impl Machine {
         self.signal_slots(slots.as_slice(), out)
     }
 
-    /// Fires `slotchange` at each of some slots, in their order.
+    /// Fires `slotchange` at each of these slots, in their order.
     fn signal_slots<A: Answers>(&mut self, slots: &[Key], out: &mut A) -> Result<(), AllocError>
         requires sound { IsAtRest self.old }
         requires nodes { All (λ k. k < length self.old.names) slots.now }

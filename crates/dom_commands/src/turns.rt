@@ -40,7 +40,7 @@ impl Machine {
         self.state.take_tasks()
     }
 
-    /// Ends the open turn, if there is one: the microtasks run, and their lines are put.
+    /// Ends the open turn, if there is one: runs the microtasks, and adds what they tell to the answers.
     fn close_turn<A: Answers>(&mut self, out: &mut A) -> Result<(), AllocError>
         requires { IsAtRest self.old }
         ensures told { OnOk result (A.adds out.old (ending_turn self.old.world).1 out.new) }
@@ -51,7 +51,7 @@ impl Machine {
         self.run_tasks(tasks, out)
     }
 
-    /// Ends another component's turn, if it is open, before a line of an owner.
+    /// Ends another component's turn, if one is open, before a command of an owner.
     pub(crate) fn close_other_turn<A: Answers>(
         &mut self,
         owner: &Owner,

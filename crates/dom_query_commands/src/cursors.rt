@@ -112,7 +112,7 @@ fn show_bits(shown: Show) -> u8
         | bit_if(shown.fragment, 16)
 }
 
-/// A bit where it is set, and else none.
+/// A bit if it is set, and else none.
 fn bit_if(is_set: bool, bit: u8) -> u8
     ensures { result ≡ (if is_set then bit else 0) }
 {

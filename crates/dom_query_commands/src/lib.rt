@@ -1,6 +1,6 @@
-//! The commands that ask: where nodes stand, which nodes a selector matches, and the nodes that iterators and walkers reach; and those
-//! that are told: mutation observers, the lines of their records, and the microtasks. Each first lets the line pass, with the tests
-//! that all commands share, and last opens the owner's turn and replies.
+//! Commands that ask: where nodes stand, which nodes a selector matches, and which nodes iterators and walkers reach. And commands on
+//! mutation observers, with their records, and on microtasks. Each handler first makes the tests that all commands share, and last opens
+//! the owner's turn and replies.
 #![tactic(auto)]
 
 pub mod cursors;

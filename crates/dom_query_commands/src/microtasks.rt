@@ -1,5 +1,5 @@
-//! The microtasks: how they are queued, and what a notification takes (HTML Standard, queue a microtask; DOM Standard, notify
-//! mutation observers).
+//! Microtasks: how they are queued, and what a notification takes (HTML Standard, queue a microtask; DOM Standard, notify mutation
+//! observers).
 ghost use Rattle.std.specs.Prelude.{◌≡◌, All, filter, map, IfOk, OnOk, string_bytes};
 ghost use Rattle.dom_model.specs.Command.{micro};
 ghost use Rattle.dom_model.specs.Turns.{notified, notified_lines, is_owned_by, without_signals};
@@ -16,7 +16,7 @@ use dom_printer::Value;
 use node_arena::Key;
 use std::alloc::AllocError;
 
-/// `micro LABEL`: a microtask that prints a label.
+/// `micro LABEL`: a microtask that tells its label when it runs.
 pub fn micro<A: Answers>(
     state: &mut State,
     owner: Owner,
@@ -31,8 +31,8 @@ pub fn micro<A: Answers>(
     state.accept(&owner, &Value::Nothing, out)
 }
 
-/// The slots of an owner that are signalled, in their order; then none of that owner is (DOM Standard, notify mutation observers:
-/// signal slots).
+/// Takes the slots of an owner that are signalled, in their order. No slot of this owner is signalled afterwards (DOM Standard, notify
+/// mutation observers: signal slots).
 pub fn take_signals(state: &mut State, owner: Owner) -> Result<Vec<Key>, AllocError>
     ensures keys { IfOk result (λ keys. map (name_in state.old) keys.items ≡ filter (is_owned_by owner) state.old.world.signalled) }
     ensures nodes { IfOk result (λ keys. All (HoldsNode state.old) keys.items) }
@@ -42,7 +42,7 @@ pub fn take_signals(state: &mut State, owner: Owner) -> Result<Vec<Key>, AllocEr
     state.doc.take_signals(owner)
 }
 
-/// Gives each pending observer of an owner its records, and puts their lines (DOM Standard, notify mutation observers).
+/// Gives each pending observer of an owner its records, and adds them to the answers (DOM Standard, notify mutation observers).
 pub fn tell_observers<A: Answers>(
     state: &mut State,
     owner: Owner,

@@ -25,7 +25,7 @@ use std::alloc::{AllocError, Global};
 /// For how many nodes a list of children has room at first, so that a short list is one piece of memory.
 const FIRST_ROOM: usize = 16;
 
-/// `tree N`: the text of a node's tree.
+/// `tree N`: a node's tree.
 pub fn tree<A: Answers>(
     state: &mut State,
     owner: Owner,
@@ -118,7 +118,7 @@ pub fn connected<A: Answers>(
     state.accept(&owner, &Value::Truth(connected), out)
 }
 
-/// Puts the reply with the text of a node's tree.
+/// Adds the reply with a node's tree to the answers.
 fn reply_tree<A: Answers>(
     state: &State,
     owner: Owner,

@@ -1,4 +1,4 @@
-//! Records of observers as lines.
+//! Records of observers, as they are told.
 ghost use Rattle.std.specs.Prelude.{◌≡◌, ◌∷◌, [], OnOk};
 ghost use Rattle.std.specs.List.{AllByRecursion};
 ghost use Rattle.std.specs.Option.{option_map, ForSome};
@@ -16,7 +16,7 @@ use node_arena::Key;
 use smallvec::SmallVec;
 use std::alloc::{AllocError, Global};
 
-/// Puts the records of a notification, each observer's in order.
+/// Adds the records of a notification to the answers, each observer's in order.
 pub(crate) fn put_notices<A: Answers>(
     alloc: Global,
     forest: &Forest,
@@ -34,7 +34,7 @@ pub(crate) fn put_notices<A: Answers>(
     Ok(())
 }
 
-/// Puts the records of an observer.
+/// Adds the records of an observer to the answers.
 pub(crate) fn put_records<A: Answers>(
     alloc: Global,
     forest: &Forest,
@@ -52,7 +52,7 @@ pub(crate) fn put_records<A: Answers>(
     Ok(())
 }
 
-/// Puts a record of an observer.
+/// Adds a record of an observer to the answers.
 fn put_change<A: Answers>(
     alloc: Global,
     forest: &Forest,

@@ -34,7 +34,7 @@ pub enum Request {
     Current,
     /// `disconnect O`: an observer loses its registrations and its records.
     Disconnect,
-    /// `range-collapse R start`, where it is true, or `range-collapse R end`: both ends of a range go to its start, or to its end.
+    /// `range-collapse R start`, if it is true, or `range-collapse R end`: both ends of a range go to its start, or to its end.
     Collapse(bool),
     /// `range-drop R`: a range goes, and its number is not given again.
     Drop,

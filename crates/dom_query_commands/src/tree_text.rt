@@ -12,15 +12,15 @@ use dom_tree::Forest;
 use node_arena::Key;
 use std::alloc::{AllocError, Global};
 
-/// A place in the text of trees: where a node opens, or where it closes.
+/// A step of a tree: a node opens, or it closes.
 #[derive(Clone, Copy)]
 pub(crate) enum Place {
     Opening(Key),
     Closing(Key),
 }
 
-/// The openings and closings of the tree of a node, in the order of their text: a node opens, the trees of its children
-/// follow in tree order, and it closes. Names and data are borrowed from the forest. The only error is memory refused.
+/// The openings and closings of the tree of a node, in their order: a node opens, the trees of its children follow in tree order, and it
+/// closes. Names and data are borrowed from the forest. The only error is memory refused.
 ///
 /// Own rule.
 pub(crate) fn tree_steps<'a>(
@@ -41,8 +41,8 @@ pub(crate) fn tree_steps<'a>(
     Ok(steps)
 }
 
-/// The place after this one, up to where the node given closes: behind an opening the first child opens, or else the node
-/// closes; behind a closing the next sibling opens, or else the parent closes.
+/// The step after this one, until the node given closes. After an opening the first child opens, or the node closes if it has none. After
+/// a closing the next sibling opens, or the parent closes if there is none.
 pub(crate) fn after(forest: &Forest, place: Place, top: Key) -> Option<Place>
     requires place_is_node { IsNode forest.now (key_of place) }
     requires top_is_node { IsNode forest.now top }
