@@ -12,11 +12,11 @@ use dom_base::{NodeName, Owner};
 use std::alloc::{AllocError, Global};
 use std::marker::Model;
 
-/// An answer as values: items, each with the owner that is told, over flat arrays whose parts they have (`Span::of`). It tells of trees
-/// what their text tells, which has no node documents. A call that is refused memory adds no item.
+/// An answer as values: items, each with the owner that is told. What an item has lies in flat arrays, and the item has the places
+/// (`Span::of`). Of a tree it tells what the tree's text tells, which is all but node documents. If memory runs out in a call, it adds no
+/// item.
 ///
-/// Owners stand in items and names as they are, and in no table of the answer: so an answer is read by itself, and nothing is kept
-/// beside it.
+/// Owners stand in the items and names themselves, and not in a table. So an answer can be read by itself.
 #[derive(Drop)]
 pub struct Answer {
     items: Vec<Item>,
@@ -46,7 +46,7 @@ impl Answer {
         }
     }
 
-    /// Lets all items go. The memory stays for the next answer.
+    /// Removes all items. The memory is kept for the next answer.
     pub fn clear(&mut self)
         ensures { self.new ≡ empty }
     {
@@ -63,7 +63,7 @@ impl Answer {
         self.items.as_slice()
     }
 
-    /// The last item, which in a command's answer is its reply or refusal.
+    /// The last item. In a command's answer it is the reply or refusal.
     pub fn last(&self) -> Option<&Item>
         ensures item { option_copied result ≡ slice_get self.now.items (length self.now.items - 1) }
         ensures within { IfSome (option_copied result) (IsItem self.now.arrays) }
@@ -71,7 +71,7 @@ impl Answer {
         self.items.last()
     }
 
-    /// The items before the last one, which in a command's answer are what listeners, observers and microtasks are told.
+    /// All items but the last one. In a command's answer these are what listeners, observers and microtasks are told.
     pub fn deliveries(&self) -> &[Item]
         ensures items { result.now ≡ take (length self.now.items - 1) self.now.items }
         ensures within { All (IsItem self.now.arrays) result.now }
@@ -79,28 +79,28 @@ impl Answer {
         &self.items[..self.items.len().saturating_sub(1)]
     }
 
-    /// The nodes, which items have parts of.
+    /// The array of nodes, in which items have places.
     pub fn nodes(&self) -> &[NodeName]
         ensures { result.now ≡ self.now.arrays.nodes }
     {
         self.pools.nodes()
     }
 
-    /// The code units, which items have parts of.
+    /// The array of code units, in which items have places.
     pub fn units(&self) -> &[u16]
         ensures { result.now ≡ self.now.arrays.units }
     {
         self.pools.units()
     }
 
-    /// The bytes, which items have parts of.
+    /// The array of bytes, in which items have places.
     pub fn bytes(&self) -> &[u8]
         ensures { result.now ≡ self.now.arrays.bytes }
     {
         self.pools.bytes()
     }
 
-    /// The rows of trees, which items have parts of.
+    /// The array of rows of trees, in which items have places.
     pub fn rows(&self) -> &[Row]
         ensures rows { result.now ≡ self.now.arrays.rows }
         ensures within { All (IsRow self.now.arrays) result.now }
@@ -108,7 +108,7 @@ impl Answer {
         self.pools.rows()
     }
 
-    /// The attributes, which items have parts of.
+    /// The array of attributes, in which items have places.
     pub fn attributes(&self) -> &[AttributeSpans]
         ensures attributes { result.now ≡ self.now.arrays.attributes }
         ensures within { All (IsAttribute self.now.arrays) result.now }
@@ -116,7 +116,7 @@ impl Answer {
         self.pools.attributes()
     }
 
-    /// Adds an item for this owner, whose parts are there.
+    /// Adds an item for this owner. Its parts are in the arrays already.
     pub(crate) fn add(&mut self, owner: &Owner, said: Said) -> Result<(), AllocError>
         requires { IsSaid self.old.arrays said }
         ensures ok { OnOk result (self.new ≡ record self.old { items = self.old.items ++ Says owner.now said ∷ [] }) }
@@ -134,7 +134,7 @@ impl Answer {
     }
 }
 
-/// The text of what an answer tells is the text of the items that it took: nothing that lines say is left out.
+/// The text of what an answer tells is the text of the items that it took. So an answer leaves out nothing that lines say.
 pub fn law_text()
     ensures { ShowsText }
 {}

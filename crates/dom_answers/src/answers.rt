@@ -1,4 +1,4 @@
-//! What takes answers.
+//! What takes the items of an answer.
 ghost use Rattle.std.specs.Prelude.{◌≡◌, ℕ, ◌++◌, ◌∷◌, [], List, OnOk, OnErr, map};
 ghost use Rattle.std.specs.List.{All};
 ghost use Rattle.dom_base.specs.declared.Owner.{Owner as Viewer};
@@ -13,27 +13,27 @@ use dom_base::{NodeName, Owner, Refusal};
 use dom_printer::{Change, Event, Names, TreeStep, Value};
 use std::alloc::AllocError;
 
-/// What takes the items of an answer, one after another: replies, refusals, calls of listeners, records and runs of microtasks, each
-/// with the owner that is told. Each call adds one item after what is there, or none if it is refused memory; `place_path` adds none.
+/// A taker of the items of an answer, one after another: replies, refusals, calls of listeners, records and runs of microtasks, each with
+/// the owner that is told. Each call adds one item after the items that are there, or none if memory runs out. `place_path` adds none.
 ///
-/// `adds before items after` says that these items came after what was there, and nothing else did. `shows answer text owner path` says
-/// that an event that is given this text as its path has this path, as this owner sees it.
+/// `adds before items after` says that just these items were added after what was there. `shows answer text owner path` says that an
+/// event that is given this text as its path has this path, as this owner sees it.
 pub trait Answers {
     ghost adds: { Self → List Output → Self → Type 0 };
 
     ghost shows: { Self → List ℕ → Viewer → List Name → Type 0 };
 
-    /// Adds a reply that has any value but a list of nodes or a tree.
+    /// Adds a reply with any value except a list of nodes or a tree.
     fn reply(&mut self, owner: &Owner, value: &Value<'_>) -> Result<(), AllocError>
         ensures ok { OnOk result (adds self.old (says owner.now (replied (value_view value.now)) ∷ []) self.new) }
         ensures err { OnErr result (adds self.old [] self.new) };
 
-    /// Adds the reply that has a node, as `reply` does.
+    /// Adds the reply with this node, as `reply` does.
     fn reply_node(&mut self, owner: &Owner, node: &NodeName) -> Result<(), AllocError>
         ensures ok { OnOk result (adds self.old (says owner.now (replied (a_node node.now)) ∷ []) self.new) }
         ensures err { OnErr result (adds self.old [] self.new) };
 
-    /// Adds the reply that has a list of nodes, in this order, each by the name that is told of it.
+    /// Adds the reply with this list of nodes, in this order, each by the name that `names` has for it.
     fn reply_list<T, N: Names<T>>(
         &mut self,
         owner: &Owner,
@@ -44,14 +44,14 @@ pub trait Answers {
         ensures ok { OnOk result (adds self.old (says owner.now (replied (a_list (map (N.name names.now) nodes.now))) ∷ []) self.new) }
         ensures err { OnErr result (adds self.old [] self.new) };
 
-    /// Adds the reply that has the tree with these steps: its openings and closings in tree order, those of children between their
-    /// parent's. Nothing is promised of steps that are not those of trees.
+    /// Adds the reply with the tree that has these steps: openings and closings of nodes in tree order, with the steps of children
+    /// between the two steps of their parent. Nothing is promised of steps that no tree has.
     fn reply_tree(&mut self, owner: &Owner, steps: &[TreeStep<'_>]) -> Result<(), AllocError>
         ensures ok { (trees : Trees) → steps_view steps.now ≡ shown_steps trees →
             OnOk result (adds self.old (says owner.now (replied (a_tree trees)) ∷ []) self.new) }
         ensures err { OnErr result (adds self.old [] self.new) };
 
-    /// Adds a refusal: the owner's, or, if a line has no owner, the one refusal that such a line gets.
+    /// Adds a refusal: the owner's, or, for a line without an owner, the one refusal that such a line gets.
     fn refuse(&mut self, owner: Option<Owner>, refusal: Refusal) -> Result<(), AllocError>
         ensures ok { OnOk result (adds self.old (refusal_output owner refusal ∷ []) self.new) }
         ensures err { OnErr result (adds self.old [] self.new) };
@@ -71,8 +71,9 @@ pub trait Answers {
         ensures ok { OnOk result (adds self.old (says owner.now (micro_ran label.now) ∷ []) self.new) }
         ensures err { OnErr result (adds self.old [] self.new) };
 
-    /// Makes a path ready for the events that come next, so that it is put once for all calls of listeners that show this owner this
-    /// path. If the answer is text, the path's text is written to `text`, in place of what was there. Each event is then given it.
+    /// Makes a path ready for the events that come next, so that it is written once for all calls of listeners that show this owner this
+    /// path. If the answer is text, the path's text is written to `text`, in place of what was there. Each `event` is then given that
+    /// text.
     fn place_path(
         &mut self,
         text: &mut Vec<u8>,
@@ -82,7 +83,7 @@ pub trait Answers {
         ensures shown { OnOk result (shows self.new text.new.items owner.now path.now) }
         ensures same { adds self.old [] self.new };
 
-    /// Adds a call of a listener. Its path is the one that was made ready for this owner, with the text that was written then.
+    /// Adds a call of a listener. Its path is the path that was last made ready for this owner, with the text that was written then.
     fn event(&mut self, owner: &Owner, event: &Event<'_>) -> Result<(), AllocError>
         ensures ok { OnOk result ((path : List Name) → shows self.old event.now.path.now owner.now path →
             adds self.old (says owner.now (event_seen (event_view path event.now)) ∷ []) self.new) }
@@ -90,9 +91,9 @@ pub trait Answers {
             shows self.new text viewer path }
         ensures err { OnErr result (adds self.old [] self.new) };
 
-    /// No items: all is as it was.
+    /// If all stays as it is, no items are added.
     ghost nothing: { (a : Self) → adds a [] a };
 
-    /// Items that came after others.
+    /// If items are added, and then more, all of them are added, in that order.
     ghost more: { (a b c : Self) (xs ys : List Output) → adds a xs b → adds b ys c → adds a (xs ++ ys) c };
 }

@@ -1,11 +1,11 @@
-//! The items of an answer as values, with what they hold lying in arrays.
+//! The items of an answer as values. What they have lies in arrays.
 ghost use Rattle.std.specs.Prelude.{◌≡◌};
 ghost use Rattle.dom_answers.specs.Parts.{IsPart, part};
 
 use dom_base::{Kind, NodeName, Owner, Refusal};
 use dom_printer::Boundary;
 
-/// A part of an array: where it begins, and how many things it has.
+/// A part of an array: the index of its first thing, and how many things it has.
 #[derive(Clone, Copy)]
 pub struct Span {
     pub at: usize,
@@ -29,8 +29,9 @@ pub struct AttributeSpans {
     pub value: Span,
 }
 
-/// A node where its tree begins. An element has its local name, a part of the bytes, and its attributes, a part of the array of these;
-/// a Text or a Comment has its data, a part of the code units. Of other kinds these parts are empty (DOM Standard, interface Node).
+/// A node at the begin of its tree. An element has its local name, a part of the bytes, and its attributes, a part of the array of
+/// attributes. A Text or a Comment has its data, a part of the code units. For other kinds of nodes these parts are empty (DOM Standard,
+/// interface Node).
 #[derive(Clone, Copy)]
 pub struct NodeRow {
     pub name: NodeName,
@@ -40,15 +41,15 @@ pub struct NodeRow {
     pub text: Span,
 }
 
-/// A row of a tree: a place where a tree begins, or where the last tree that began ends. The rows of children stand between the two of
-/// their parent.
+/// A row of a tree: the begin of a node's tree, or the end of the last tree that has begun and not ended. The rows of children stand
+/// between the two rows of their parent.
 #[derive(Clone, Copy)]
 pub enum Row {
     Opens(NodeRow),
     Closes,
 }
 
-/// What a reply has.
+/// The value of a reply.
 #[derive(Clone, Copy)]
 pub enum Reply {
     Nothing,
@@ -57,7 +58,7 @@ pub enum Reply {
     Node(NodeName),
     /// A part of the nodes.
     List(Span),
-    /// A component, by its owner.
+    /// A component, as an owner.
     Component(Owner),
     /// The number of a range.
     Range(u32),
@@ -75,12 +76,13 @@ pub enum Reply {
     Tree(Span),
     /// A range's start and end.
     Boundaries { start: Boundary, end: Boundary },
-    /// An iterator's reference, and whether the iterator's pointer is before it.
+    /// An iterator's reference, and whether the pointer of the iterator is before it.
     Reference { node: NodeName, before: bool },
 }
 
-/// A call of a listener: its label and the event's type, parts of the bytes; the phase (1 to 3), target, current target and related
-/// target; and the composed path, a part of the nodes; all as the listener sees them (DOM Standard, interface Event).
+/// A call of a listener. It has the listener's label and the event's type, which are parts of the bytes; the phase (1 to 3), the target,
+/// the current target and the related target; and the composed path, a part of the nodes. All are as the listener sees them (DOM
+/// Standard, interface Event).
 #[derive(Clone, Copy)]
 pub struct Call {
     pub label: Span,
@@ -92,8 +94,9 @@ pub struct Call {
     pub path: Span,
 }
 
-/// What a record tells of a change (DOM Standard, interface MutationRecord). The nodes that were added and those that were removed are
-/// parts of the nodes, an attribute's name is a part of the bytes, and an old value a part of the code units, or none if it is not given.
+/// What a record tells of a change (DOM Standard, interface MutationRecord). The added nodes and the removed nodes are parts of the
+/// nodes. An attribute's name is a part of the bytes, and an old value is a part of the code units, or none if the observer did not ask
+/// for it.
 #[derive(Clone, Copy)]
 pub enum Mutation {
     ChildList {
@@ -115,7 +118,7 @@ pub enum Mutation {
 }
 
 /// What an item says: a reply, a refusal, a call of a listener, a record of the observer with this number, or the run of a microtask,
-/// with its label, a part of the bytes.
+/// with its label as a part of the bytes.
 #[derive(Clone, Copy)]
 pub enum Said {
     Replied(Reply),

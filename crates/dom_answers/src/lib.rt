@@ -1,5 +1,5 @@
-//! Where the answer of a command goes: a type that takes the items of answers, one after another (`Answers`). Bytes take them as the
-//! text of lines, and an `Answer` as values over flat arrays.
+//! Where the answer of a command goes. A type with `Answers` takes the items of an answer, one after another: a buffer of bytes takes
+//! them as the text of lines, and an `Answer` as values over flat arrays.
 #![tactic(auto)]
 
 mod answer;

@@ -12,8 +12,8 @@ use dom_printer::{LentName, Names};
 use std::alloc::{AllocError, Global};
 use std::marker::Model;
 
-/// Nodes, code units, bytes, rows of trees, and attributes, which the items of an answer have parts of. Things are only added after
-/// those that are there, until all are let go.
+/// The nodes, code units, bytes, rows of trees and attributes in which the items of an answer have places. Things are only added at the
+/// end, until all are removed.
 #[derive(Drop)]
 pub(crate) struct Pools {
     pub(crate) nodes: Vec<NodeName>,
@@ -61,7 +61,7 @@ impl Pools {
         }
     }
 
-    /// Lets all things go. The memory stays.
+    /// Removes all things. The memory is kept.
     pub(crate) fn clear(&mut self)
         ensures { self.new ≡ record { nodes = []; units = []; bytes = []; rows = []; attributes = [] } }
     {
@@ -72,7 +72,7 @@ impl Pools {
         self.attributes.clear();
     }
 
-    /// Each row and each attribute has what it has within the arrays.
+    /// The parts of each row and each attribute lie within the arrays.
     #[inline(always)]
     pub(crate) fn law_sound(&self)
         ensures { AreSound self.now }
@@ -160,7 +160,7 @@ impl Pools {
         Ok(span)
     }
 
-    /// Adds an attribute, whose name and value are there.
+    /// Adds an attribute. Its name and its value are in the arrays already.
     pub(crate) fn push_attribute(&mut self, spans: AttributeSpans) -> Result<(), AllocError>
         requires { IsAttribute self.old spans }
         ensures ok { OnOk result (self.new ≡ record self.old { attributes = self.old.attributes ++ spans ∷ [] }) }
@@ -171,7 +171,7 @@ impl Pools {
         Ok(self.attributes.push(spans)?)
     }
 
-    /// Adds a row, whose words are there.
+    /// Adds a row. Its parts are in the arrays already.
     pub(crate) fn push_row(&mut self, row: Row) -> Result<(), AllocError>
         requires { IsRow self.old row }
         ensures ok { OnOk result (self.new ≡ record self.old { rows = self.old.rows ++ row ∷ [] }) }

@@ -9,7 +9,7 @@ use crate::pools::Pools;
 use dom_printer::{Attribute, NodeContent, Opening, TreeStep};
 use std::alloc::AllocError;
 
-/// Nothing, as a part of an array.
+/// The empty part of an array.
 const NOTHING: Span = Span { at: 0, count: 0 };
 
 impl Pools {
@@ -43,7 +43,7 @@ impl Pools {
         self.push_row(row)
     }
 
-    /// The row of a node, whose words are added.
+    /// The row of a node. Its parts are added to the arrays.
     #[tactic(auto, using(crate::proofs::Parts::growing))]
     fn node_row(&mut self, opening: &Opening<'_>) -> Result<NodeRow, AllocError>
         ensures grown { Grows self.old self.new }

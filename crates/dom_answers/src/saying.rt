@@ -1,4 +1,4 @@
-//! What items say, with its parts put into the arrays.
+//! What items say. Their parts are put into the arrays.
 ghost use Rattle.std.specs.Prelude.{◌≡◌, IfOk, option_copied};
 ghost use Rattle.std.specs.Option.{option_map};
 ghost use Rattle.dom_printer.specs.Names.{name_view};
@@ -14,7 +14,7 @@ use dom_printer::{Change, Event, LentName, Value};
 use std::alloc::AllocError;
 
 impl Pools {
-    /// What a reply has that has this value.
+    /// The value of a reply.
     pub(crate) fn reply_with(&mut self, value: &Value<'_>) -> Result<Reply, AllocError>
         ensures grown { Grows self.old self.new }
         ensures within { IfOk result (λ reply. IsReply self.new reply) }
@@ -63,7 +63,7 @@ impl Pools {
         })
     }
 
-    /// What a record has that tells of this change.
+    /// What a record of this change has.
     pub(crate) fn mutation_with(&mut self, change: &Change<'_>) -> Result<Mutation, AllocError>
         ensures grown { Grows self.old self.new }
         ensures within { IfOk result (λ mutation. IsMutation self.new mutation) }
@@ -99,7 +99,7 @@ impl Pools {
         }
     }
 
-    /// An old value, where one is given.
+    /// An old value, if one is given.
     fn old_with(&mut self, old: Option<&[u16]>) -> Result<Option<Span>, AllocError>
         ensures grown { Grows self.old self.new }
         ensures within { IfOk result (λ span. IsOld self.new span) }

@@ -6,7 +6,7 @@ use dom_base::{NodeName, Owner, Refusal};
 use dom_printer::{Change, Event, Names, TreeStep, Value};
 use std::alloc::{AllocError, Global};
 
-/// An `Answer` takes the items as values. Of trees it has what their text tells (`shown_output`).
+/// An `Answer` takes the items as values. Of a tree it has what the tree's text tells (`shown_output`).
 impl Answers for Answer {
     ghost use Rattle.std.specs.Prelude.{◌≡◌, ◌++◌, map};
     ghost use Rattle.dom_answers.specs.Parts.{part};
