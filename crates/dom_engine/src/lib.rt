@@ -8,8 +8,8 @@ mod looks;
 mod runner;
 mod session;
 
-pub use dom_commands::{NodeLinks, StructureRow};
 pub use document::Document;
+pub use dom_commands::{NodeLinks, StructureRow};
 pub use dom_streams::{Count, FromReader, IntoWriter, RunFault, Sink, Source, lines_seen_by};
 pub use runner::run;
 pub use session::Session;
