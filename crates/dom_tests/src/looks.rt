@@ -35,7 +35,11 @@ fn document_with_tree(rt: &impl Abort, alloc: Global) -> Document {
         let Ok(Ok(mut said)) = parse_line(alloc, line) else {
             panic!(rt; "the line says no command");
         };
-        assert!(rt; document.call(&said.owner, &mut said.command, &mut answer).is_ok());
+        assert!(rt;
+            document
+                .call(&said.owner, &mut said.command, &mut answer)
+                .is_ok()
+        );
     }
     document
 }
