@@ -99,8 +99,8 @@ fn tells(answer: &Answer, runs: Runs, ending: Ending) -> bool {
     ends && are_runs(answer, answer.deliveries().len(), runs)
 }
 
-/// Does an act; an error is out of memory.
-fn act(
+/// Performs an act: an error is out of memory.
+fn perform(
     rt: &impl Abort,
     alloc: Global,
     document: &mut Document,
@@ -124,7 +124,7 @@ fn tasks_of_all_owners_wait_for_a_checkpoint(rt: HostRuntime) {
     };
     let mut answer = Answer::new(rt.alloc());
     for (each, runs, ending) in ACTS {
-        if act(&rt, rt.alloc(), &mut document, each, &mut answer).is_err() {
+        if perform(&rt, rt.alloc(), &mut document, each, &mut answer).is_err() {
             assert!(rt; document.checkpoint(&mut answer).is_err());
             assert!(rt; answer.last().is_none());
             return;
