@@ -2,7 +2,7 @@
  * Owlantimony by typed calls: nodes by number, strings by code units, answers in arrays. No line of the protocol stands in between. C99, and C++
  * may include it, but not beside owlantimony_dom.h.
  *
- * The library exports these calls, but for dom_links, dom_describe, dom_structure and dom_observe. It makes nothing live: a listener with OWL_LIVE, and an
+ * The library exports these calls, but for dom_links, dom_describe and dom_structure. It makes nothing live: a listener with OWL_LIVE, and an
  * observer or a microtask that is to be live, is NOT_SUPPORTED, and no call answers OWL_CALL. bindings/standin has all calls and what is live, without a
  * proof, for the tests of the bindings.
  *

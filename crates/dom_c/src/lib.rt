@@ -14,6 +14,7 @@ mod exports;
 mod handle;
 mod held;
 mod making;
+mod observing;
 mod place;
 mod ranges;
 mod reads;

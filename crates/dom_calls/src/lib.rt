@@ -11,6 +11,7 @@ mod commands;
 mod document;
 mod held;
 mod lending;
+mod observing;
 mod owners;
 mod place;
 mod replies;
@@ -28,4 +29,5 @@ pub use commands::{
     unlisten, unset_attribute, walk, word,
 };
 pub use document::{CLOSED, DONE, DomDocument, MEMORY, OPEN, UNKNOWN};
+pub use observing::observe;
 pub use structs::{DomAnswer, DomAttribute, DomDelivery, DomNode, DomPoint, DomRow, DomSpan, NONE};
