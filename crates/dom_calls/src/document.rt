@@ -175,3 +175,18 @@ impl DomDocument {
         if has_failed { MEMORY } else { UNKNOWN }
     }
 }
+
+#[cfg(test)]
+impl DomDocument {
+    /// Ends a closed handle.
+    pub(crate) fn end(self)
+        requires { self.held.value ≡ None }
+    {
+        let DomDocument {
+            is_open: _,
+            held,
+            told: _,
+        } = self;
+        held.end();
+    }
+}

@@ -29,4 +29,5 @@ fn a_page_is_built(rt: HostRuntime) {
     );
     assert!(rt; component == 1);
     assert!(rt; document.close(alloc) == DONE);
+    document.end();
 }
