@@ -55,16 +55,12 @@ const ACTS: [(Act, Runs, Ending); 15] = [
     (Act::Checkpoint, &[], Ending::Open),
 ];
 
-/// Whether the item at a place is the run of this microtask.
-fn is_run(answer: &Answer, at: usize, is_page: bool, label: &[u8]) -> bool {
-    let items = answer.items();
-    if at >= items.len() {
-        return false;
-    }
-    let Item::Says(owner, Said::Microtask(span)) = items[at] else {
+/// Whether an item of an answer with these bytes is the run of this microtask.
+fn is_run(item: &Item, bytes: &[u8], is_page: bool, label: &[u8]) -> bool {
+    let Item::Says(owner, Said::Microtask(span)) = item else {
         return false;
     };
-    matches!(owner, Owner::Page) == is_page && span.of(answer.bytes()) == label
+    matches!(owner, Owner::Page) == is_page && span.of(bytes) == label
 }
 
 /// Whether the first items are the runs of these microtasks, in their order, and there are so many.
@@ -74,7 +70,10 @@ fn are_runs(answer: &Answer, count: usize, runs: Runs) -> bool {
     }
     for at in 0..count {
         let (is_page, label) = runs[at];
-        if !is_run(answer, at, is_page, label) {
+        let Some(item) = answer.items().get(at) else {
+            return false;
+        };
+        if !is_run(item, answer.bytes(), is_page, label) {
             return false;
         }
     }
