@@ -5,7 +5,7 @@
 //! in this order: the words, OWNER, the opening of FILE, the run's own faults.
 #![tactic(auto)]
 
-ghost use Rattle.std.specs.Prelude.{◌≡◌, ◌<◌, ℕ, List, Option, Err, IfErr, IfOk, OnOk};
+ghost use Rattle.std.specs.Prelude.{◌≡◌, ◌+◌, ◌<◌, ℕ, List, length, Option, Err, IfErr, IfOk, IfSome, OnOk};
 ghost use Rattle.dom_engine.specs.Run.{RunsToEnd, StopsRun};
 ghost use Rattle.dom_program.specs.Buffers.{handed_to};
 ghost use Rattle.domrun.specs.Endings.{HasRun, CountsReadsOf, ReadsWithinOf, CountsLosses};
@@ -72,6 +72,9 @@ fn run_reader<R: Read + Drop, W: Write + Drop>(
         (⟦<Output<W> as Sink>⟧.contents ended.output, ⟦<Output<W> as Sink>⟧.taken ended.output)) }
     ensures reads { IfOk result (λ ended. CountsReadsOf ended.outcome 0 (⟦<Input<R> as Source>⟧.failures ended.input)) }
     ensures delivered { IfOk result (λ ended. ReadsWithinOf ended.outcome 0 (⟦<Input<R> as Source>⟧.delivered ended.input)) }
+    // On Ok these are all the bytes that the reader had, if it tells its bytes.
+    ensures counted { IfOk result (λ ended. OnOk ended.outcome (IfSome (R.remaining reader) (λ bytes.
+        ⟦<Input<R> as Source>⟧.delivered ended.input ≡ length bytes))) }
     ensures writes { IfOk result (λ ended. CountsLosses ended.outcome 0 (⟦<Output<W> as Sink>⟧.failures ended.output)) }
 {
     let mut output = Output::new(alloc, writer)?;
@@ -106,6 +109,8 @@ fn run_between<R: Read + Drop, W: Write + Drop>(
         (⟦<Output<W> as Sink>⟧.contents output.new, ⟦<Output<W> as Sink>⟧.taken output.new) }
     ensures reads { CountsReadsOf result (⟦<Input<R> as Source>⟧.failures input.old) (⟦<Input<R> as Source>⟧.failures input.new) }
     ensures delivered { ReadsWithinOf result (⟦<Input<R> as Source>⟧.delivered input.old) (⟦<Input<R> as Source>⟧.delivered input.new) }
+    ensures counted { OnOk result (IfSome (⟦<Input<R> as Source>⟧.remaining input.old) (λ bytes.
+        ⟦<Input<R> as Source>⟧.delivered input.new ≡ ⟦<Input<R> as Source>⟧.delivered input.old + length bytes)) }
     ensures writes { CountsLosses result (⟦<Output<W> as Sink>⟧.failures output.old) (⟦<Output<W> as Sink>⟧.failures output.new) }
 {
     let ended = run(alloc, input, output, view);

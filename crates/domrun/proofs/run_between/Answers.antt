@@ -1,6 +1,6 @@
 -- What the run has written is handed on, or the program ends with a failed write.
 use Rattle.dom_base.proofs.Std.{refl}
-use Rattle.domrun.proofs.Handed.{ending-by, keeps-at, ok-handed, err-handed, has-run, reads-handed, within-handed, losses-handed, failed-is-write}
+use Rattle.domrun.proofs.Handed.{ending-by, keeps-at, ok-handed, err-handed, has-run, ok-stays, reads-handed, within-handed, losses-handed, failed-is-write}
 use Rattle.domrun.proofs.run_between.Goals as goal
 
 pub returns-clause-ok : goal.returns-clause-ok
@@ -29,6 +29,11 @@ pub returns-clause-delivered : goal.returns-clause-delivered
 returns-clause-delivered g c =
     let e = c.ending_of.ensures in
     within-handed _ _ c.hand_on.result c.run-ended.result (ending-by c.is_ok-is_written.ensures.value e.written e.lost) c.run-ended.ensures.delivered
+
+pub returns-clause-counted : goal.returns-clause-counted
+returns-clause-counted g c =
+    let e = c.ending_of.ensures in
+    ok-stays c.hand_on.result c.run-ended.result _ (ending-by c.is_ok-is_written.ensures.value e.written e.lost) c.run-ended.ensures.counted
 
 pub returns-clause-writes : goal.returns-clause-writes
 returns-clause-writes g c =
