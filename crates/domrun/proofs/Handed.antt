@@ -107,10 +107,10 @@ module _ (view : Option Owner) (from to : Option (List ℕ)) (old mid new : Take
   err-handed (Err f) ended result ending kept stops = rw (ending.lost refl) (λ other. absurd (other refl))
 
 -- what holds of a run if it ends well, and does not speak of its output
-pub ok-stays : {E A : Type 0} (handed : Result (Unit {0}) E) (ended result : Result (Unit {0}) RunFault) → Ending handed ended result →
+pub ok-stays : {E : Type 0} (A : Type 0) (handed : Result (Unit {0}) E) (ended result : Result (Unit {0}) RunFault) → Ending handed ended result →
     OnOk ended A → OnOk result A
-ok-stays (Ok x) ended result ending holds = rw (ending.written refl) holds
-ok-stays (Err f) ended result ending holds = rw (ending.lost refl) tt
+ok-stays A (Ok x) ended result ending holds = rw (ending.written refl) holds
+ok-stays A (Err f) ended result ending holds = rw (ending.lost refl) tt
 
 -- the counts of a run, whatever it ends with, once its output was handed on
 module _ (old new : ℕ) where

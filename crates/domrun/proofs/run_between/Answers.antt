@@ -33,7 +33,7 @@ returns-clause-delivered g c =
 pub returns-clause-counted : goal.returns-clause-counted
 returns-clause-counted g c =
     let e = c.ending_of.ensures in
-    ok-stays c.hand_on.result c.run-ended.result _ (ending-by c.is_ok-is_written.ensures.value e.written e.lost) c.run-ended.ensures.counted
+    ok-stays _ c.hand_on.result c.run-ended.result _ (ending-by c.is_ok-is_written.ensures.value e.written e.lost) c.run-ended.ensures.counted
 
 pub returns-clause-writes : goal.returns-clause-writes
 returns-clause-writes g c =
