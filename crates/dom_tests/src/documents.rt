@@ -1,4 +1,4 @@
-//! Documents that are called. `examples/faults/check` runs this test with one request for memory after the other refused.
+//! Documents that are called by several owners: no call is busy, and tasks wait for a checkpoint.
 
 use dom_answers::{Answer, Item, Reply, Said};
 use dom_base::{Owner, Refusal};
