@@ -68,7 +68,7 @@ static owl_span put_path(standin *in, const frame *frame, size_t current)
         PUSH(nodes, front.at[at]);
     PUSH(nodes, frame->path.at[current].node);
     level = most = first;
-    /* the item itself may be the root of a closed tree, which is left behind it */
+    /* the item itself may be the root of a closed tree, which is left after it */
     for (size_t at = current + 1; at < frame->path.count; at++) {
         level += frame->path.at[at].slot_in_closed;
         if (level <= most)

@@ -144,7 +144,7 @@ uint32_t run(owl_document *document, uint32_t place, const char *form, ...)
 
 /* ---- reading replies */
 
-/* The number of a node's name, and the place behind it. */
+/* The number of a node's name, and the place after it. */
 const char *read_number(const char *name, uint32_t *number)
 {
     bool is_null = *name == 'n' && name[1] == 'u';

@@ -59,7 +59,7 @@ pub(crate) fn note(
     Ok(())
 }
 
-/// Forgets the place of an attribute that is taken out of the list. Those behind it move up.
+/// Forgets the place of an attribute that is taken out of the list. The attributes after it move up.
 pub(crate) fn forget(index: &mut NameIndex, name: &str, place: usize)
     ensures { (t : List ℕ) → get_by_text index.new t ≡
         (if bytes_eq name.now t then None else option_map (λ p. if nat_lt place p then p - 1 else p) (get_by_text index.old t)) }

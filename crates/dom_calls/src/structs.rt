@@ -38,7 +38,7 @@ pub struct DomAttribute {
     pub value: DomSpan,
 }
 
-/// A node with all that it has itself: its kind by number, the row of its parent (of the first row 0), an element's local name, the data of a Text
+/// A node with all that it has itself: its kind by number, the row of its parent (0 for the first one), an element's local name, the data of a Text
 /// or a Comment, and the attributes, in order.
 #[repr(C)]
 #[derive(Clone, Copy)]
