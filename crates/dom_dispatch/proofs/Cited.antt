@@ -35,5 +35,6 @@ pub use Rattle.dom_path.specs.declared.trees.Tree.{Tree}
 pub use Rattle.dom_slots.proofs.Hosted.{key-test}
 pub use Rattle.dom_slots.specs.Definitions.{ShadowHost}
 pub use Rattle.std.proofs.lemmas.Map.Text.{btree_map_updates_text, btree_set_updates_text}
+pub use Rattle.std.specs.Prelude.{String}
 pub use Rattle.dom_tree.specs.Definitions.{name_at, NamedTrees, TellApart}
 pub use Rattle.dom_worlds.proofs.ListLemmas.{all-append, all-filter, all-passed, all-reverse, all-then, by_cases, filter-filter, filter-map}

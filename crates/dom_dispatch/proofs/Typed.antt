@@ -1,7 +1,7 @@
 -- The types for which there are listeners.
 use Rattle.dom_dispatch.proofs.Cited.{◌≡◌, ℕ, Bool, true, false, ◌&&◌, cond, List, [], ◌∷◌, ◌++◌, Result, Ok, Err, refl, sym, ap, subst, ◌∙◌, true≢false, OnOk}
 use Rattle.dom_dispatch.proofs.Cited.{OnErr, beq, bytes_eq-Decides, text_test, Listener, Word, text_eq, all-then, Entry, Types, listener_of}
-use Rattle.dom_dispatch.proofs.Cited.{listeners_in, NoneHears, is_noted, HasTypes}
+use Rattle.dom_dispatch.proofs.Cited.{listeners_in, NoneHears, is_noted, HasTypes, list_any, string_bytes, ◌||◌, String, Global}
 
 module _ (types : Types) where
   -- a listener of a type that is among them doesn't hear one that is not
@@ -42,7 +42,19 @@ pub more-typed : (old new : Types) → ((either : Bool) (text : Word) → is_not
 more-typed old new kept = all-then (λ (l : Listener ℕ). is_noted old l.words.capture l.words.event ≡ true)
     (λ (l : Listener ℕ). is_noted new l.words.capture l.words.event ≡ true) (λ l. kept l.words.capture l.words.event)
 
--- one more type leaves the others
-pub type-kept : (same was now : Bool) → now ≡ cond same true was → was ≡ true → now ≡ true
-type-kept true was now e there = e
-type-kept false was now e there = e ∙ there
+-- one more type among those that came later leaves the others
+pub later-kept : (first same was now : Bool) → now ≡ cond same true was → (first || was) ≡ true → (first || now) ≡ true
+later-kept true same was now e there = refl
+later-kept false true was now e there = e
+later-kept false false was now e there = e ∙ there
+
+-- one more type behind those that came first is among them
+pub type-last : (event : Word) (types : List (String Global)) (text : String Global) (later : Bool) → text_eq (string_bytes text) event ≡ true →
+    (list_any (λ t. text_eq (string_bytes t) event) (types ++ text ∷ []) || later) ≡ true
+type-last event [] text later same = ap (λ b. (b || false) || later) same
+type-last event (t ∷ types) text later same = either (text_eq (string_bytes t) event) (type-last event types text later same)
+  where
+    either : (b : Bool) → (list_any (λ s. text_eq (string_bytes s) event) (types ++ text ∷ []) || later) ≡ true →
+        ((b || list_any (λ s. text_eq (string_bytes s) event) (types ++ text ∷ [])) || later) ≡ true
+    either true last = refl
+    either false last = last

@@ -1,10 +1,10 @@
 -- How a table holds its entries: each in a place, and for each node the places of its entries.
-use Rattle.std.specs.Prelude.{◌≡◌, ◌⊎◌, ℕ, ◌+◌, ◌<◌, ◌++◌, nat_eq, Bool, true, false, ◌&&◌, List, [], ◌∷◌, filter, filter_map, length, slice_get, Option}
-use Rattle.std.specs.Prelude.{if◌then◌else◌, String, Vec}
+use Rattle.std.specs.Prelude.{◌≡◌, ◌⊎◌, ℕ, ◌+◌, ◌<◌, ◌++◌, nat_eq, Bool, true, false, ◌&&◌, ◌||◌, List, [], ◌∷◌, filter, filter_map, length, slice_get, Option}
+use Rattle.std.specs.Prelude.{if◌then◌else◌, string_bytes, String, Vec}
 use Rattle.std.specs.BTreeMap.{BTreeMap, get_by_text}
 use Rattle.std.specs.BTreeSet.{contains_text}
 use Rattle.std.specs.declared.alloc.Global.{Global}
-use Rattle.std.specs.List.{AllByRecursion}
+use Rattle.std.specs.List.{AllByRecursion, list_any}
 use Rattle.std.specs.Option.{option_flatten, option_map_or}
 use Rattle.dom_model.specs.Listeners.{Listener}
 use Rattle.dom_model.specs.Names.{Word, text_eq}
@@ -14,6 +14,7 @@ use Rattle.dom_dispatch.specs.declared.place_list.PlaceList.{PlaceList}
 use Rattle.dom_dispatch.specs.declared.place_list.PlaceList.TheVariants.{Empty, One, More, ByType}
 use Rattle.dom_dispatch.specs.declared.places.Places.{Places}
 use Rattle.dom_dispatch.specs.declared.types.Types.{Types}
+use Rattle.dom_dispatch.specs.declared.types.TypeSet.{TypeSet}
 
 -- the entries that are there
 abbrev pub present : List (Option Entry) → List Entry
@@ -77,9 +78,13 @@ pub record IsIndexed (p : Places) (es : List (Option Entry)) : Type 0 where
   pub listed : (k : ℕ) (t : Word) → filter (passes_in (is_of_type k t) es) (places_at p k t) ≡ places_from (is_of_type k t) 0 es
   pub within : (k : ℕ) (t : Word) → AllByRecursion (λ i. i < length es) (places_at p k t)
 
+-- whether a type is among these: among those that came first, or later
+abbrev pub has_type : TypeSet → Word → Bool
+has_type types event = list_any (λ (t : String Global). text_eq (string_bytes t) event) types.first.items || contains_text types.later event
+
 -- whether a type is among those of capturing listeners, or among those of the others
 abbrev pub is_noted : Types → Bool → Word → Bool
-is_noted types capturing event = if capturing then types.any_capturing && contains_text types.capturing event else contains_text types.others event
+is_noted types capturing event = if capturing then types.any_capturing && has_type types.capturing event else has_type types.others event
 
 -- the type of each listener is among these, for capturing ones or for the others
 abbrev pub HasTypes : Types → List (Listener ℕ) → Type 0

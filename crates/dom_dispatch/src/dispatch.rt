@@ -242,7 +242,7 @@ impl Listeners {
     /// Puts copies of the listeners of a node that hear events of this type, while they are capturing or while they are not, in place of
     /// what is there.
     #[inline(always)]
-    fn heard(
+    pub(crate) fn heard(
         &self,
         node: Key,
         event: &str,

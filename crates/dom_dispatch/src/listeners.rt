@@ -1,9 +1,9 @@
 //! The listeners of all nodes.
-ghost use Rattle.std.specs.Prelude.{◌≡◌, Bool, nat_eq, true, false, [], string_bytes, IfOk, OnOk, OnErr};
+ghost use Rattle.std.specs.Prelude.{◌≡◌, Bool, nat_eq, true, false, [], filter, string_bytes, IfOk, OnOk, OnErr};
 ghost use Rattle.dom_model.specs.Listeners.{is_listener, with_listener_added, with_listener_removed};
 ghost use Rattle.dom_model.specs.Names.{text_eq};
 ghost use Rattle.std.specs.List.{list_any};
-ghost use Rattle.dom_dispatch.specs.Entries.{words_of, listener_of, hears_at, NoneHears};
+ghost use Rattle.dom_dispatch.specs.Entries.{words_of, listener_of, listeners_in, hears_at, NoneHears};
 
 use crate::kinds::{HeldWords, Kinds};
 use crate::room::Room;
@@ -13,6 +13,7 @@ use dom_attributes::is_same_text;
 use dom_base::Action;
 use node_arena::Key;
 use std::alloc::{AllocError, Global};
+use std::collections::VecDeque;
 use std::marker::Model;
 use std::rc::Rc;
 
@@ -29,9 +30,9 @@ pub struct ListenerInit {
 
 /// A listener, and the node at which it is. Its words are shared with those who were told of its calls.
 #[derive(Drop)]
-pub(crate) struct Entry {
-    pub(crate) node: Key,
-    pub(crate) words: Rc<HeldWords>,
+pub struct Entry {
+    pub node: Key,
+    pub words: Rc<HeldWords>,
 }
 
 impl Entry {
@@ -124,7 +125,8 @@ impl Listeners {
         ensures ok { OnOk result (self.new ≡ with_listener_added nat_eq node (words_of words) self.old) }
         ensures err { OnErr result (self.new ≡ self.old) }
     {
-        if self.has(node, &words) {
+        let (event, label) = (words.event.as_str(), words.label.as_bytes());
+        if self.listens(node, event, label, words.capture) {
             return Ok(());
         }
         self.types
@@ -155,17 +157,26 @@ impl Listeners {
         !bubbling && !self.may_hear(event, true)
     }
 
-    /// Whether a node has a listener with the type, the label and the capture of these words.
-    pub(crate) fn has(&self, node: Key, words: &ListenerInit) -> bool
-        ensures { result ≡ list_any (is_listener nat_eq node (string_bytes words.now.event) (string_bytes words.now.label) words.now.capture) self.now }
+    /// Whether a node has a listener with this type, label and capture.
+    pub fn listens(&self, node: Key, event: &str, label: &[u8], capture: bool) -> bool
+        ensures { result ≡ list_any (is_listener nat_eq node event.now label.now capture) self.now }
     {
-        let found = self.table.find(
-            node,
-            words.event.as_str(),
-            words.label.as_bytes(),
-            words.capture,
-        );
-        found.is_some()
+        self.table.find(node, event, label, capture).is_some()
+    }
+
+    /// The listeners of a node that hear events of this type, while they are capturing or while they are not, in the order of adding (DOM
+    /// Standard, concept: invoke). Refused memory is the only error.
+    pub fn heard_at(
+        &self,
+        node: Key,
+        event: &str,
+        capturing: bool,
+    ) -> Result<VecDeque<Entry>, AllocError>
+        ensures { IfOk result (λ heard. listeners_in heard.items ≡ filter (hears_at node event.now capturing) self.now) }
+    {
+        let mut heard = VecDeque::new(self.alloc);
+        self.heard(node, event, capturing, &mut heard)?;
+        Ok(heard)
     }
 
     /// Takes the listener of a node with this type, label and capture away, if there is one (DOM Standard, concept: remove
@@ -176,8 +187,8 @@ impl Listeners {
         self.take(node, event, label.as_bytes(), capture);
     }
 
-    /// Takes the listener of a node with this type, label and capture away, if there is one.
-    pub(crate) fn take(&mut self, node: Key, event: &str, label: &[u8], capture: bool)
+    /// Takes the listener of a node with this type, label and capture away, if there is one, as `unlisten` does for a label that is no text.
+    pub fn take(&mut self, node: Key, event: &str, label: &[u8], capture: bool)
         ensures { self.new ≡ with_listener_removed nat_eq node event.now label.now capture self.old }
     {
         while let Some(place) = self.table.find(node, event, label, capture) {
@@ -188,7 +199,7 @@ impl Listeners {
 
 /// Whether two types of events are the same. The last bytes are compared first, since types of one length often begin alike.
 #[inline(always)]
-fn is_same_type(event: &str, other: &str) -> bool
+pub(crate) fn is_same_type(event: &str, other: &str) -> bool
     ensures { result ≡ text_eq event.now other.now }
 {
     let bytes = event.as_bytes();

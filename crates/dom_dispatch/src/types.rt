@@ -1,18 +1,32 @@
 //! The types of events for which there was a listener.
-ghost use Rattle.std.specs.Prelude.{◌≡◌, ℕ, Bool, List, true, OnOk};
+ghost use Rattle.std.specs.Prelude.{◌≡◌, ℕ, Bool, List, true, string_bytes, OnOk};
 ghost use Rattle.std.specs.BTreeSet.{contains_text};
-ghost use Rattle.dom_dispatch.specs.Tables.{is_noted};
+ghost use Rattle.std.specs.List.{list_any};
+ghost use Rattle.dom_model.specs.Names.{text_eq};
+ghost use Rattle.dom_dispatch.specs.Tables.{has_type, is_noted};
 
+use crate::listeners::is_same_type;
 use std::alloc::{AllocError, Global};
 use std::collections::BTreeSet;
+
+/// How many types stand in a list, where they are compared one after another.
+const MOST: usize = 16;
 
 /// The types of events for which there was a listener: those of capturing listeners, and those of the others. A type stays when its
 /// listeners go. Where there was no capturing listener at all, no text is compared to know it.
 #[derive(Drop)]
 pub(crate) struct Types {
     any_capturing: bool,
-    capturing: BTreeSet<String>,
-    others: BTreeSet<String>,
+    capturing: TypeSet,
+    others: TypeSet,
+}
+
+/// Some types: the first sixteen in a list, since a few are found soonest one after another, and those that came later in order, so that many
+/// cost no more than a search among them.
+#[derive(Drop)]
+pub(crate) struct TypeSet {
+    first: Vec<String>,
+    later: BTreeSet<String>,
 }
 
 impl Types {
@@ -20,8 +34,8 @@ impl Types {
     pub(crate) fn new(alloc: Global) -> Self {
         Types {
             any_capturing: false,
-            capturing: BTreeSet::new(alloc),
-            others: BTreeSet::new(alloc),
+            capturing: TypeSet::new(alloc),
+            others: TypeSet::new(alloc),
         }
     }
 
@@ -47,23 +61,52 @@ impl Types {
         ensures noted { OnOk result (is_noted self.new capturing event.now ≡ true) }
     {
         if capturing {
-            note(alloc, &mut self.capturing, event)?;
+            self.capturing.note(alloc, event)?;
             self.any_capturing = true;
             Ok(())
         } else {
-            note(alloc, &mut self.others, event)
+            self.others.note(alloc, event)
         }
     }
 }
 
-/// Adds a type to those for which there was a listener.
-fn note(alloc: Global, types: &mut BTreeSet<String>, event: &str) -> Result<(), AllocError>
-    ensures kept { (text : List ℕ) → contains_text types.old text ≡ true → contains_text types.new text ≡ true }
-    ensures noted { OnOk result (contains_text types.new event.now ≡ true) }
-{
-    if types.contains(event) {
-        return Ok(());
+impl TypeSet {
+    /// No types. Takes no memory yet.
+    fn new(alloc: Global) -> Self {
+        TypeSet {
+            first: Vec::new(alloc),
+            later: BTreeSet::new(alloc),
+        }
     }
-    let _ = types.insert(String::from_str(alloc, event)?)?;
-    Ok(())
+
+    /// Whether a type is among these.
+    fn contains(&self, event: &str) -> bool
+        ensures { result ≡ has_type self.now event.now }
+    {
+        is_listed(self.first.as_slice(), event) || self.later.contains(event)
+    }
+
+    /// Adds a type, unless it is there.
+    fn note(&mut self, alloc: Global, event: &str) -> Result<(), AllocError>
+        ensures kept { (text : List ℕ) → has_type self.old text ≡ true → has_type self.new text ≡ true }
+        ensures noted { OnOk result (has_type self.new event.now ≡ true) }
+    {
+        if self.contains(event) {
+            return Ok(());
+        }
+        let text = String::from_str(alloc, event)?;
+        if self.first.len() < MOST {
+            self.first.push(text)?;
+        } else {
+            let _ = self.later.insert(text)?;
+        }
+        Ok(())
+    }
+}
+
+/// Whether a type is in a list.
+fn is_listed(types: &[String], event: &str) -> bool
+    ensures { result ≡ list_any (λ text. text_eq (string_bytes text) event.now) types.now }
+{
+    types.iter().any(|text| is_same_type(text.as_str(), event))
 }
