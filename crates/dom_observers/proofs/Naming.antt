@@ -8,7 +8,8 @@ use Rattle.dom_model.proofs.Model.{fits, fitting, interested, asks_for, asks_for
 use Rattle.dom_model.proofs.Model.{stems_from, with_options, without_observer, without_transients, name_eq-same, name_eq-other}
 use Rattle.dom_tree.specs.Definitions.{name_at, TellApart}
 use Rattle.dom_observers.specs.Definitions.{TablesOf, queue_at, named_change, named_source, named_registration, named_tables, IsSourceOf, AreRegistered, AreAll}
-use Rattle.dom_observers.specs.Definitions.{IsKey, ObservingLaw, TakenLaw, ToldLaw, LeftLaw, MakingLaw, EmptiedLaw, DisconnectedLaw, NotifiedLaw, NoticesLaw}
+use Rattle.dom_observers.specs.Definitions.{IsKey, ObservingLaw, TakenLaw, ToldLaw, LeftLaw, MakingLaw, EmptiedLaw, DisconnectedLaw, NonePendingLaw}
+use Rattle.dom_observers.specs.Definitions.{TellingLaw, NotifiedLaw, NoticesLaw}
 use Rattle.dom_observers.proofs.Folds.{list_any_of_map}
 use Rattle.dom_observers.proofs.Tables.{filter_of_map}
 
@@ -139,7 +140,7 @@ module _ (names : List NodeName) (apart : TellApart names) (path : List ℕ) (rs
 
 -- ---- queues
 
-queue-named : (names : List NodeName) (queues : List (List (Change ℕ))) (k : ℕ) →
+pub queue-named : (names : List NodeName) (queues : List (List (Change ℕ))) (k : ℕ) →
     queue_at (map (map (named_change (name_at names))) queues) k ≡ map (named_change (name_at names)) (queue_at queues k)
 queue-named names queues k = ap (λ o. unwrap_or o []) (slice_get-map (map (named_change (name_at names))) queues k) ∙ by (slice_get queues k)
   where
@@ -259,6 +260,26 @@ transient-named : (names : List NodeName) (s : Source ℕ) → is_transient (nam
 transient-named names (copied_from x) = refl
 transient-named names s = refl
 
+-- without the transient ones of some observers
+transients-named : (names : List NodeName) (ks : List ℕ) (rs : List (Registration ℕ))
+    → map (named_registration (name_at names)) (without_transients ks rs) ≡ without_transients ks (map (named_registration (name_at names)) rs)
+transients-named names ks rs =
+    filter-blind names (λ r. not (is_transient r.source && is_in eqb r.observer ks)) (λ r. not (is_transient r.source && is_in eqb r.observer ks))
+    (λ r. ap (λ b. not (b && is_in eqb r.observer ks)) (transient-named names r.source)) rs
+
+pub none_pending_law : NonePendingLaw
+none_pending_law names t = refl
+
+pub telling_law : TellingLaw
+telling_law names k t =
+    let s : TablesOf NodeName = named_tables (name_at names) t in
+    let queues = map-set (map (named_change (name_at names))) t.record_queues k [] in
+    ap (λ (list : List (Registration NodeName)). let built : TablesOf NodeName = record s
+    { registrations = list; record_queues = map (map (named_change (name_at names))) (set t.record_queues k []) } in built)
+    (transients-named names (k ∷ []) t.registrations)
+    ∙ ap (λ (list : List (List (Change NodeName))). let built : TablesOf NodeName = record s
+    { registrations = without_transients (k ∷ []) s.registrations; record_queues = list } in built) queues
+
 emptied-named : (names : List NodeName) (queues : List (List (Change ℕ))) (ks : List ℕ)
     → map (map (named_change (name_at names))) (fold (λ list k. set list k []) queues ks) ≡ fold (λ list k. set list k [])
     (map (map (named_change (name_at names))) queues) ks
@@ -269,9 +290,7 @@ emptied-named names queues (k ∷ ks) =
 pub notified_law : NotifiedLaw
 notified_law names t =
     let s : TablesOf NodeName = named_tables (name_at names) t in
-    let rs = filter-blind names (λ r. not (is_transient r.source && is_in eqb r.observer t.pending))
-    (λ r. not (is_transient r.source && is_in eqb r.observer t.pending))
-    (λ r. ap (λ b. not (b && is_in eqb r.observer t.pending)) (transient-named names r.source)) t.registrations in
+    let rs = transients-named names t.pending t.registrations in
     ap (λ (list : List (Registration NodeName)). let built : TablesOf
     NodeName = record {
       registrations = list;

@@ -5,8 +5,9 @@ use Rattle.dom_base.proofs.Std.{nat_eq, slice_get, slice_set, option_map, unwrap
 use Rattle.dom_model.proofs.Model.{is_in, ObserveWords, Change, child_list, attributes, character_data, Registration, Source, asked_for, copied_from}
 use Rattle.dom_model.proofs.Model.{copied_from_transient, is_transient, without_old, registrations_on, record_for, interested, transients_for, copied_source}
 use Rattle.dom_model.proofs.Model.{options_of, is_asked_for, stems_from, with_options, with_registration, fitting, asks_for_old}
-use Rattle.dom_observers.specs.Definitions.{TablesOf, no_tables, queue_at, with_observer, emptied, disconnected, observing, told, left, notified, named_change}
-use Rattle.dom_observers.specs.Definitions.{named_source, named_registration, named_tables, IsSourceOf, AreRegistered, AreAll, IsChangeAt, SpeaksOf}
+use Rattle.dom_observers.specs.Definitions.{TablesOf, no_tables, queue_at, with_observer, emptied, disconnected, observing, told, left, notified}
+use Rattle.dom_observers.specs.Definitions.{none_pending, after_telling, named_change, named_source, named_registration, named_tables}
+use Rattle.dom_observers.specs.Definitions.{IsSourceOf, AreRegistered, AreAll, IsChangeAt, SpeaksOf}
 
 -- ---- lists
 
@@ -125,10 +126,21 @@ module _ {M : Type 0} (P : M → Type 0) where
     records = all_set (AreAll (IsChangeAt P)) t.record_queues k [] h.records tt;
   }
 
+  speaks_without : (ks : List ℕ) (rs : List (Registration M)) → AreRegistered P rs → AreRegistered P (without_transients ks rs)
+  speaks_without ks rs = registered_filter (λ (r : Registration M). not (is_transient r.source && is_in nat_eq r.observer ks)) rs
+
+  pub speaks_none_pending : (t : TablesOf M) → SpeaksOf P t → SpeaksOf P (none_pending t)
+  speaks_none_pending t h = record { registrations = h.registrations; records = h.records }
+
+  pub speaks_telling : (k : ℕ) (t : TablesOf M) → SpeaksOf P t → SpeaksOf P (after_telling k t)
+  speaks_telling k t h = record {
+    registrations = speaks_without (k ∷ []) t.registrations h.registrations;
+    records = all_set (AreAll (IsChangeAt P)) t.record_queues k [] h.records tt;
+  }
+
   pub speaks_notified : (t : TablesOf M) → SpeaksOf P t → SpeaksOf P (notified t)
   speaks_notified t h = record {
-    registrations = registered_filter (λ (r : Registration M). not (is_transient r.source && is_in nat_eq r.observer t.pending)) t.registrations
-        h.registrations;
+    registrations = speaks_without t.pending t.registrations h.registrations;
     records = emptied_all t.pending t.record_queues h.records;
   }
 

@@ -4,9 +4,10 @@ use Rattle.dom_base.proofs.Std.{length-append}
 use Rattle.dom_model.proofs.Model.{NodeName, Owner, Page, owner_eq, node_of, owner_eq-true}
 use Rattle.dom_observers.specs.Definitions.{AreAll, IsChangeAt, SpeaksOf, tables_of, ChangesTables, IsOwnKey, AreOwnTables, NoneStay, SameStay, MoreStay}
 use Rattle.dom_observers.specs.Definitions.{KeysStay, RecordsStay, MadeStay, ObservingStay, DisconnectedStay, EmptiedStay, ToldStay, LeftStay, NotifiedStay}
+use Rattle.dom_observers.specs.Definitions.{NonePendingStay, TellingStay}
 use Rattle.dom_observers.specs.Definitions.{TablesOf, disconnected, TablesByOwner}
 use Rattle.dom_observers.proofs.Speaking.{all_got, speaks_none, speaks_made, speaks_observing, speaks_disconnected, speaks_emptied, speaks_told}
-use Rattle.dom_observers.proofs.Speaking.{speaks_left, speaks_notified, speaks_more}
+use Rattle.dom_observers.proofs.Speaking.{speaks_left, speaks_notified, speaks_none_pending, speaks_telling, speaks_more}
 
 -- one owner's tables are new
 module _ (names : List NodeName) (was now : TablesByOwner) (o : Owner) (own : AreOwnTables names was) where
@@ -63,3 +64,9 @@ left-stay names was now o x path own at = own-changed names was now o own _ (spe
 
 pub notified-stay : NotifiedStay
 notified-stay names was now o own = own-changed names was now o own _ (speaks_notified (IsOwnKey names o) (tables_of was o) (own o))
+
+pub none-pending-stay : NonePendingStay
+none-pending-stay names was now o own = own-changed names was now o own _ (speaks_none_pending (IsOwnKey names o) (tables_of was o) (own o))
+
+pub telling-stay : TellingStay
+telling-stay names was now o k own = own-changed names was now o own _ (speaks_telling (IsOwnKey names o) k (tables_of was o) (own o))

@@ -3,9 +3,11 @@ use Rattle.dom_base.proofs.Std.{◌≡◌, ℕ, ◌<◌, ◌≤◌, Bool, true, 
 use Rattle.dom_base.proofs.Std.{nat_eq, is_some, slice_set, if◌then◌else◌, All, filter, fold, list_any, length-append, length-set, All-nil, All-append}
 use Rattle.dom_base.proofs.Std.{All-push, All-filter, All-map, All-weaker, slice_get_within, get_or_from_slice_get, slice_get-get_or}
 use Rattle.dom_model.proofs.Model.{Owner, owner_eq, is_in, ObserveWords, Change, Registration, asked_for, registrations_on, copied_source, options_of}
-use Rattle.dom_model.proofs.Model.{is_asked_for, is_transient, stems_from, with_options, with_registration, transients_for, interested, record_for}
+use Rattle.dom_model.proofs.Model.{is_asked_for, is_transient, stems_from, with_options, with_registration, without_transients, transients_for, interested}
+use Rattle.dom_model.proofs.Model.{record_for}
 use Rattle.dom_observers.specs.Definitions.{tables_of, ChangesTables, TablesOf, disconnected, queue_at, TablesByOwner, AreMade, NoneThere, SameThere, HasThere}
 use Rattle.dom_observers.specs.Definitions.{MadeThere, ObservingThere, DisconnectedThere, EmptiedThere, ToldThere, LeftThere, NotifiedThere}
+use Rattle.dom_observers.specs.Definitions.{NonePendingThere, TellingThere}
 use Rattle.dom_observers.specs.There.{AreThere}
 
 -- ---- lists
@@ -133,10 +135,23 @@ left-there was now o x path there =
     let t = tables_of was o in
     owner-changed was now o there _ (on-leaving (length t.record_queues) x path t.registrations (there o))
 
+-- without the transient ones of some observers
+made-without : (n : ℕ) (ks : List ℕ) (rs : List (Registration ℕ)) → All (IsOf n) rs → All (IsOf n) (without_transients ks rs)
+made-without n ks rs = All-filter (λ (r : Registration ℕ). not (is_transient r.source && is_in nat_eq r.observer ks)) (IsOf n) rs
+
 pub notified-there : NotifiedThere
 notified-there was now o there =
     let t = tables_of was o in
-    let left : Registration ℕ → Bool = λ r. not (is_transient r.source && is_in nat_eq r.observer t.pending) in
     owner-changed was now o there _
-    (subst (λ n. OfSo n (filter left t.registrations)) (sym (length-each_set (λ queues k. []) t.pending t.record_queues))
-    (All-filter left (IsOf (length t.record_queues)) t.registrations (there o)))
+    (subst (λ n. OfSo n (without_transients t.pending t.registrations)) (sym (length-each_set (λ queues k. []) t.pending t.record_queues))
+    (made-without (length t.record_queues) t.pending t.registrations (there o)))
+
+pub none-pending-there : NonePendingThere
+none-pending-there was now o there = owner-changed was now o there _ (there o)
+
+pub telling-there : TellingThere
+telling-there was now o k there =
+    let t = tables_of was o in
+    owner-changed was now o there _
+    (subst (λ n. OfSo n (without_transients (k ∷ []) t.registrations)) (sym (length-set t.record_queues k []))
+    (made-without (length t.record_queues) (k ∷ []) t.registrations (there o)))

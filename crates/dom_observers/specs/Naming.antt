@@ -8,7 +8,8 @@ use Rattle.dom_model.specs.Output.{Change, child_list, attributes, character_dat
 use Rattle.dom_model.specs.Observers.{Registration, Source, asked_for, copied_from, copied_from_transient, target_of}
 use Rattle.dom_tree.specs.Forest.{name_at}
 use Rattle.dom_tree.specs.Apart.{TellApart}
-use Rattle.dom_observers.specs.Tables.{TablesOf, with_observer, emptied, disconnected, notices, notified, observing, is_taken, told, left}
+use Rattle.dom_observers.specs.Tables.{TablesOf, with_observer, emptied, disconnected, notices, notified, none_pending, after_telling, observing}
+use Rattle.dom_observers.specs.Tables.{is_taken, told, left}
 
 module _ {M N : Type 0} (f : M → N) where
   -- a change with each node replaced by its image
@@ -105,6 +106,13 @@ EmptiedLaw = (names : List NodeName) (k : ℕ) (t : TablesOf ℕ) → named_tabl
 abbrev pub DisconnectedLaw : Type 0
 DisconnectedLaw = (names : List NodeName) (k : ℕ) (t : TablesOf ℕ) →
     named_tables (name_at names) (disconnected k t) ≡ disconnected k (named_tables (name_at names) t)
+
+abbrev pub NonePendingLaw : Type 0
+NonePendingLaw = (names : List NodeName) (t : TablesOf ℕ) → named_tables (name_at names) (none_pending t) ≡ none_pending (named_tables (name_at names) t)
+
+abbrev pub TellingLaw : Type 0
+TellingLaw = (names : List NodeName) (k : ℕ) (t : TablesOf ℕ) →
+    named_tables (name_at names) (after_telling k t) ≡ after_telling k (named_tables (name_at names) t)
 
 abbrev pub NotifiedLaw : Type 0
 NotifiedLaw = (names : List NodeName) (t : TablesOf ℕ) → named_tables (name_at names) (notified t) ≡ notified (named_tables (name_at names) t)

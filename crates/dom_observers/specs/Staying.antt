@@ -7,7 +7,7 @@ use Rattle.dom_model.specs.Output.{Change}
 use Rattle.dom_tree.specs.Forest.{name_at}
 use Rattle.dom_observers.specs.Naming.{AreAll, IsChangeAt, IsKey, SpeaksOf}
 use Rattle.dom_observers.specs.Owners.{tables_of, ChangesTables, KeepsTables}
-use Rattle.dom_observers.specs.Tables.{no_tables, with_observer, observing, disconnected, emptied, told, left, notified}
+use Rattle.dom_observers.specs.Tables.{no_tables, with_observer, observing, disconnected, emptied, told, left, notified, none_pending, after_telling}
 use Rattle.dom_observers.specs.TablesByOwner.{TablesByOwner}
 
 -- a key of a node of an owner, of nodes with these names
@@ -84,3 +84,15 @@ LeftStay =
 abbrev pub NotifiedStay : Type 0
 NotifiedStay = (names : List NodeName) (was now : TablesByOwner) (o : Owner) → AreOwnTables names was → ChangesTables o (notified (tables_of was o)) was now →
     AreOwnTables names now
+
+-- an owner's pending observers are taken
+abbrev pub NonePendingStay : Type 0
+NonePendingStay =
+    (names : List NodeName) (was now : TablesByOwner) (o : Owner) → AreOwnTables names was → ChangesTables o (none_pending (tables_of was o)) was now →
+    AreOwnTables names now
+
+-- one observer is told
+abbrev pub TellingStay : Type 0
+TellingStay =
+    (names : List NodeName) (was now : TablesByOwner) (o : Owner) (k : ℕ) → AreOwnTables names was →
+    ChangesTables o (after_telling k (tables_of was o)) was now → AreOwnTables names now

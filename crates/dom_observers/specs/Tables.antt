@@ -47,6 +47,14 @@ notified t =
       pending = [];
     }
 
+-- none pending (DOM Standard, concept: notify mutation observers)
+abbrev pub none_pending : {N : Type 0} → TablesOf N → TablesOf N
+none_pending t = record t { pending = [] }
+
+-- an observer's queue emptied, and its transient registrations gone (DOM Standard, concept: notify mutation observers)
+abbrev pub after_telling : {N : Type 0} → ℕ → TablesOf N → TablesOf N
+after_telling k t = record t { registrations = without_transients (k ∷ []) t.registrations; record_queues = slice_set t.record_queues k [] }
+
 -- an observer's queue with a record more (DOM Standard, concept: queue a mutation record)
 abbrev pub appended : {N : Type 0} → Change N → TablesOf N → ℕ → TablesOf N
 appended c t k = record t { record_queues = slice_set t.record_queues k (queue_at t.record_queues k ++ c ∷ []) }

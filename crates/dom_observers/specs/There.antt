@@ -6,7 +6,8 @@ use Rattle.dom_model.specs.Command.{ObserveWords}
 use Rattle.dom_model.specs.Observers.{Registration}
 use Rattle.dom_model.specs.Output.{Change}
 use Rattle.dom_observers.specs.Owners.{tables_of, ChangesTables, KeepsTables}
-use Rattle.dom_observers.specs.Tables.{TablesOf, no_tables, with_observer, observing, disconnected, emptied, told, left, notified}
+use Rattle.dom_observers.specs.Tables.{TablesOf, no_tables, with_observer, observing, disconnected, emptied, told, left, notified, none_pending}
+use Rattle.dom_observers.specs.Tables.{after_telling}
 use Rattle.dom_observers.specs.TablesByOwner.{TablesByOwner}
 
 -- the observers of an owner's registrations were made
@@ -69,3 +70,12 @@ LeftThere =
 -- the pending observers are notified
 abbrev pub NotifiedThere : Type 0
 NotifiedThere = (was now : TablesByOwner) (o : Owner) → AreThere was → ChangesTables o (notified (tables_of was o)) was now → AreThere now
+
+-- an owner's pending observers are taken
+abbrev pub NonePendingThere : Type 0
+NonePendingThere = (was now : TablesByOwner) (o : Owner) → AreThere was → ChangesTables o (none_pending (tables_of was o)) was now → AreThere now
+
+-- one observer is told
+abbrev pub TellingThere : Type 0
+TellingThere =
+    (was now : TablesByOwner) (o : Owner) (k : ℕ) → AreThere was → ChangesTables o (after_telling k (tables_of was o)) was now → AreThere now

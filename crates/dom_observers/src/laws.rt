@@ -3,12 +3,12 @@ ghost use Rattle.std.specs.Prelude.{◌≡◌, map};
 ghost use Rattle.dom_model.specs.Tree.{inclusive_ancestors};
 ghost use Rattle.dom_tree.specs.Forest.{IsNode, name_of};
 ghost use Rattle.dom_observers.specs.Naming.{MakingLaw, ObservingLaw, DisconnectedLaw, EmptiedLaw, TakenLaw, ToldLaw, LeftLaw, NotifiedLaw};
-ghost use Rattle.dom_observers.specs.Naming.{NoticesLaw, IsKey, AreAll};
+ghost use Rattle.dom_observers.specs.Naming.{NonePendingLaw, TellingLaw, NoticesLaw, IsKey, AreAll};
 ghost use Rattle.dom_observers.specs.Paths.{path_keys};
 ghost use Rattle.dom_observers.specs.Staying.{NoneStay, SameStay, MoreStay, KeysStay, RecordsStay, MadeStay, ObservingStay, DisconnectedStay, EmptiedStay};
-ghost use Rattle.dom_observers.specs.Staying.{ToldStay, LeftStay, NotifiedStay};
+ghost use Rattle.dom_observers.specs.Staying.{ToldStay, LeftStay, NotifiedStay, NonePendingStay, TellingStay};
 ghost use Rattle.dom_observers.specs.There.{NoneThere, SameThere, HasThere, MadeThere, ObservingThere, DisconnectedThere, EmptiedThere, ToldThere};
-ghost use Rattle.dom_observers.specs.There.{LeftThere, NotifiedThere};
+ghost use Rattle.dom_observers.specs.There.{LeftThere, NotifiedThere, NonePendingThere, TellingThere};
 
 use dom_tree::Forest;
 use node_arena::Key;
@@ -25,6 +25,8 @@ pub fn law_keys_stand_for_names()
     ensures left { LeftLaw }
     ensures notified { NotifiedLaw }
     ensures notices { NoticesLaw }
+    ensures none_pending { NonePendingLaw }
+    ensures telling { TellingLaw }
 {}
 
 /// The keys on the path of a node are those of nodes, and their names are its inclusive ancestors (DOM Standard, concept:
@@ -54,6 +56,8 @@ pub fn law_registrations_stay()
     ensures told { ToldStay }
     ensures left { LeftStay }
     ensures notified { NotifiedStay }
+    ensures none_pending { NonePendingStay }
+    ensures telling { TellingStay }
 {}
 
 /// Registrations stay of observers that were made, after each call (own rule). So it is where nobody has an observer. `has` says that the
@@ -69,4 +73,6 @@ pub fn law_observers_are_there()
     ensures told { ToldThere }
     ensures left { LeftThere }
     ensures notified { NotifiedThere }
+    ensures none_pending { NonePendingThere }
+    ensures telling { TellingThere }
 {}

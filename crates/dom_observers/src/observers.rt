@@ -7,6 +7,7 @@ ghost use Rattle.dom_model.specs.CommandRefusals.{past_limit};
 ghost use Rattle.dom_model.specs.Observers.{options_of, asks_for_nothing, target_of};
 ghost use Rattle.dom_tree.specs.Forest.{IsNode, name_of};
 ghost use Rattle.dom_observers.specs.Tables.{no_tables, with_observer, observing, disconnected, emptied, is_taken, told, left, notices, notified};
+ghost use Rattle.dom_observers.specs.Tables.{none_pending, after_telling, queue_at};
 ghost use Rattle.dom_observers.specs.Views.{words_of, change_of, notice_of};
 ghost use Rattle.dom_observers.specs.Paths.{path_keys};
 ghost use Rattle.dom_observers.specs.Owners.{tables_of, ChangesTables, KeepsTables};
@@ -109,6 +110,16 @@ impl Observers {
         }
     }
 
+    /// How many observers an owner has made. Those that come have the numbers from this one on.
+    pub fn count(&self, owner: Owner) -> usize
+        ensures { result ≡ length (tables_of self.now owner).record_queues }
+    {
+        match self.tables.get(&owner) {
+            Some(table) => table.count(),
+            None => 0,
+        }
+    }
+
     /// Whether an owner has registrations, so that a change of a node of it may be recorded (own rule). Where no component has had an
     /// observer there is no look-up.
     pub fn is_watched(&self, owner: Owner) -> bool
@@ -189,6 +200,33 @@ impl Observers {
             return Ok(());
         };
         table.add_transients(forest, parent, node)
+    }
+
+    /// Empties an owner's set of pending observers, and gives their numbers, in the order in which they became pending (DOM Standard,
+    /// notify mutation observers). Where memory is refused, nothing changes.
+    pub fn take_pending(&mut self, owner: Owner) -> Result<Vec<u32>, AllocError>
+        ensures numbers { IfOk result (λ numbers. numbers.items ≡ (tables_of self.old owner).pending) }
+        ensures tables { OnOk result (ChangesTables owner (none_pending (tables_of self.old owner)) self.old self.new) }
+        ensures err { OnErr result (KeepsTables self.old self.new) }
+    {
+        let alloc = self.alloc;
+        let Some(table) = self.tables.get_mut(&owner) else {
+            return Ok(Vec::new(alloc));
+        };
+        table.take_pending()
+    }
+
+    /// Empties the record queue of an owner's observer, and gives the records in it; the observer's transient registrations are then gone
+    /// (DOM Standard, notify mutation observers). There are none of an observer that is not there.
+    pub fn tell(&mut self, owner: Owner, observer: u32) -> Vec<Record>
+        ensures records { map change_of result.items ≡ queue_at (tables_of self.old owner).record_queues observer }
+        ensures tables { ChangesTables owner (after_telling observer (tables_of self.old owner)) self.old self.new }
+    {
+        let alloc = self.alloc;
+        let Some(table) = self.tables.get_mut(&owner) else {
+            return Vec::new(alloc);
+        };
+        table.tell(observer)
     }
 
     /// Empties an owner's set of pending observers, and gives each with the records of its queue, in order (DOM Standard,

@@ -6,7 +6,7 @@ ghost use Rattle.dom_model.specs.CommandRefusals.{past_limit};
 ghost use Rattle.dom_model.specs.Output.{Change as Changed};
 ghost use Rattle.dom_model.specs.Observers.{options_of, asks_for_nothing, target_of, interested, record_for};
 ghost use Rattle.dom_observers.specs.Tables.{no_tables, with_observer, observing, disconnected, emptied, appended, given, is_taken, told, left};
-ghost use Rattle.dom_observers.specs.Tables.{notices, notified};
+ghost use Rattle.dom_observers.specs.Tables.{notices, notified, none_pending, after_telling, queue_at};
 ghost use Rattle.dom_observers.specs.Views.{words_of, change_of, notice_of};
 ghost use Rattle.dom_observers.specs.TableView.{table_of};
 ghost use Rattle.dom_observers.specs.Numbers.{numbers_in};
@@ -67,6 +67,13 @@ impl Table {
         ensures { result ≡ is_some (slice_get (table_of self.now).record_queues observer) }
     {
         self.queues.get(observer as usize).is_some()
+    }
+
+    /// How many observers were made.
+    pub(crate) fn count(&self) -> usize
+        ensures { result ≡ length (table_of self.now).record_queues }
+    {
+        self.queues.len()
     }
 
     /// Makes an observer, and gives its number (DOM Standard, constructor of MutationObserver).
@@ -224,6 +231,31 @@ impl Table {
             return Ok(());
         }
         self.registrations.add_transients(forest, parent, node)
+    }
+
+    /// Empties the set of pending observers, and gives their numbers, in order (DOM Standard, notify mutation observers). Where memory is
+    /// refused, nothing changes.
+    pub(crate) fn take_pending(&mut self) -> Result<Vec<u32>, AllocError>
+        ensures numbers { IfOk result (λ numbers. numbers.items ≡ (table_of self.old).pending) }
+        ensures tables { OnOk result (table_of self.new ≡ none_pending (table_of self.old)) }
+        ensures err { OnErr result (table_of self.new ≡ table_of self.old) }
+    {
+        let numbers = self.pending.as_slice().to_vec(self.alloc)?;
+        self.pending = Numbers::Empty;
+        Ok(numbers)
+    }
+
+    /// Empties an observer's record queue, and gives the records in it; the observer's transient registrations are then gone (DOM
+    /// Standard, notify mutation observers).
+    pub(crate) fn tell(&mut self, observer: u32) -> Vec<Record>
+        ensures records { map change_of result.items ≡ queue_at (table_of self.old).record_queues observer }
+        ensures tables { table_of self.new ≡ after_telling observer (table_of self.old) }
+    {
+        let alloc = self.alloc;
+        let records = self.take(observer).unwrap_or(Vec::new(alloc));
+        self.registrations
+            .remove(&Removal::TransientsOf(Numbers::One(observer)));
+        records
     }
 
     /// Empties the set of pending observers, and gives each with its records, in order; these are then gone from the queues,

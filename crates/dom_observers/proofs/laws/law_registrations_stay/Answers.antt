@@ -1,5 +1,5 @@
 use Rattle.dom_observers.proofs.Staying.{none-stay, same-stay, more-stay, keys-stay, records-stay, made-stay, observing-stay, disconnected-stay, emptied-stay}
-use Rattle.dom_observers.proofs.Staying.{told-stay, left-stay, notified-stay}
+use Rattle.dom_observers.proofs.Staying.{told-stay, left-stay, notified-stay, none-pending-stay, telling-stay}
 use Rattle.dom_observers.proofs.laws.law_registrations_stay.Goals as goal
 
 pub returns-clause-none : goal.returns-clause-none
@@ -37,3 +37,9 @@ returns-clause-left c = left-stay
 
 pub returns-clause-notified : goal.returns-clause-notified
 returns-clause-notified c = notified-stay
+
+pub returns-clause-none_pending : goal.returns-clause-none_pending
+returns-clause-none_pending c = none-pending-stay
+
+pub returns-clause-telling : goal.returns-clause-telling
+returns-clause-telling c = telling-stay
