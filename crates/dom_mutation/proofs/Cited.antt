@@ -52,9 +52,10 @@ pub use Rattle.dom_laws.proofs.Laws.{parent_taken, path_after, path_below, path_
 pub use Rattle.dom_laws.proofs.Laws.{path_root, path_taken, StandsIn, subtree_mapped, swapped, times_count, times_in-none, times_in-tree, walked, Walks, walks}
 pub use Rattle.dom_laws.proofs.Laws.{was_some}
 pub use Rattle.dom_observers.proofs.Ascending.{path_keys-named}
-pub use Rattle.dom_observers.proofs.Naming.{disconnected_law, emptied_law, left_law, making_law, notices_law, notified_law, observing_law, taken_law, told_law}
+pub use Rattle.dom_observers.proofs.Naming.{disconnected_law, emptied_law, left_law, making_law, none_pending_law, notices_law, notified_law, observing_law}
+pub use Rattle.dom_observers.proofs.Naming.{queue-named, taken_law, telling_law, told_law}
 pub use Rattle.dom_observers.proofs.Speaking.{all_got, all_queued, same_tables, speaks_disconnected, speaks_emptied, speaks_left, speaks_made, speaks_more}
-pub use Rattle.dom_observers.proofs.Speaking.{speaks_none, speaks_notified, speaks_observing, speaks_told}
+pub use Rattle.dom_observers.proofs.Speaking.{speaks_none, speaks_none_pending, speaks_notified, speaks_observing, speaks_telling, speaks_told}
 pub use Rattle.dom_ranges.proofs.EndsAfterCalls.{EachRange-weaker, fits-split, stand-at, stand-cleared, stand-made, stand-rewritten}
 pub use Rattle.dom_ranges.proofs.Lists.{cons_same}
 pub use Rattle.dom_ranges.proofs.Naming.{EachRange-ends, end-named, grown-named, insert-named, join-named, made-named, removal-named, removed-named}
@@ -93,17 +94,17 @@ pub use Rattle.dom_worlds.proofs.TreeLemmas.{times-map_nodes}
 pub use Rattle.dom_worlds.proofs.WorldLemmas.{each-part, Ground, ground-world_step, holds-world_after, IsKeptIn, part-own_step, root-alone}
 pub use Rattle.dom_base.specs.Owners.{has_word}
 pub use Rattle.dom_laws.specs.Siblings.{from_sibling}
-pub use Rattle.dom_mutation.specs.Definitions.{all_tables, AllTables, AreFirst, AreHostsOf, AreMadeBehind, AreNodes, AreNumbered, AreOwnRanges}
-pub use Rattle.dom_mutation.specs.Definitions.{AreRangesOf, AreReady, AreTablesOf, attached_of, attaching_refusal, component_named, Contents, contents}
-pub use Rattle.dom_mutation.specs.Definitions.{cutting_tail, DocState, document_in, documents_in, DropsNone, first_tables, forest_in, HasNodes, HasStill}
-pub use Rattle.dom_mutation.specs.Definitions.{HasStillAll, HasStillTables, host_names, host_owners, hosts_of, IsAlone, IsAttached, IsChild, IsDoc, IsDue}
-pub use Rattle.dom_mutation.specs.Definitions.{IsMadeAs, IsOwnIterator, IsOwnNode, IsOwnPart, IsOwnPoint, IsOwnWalker, IsReadFrom, IsReady, IsReadyPart}
-pub use Rattle.dom_mutation.specs.Definitions.{IsRuleOf, IsSettled, JoinsFit, KeepsPaths, made, maker_of, Makes, MakesSaying, MayCome, MayMove, MayStand}
-pub use Rattle.dom_mutation.specs.Definitions.{name_in, named_trees, NamesNodes, no_slots, NoneAbove, nothing_left, notice_in, notices_of}
-pub use Rattle.dom_mutation.specs.Definitions.{observing_of, outermost_root, owner_in, part_in, part_with, placed_all, planned, PlansOwn, putting_text, ranged}
-pub use Rattle.dom_mutation.specs.Definitions.{SetsOwnDocuments, shadows_in, shown_tables, signal_in, signals_in, state_from, stepped, Tables}
-pub use Rattle.dom_mutation.specs.Definitions.{tables_view, tables_with, tables_with_trees, trees_in, trees_with, with_live, with_observers, with_queue}
-pub use Rattle.dom_mutation.specs.Definitions.{with_table, with_tasks, world_from, world_of}
+pub use Rattle.dom_mutation.specs.Definitions.{after_telling, all_tables, AllTables, AreFirst, AreHostsOf, AreMadeBehind, AreNodes, AreNumbered}
+pub use Rattle.dom_mutation.specs.Definitions.{AreOwnRanges, AreRangesOf, AreReady, AreTablesOf, attached_of, attaching_refusal, change_in}
+pub use Rattle.dom_mutation.specs.Definitions.{component_named, Contents, contents, cutting_tail, DocState, document_in, documents_in, DropsNone}
+pub use Rattle.dom_mutation.specs.Definitions.{first_tables, forest_in, HasNodes, HasStill, HasStillAll, HasStillTables, host_names, host_owners, hosts_of}
+pub use Rattle.dom_mutation.specs.Definitions.{IsAlone, IsAttached, IsChild, IsDoc, IsDue, IsMadeAs, IsOwnIterator, IsOwnNode, IsOwnPart, IsOwnPoint}
+pub use Rattle.dom_mutation.specs.Definitions.{IsOwnWalker, IsReadFrom, IsReady, IsReadyPart, IsRuleOf, IsSettled, JoinsFit, KeepsPaths, made, maker_of}
+pub use Rattle.dom_mutation.specs.Definitions.{Makes, MakesSaying, MayCome, MayMove, MayStand, name_in, named_trees, NamesNodes, no_slots, none_pending}
+pub use Rattle.dom_mutation.specs.Definitions.{NoneAbove, nothing_left, notice_in, notices_of, observing_of, outermost_root, owner_in, part_in, part_with}
+pub use Rattle.dom_mutation.specs.Definitions.{placed_all, planned, PlansOwn, putting_text, ranged, SetsOwnDocuments, shadows_in, shown_tables, signal_in}
+pub use Rattle.dom_mutation.specs.Definitions.{signals_in, state_from, stepped, Tables, tables_view, tables_with, tables_with_trees, trees_in, trees_with}
+pub use Rattle.dom_mutation.specs.Definitions.{with_live, with_observers, with_queue, with_table, with_tasks, world_from, world_of}
 pub use Rattle.dom_mutation.specs.Documents.{roots_within, under_each}
 pub use Rattle.dom_mutation.specs.Signalled.{AreNames, AreSignals, HasStepped, signals_of}
 pub use Rattle.dom_mutation.specs.declared.node_trees.steps.NodeTrees.{NodeTrees}

@@ -7,10 +7,13 @@ use Rattle.dom_mutation.proofs.Cited.{Memory, TypeFault, Unknown, owner_eq, name
 use Rattle.dom_mutation.proofs.Cited.{an_observer, a_count, recorded, Part, queue_of, notified, part_of, with_part, is_there, Effect, NamedTrees, name_at}
 use Rattle.dom_mutation.proofs.Cited.{TellApart, TablesOf, with_observer, observing, disconnected, emptied, named_tables, named_change, IsKey, SpeaksOf}
 use Rattle.dom_mutation.proofs.Cited.{IsChangeAt, AreAll, change_of, notice_of, making_law, observing_law, disconnected_law, emptied_law, notified_law}
+use Rattle.dom_mutation.proofs.Cited.{none_pending_law, telling_law, queue-named, speaks_none_pending, speaks_telling, change_in, none_pending, after_telling}
+use Rattle.dom_mutation.proofs.Cited.{on_ok_weaker}
 use Rattle.dom_mutation.proofs.Cited.{notices_law, speaks_none, speaks_made, speaks_observing, speaks_disconnected, speaks_emptied, speaks_notified, all_queued}
 use Rattle.dom_mutation.proofs.Cited.{all_got, AllTables, with_observers, DocState, owner_in, world_from, state_from, IsDoc, Makes}
 use Rattle.dom_mutation.proofs.Cited.{MakesSaying, NamesNodes, notice_in, notices_of}
-use Rattle.dom_observers.specs.Definitions.{no_tables as no_observers, notices as keyed_notices, notified as keyed_notified}
+use Rattle.dom_observers.specs.Definitions.{no_tables as no_observers, notices as keyed_notices, notified as keyed_notified, queue_at}
+use Rattle.dom_observers.specs.Definitions.{none_pending as keyed_none_pending, after_telling as keyed_after_telling}
 use Rattle.dom_observers.specs.declared.change.Change.{Change as Record}
 use Rattle.dom_mutation.proofs.DocInvariant.{held_observers}
 use Rattle.dom_mutation.proofs.Observed.{with_seen, has_observer, there_observer, queues_in, part_seen, held_seen, makes_seen, seen_world}
@@ -182,6 +185,70 @@ module _ (f : NamedTrees) {tables : AllTables} (held : IsDoc f.names f.trees tab
         (all_noticed (IsChangeAt (IsKey f.names)) list
         (subst (AreAll (λ (n : Notice ℕ). AreAll (IsChangeAt (IsKey f.names)) n.1)) (sym is)
         (each_queued (IsChangeAt (IsKey f.names)) (tables.observers o).record_queues (held.speaks o).records (tables.observers o).pending)))
+
+    -- pending observers that are taken
+    pending_is : (tables.observers o).pending ≡ (part_of d.world o).pending
+    pending_is =
+        subst (λ (e : DocState). (tables.observers o).pending ≡ (part_of e.world o).pending) is_d
+        (ap (λ (p : Part). p.pending) (sym (part_seen f.names f.trees tables held o there)))
+
+    module _ {T E : Type 0} (r : Result T E) where
+      pub pending_held : OnErr r ((q : Owner) → seen q ≡ tables.observers q) →
+          OnOk r ((q : Owner) → seen q ≡ (if owner_eq o q then keyed_none_pending (tables.observers o) else tables.observers q)) →
+          IsDoc f.names f.trees (with_observers tables seen)
+      pending_held = by r
+        where
+          by : (r : Result T E) → OnErr r ((q : Owner) → seen q ≡ tables.observers q) →
+              OnOk r ((q : Owner) → seen q ≡ (if owner_eq o q then keyed_none_pending (tables.observers o) else tables.observers q)) →
+              IsDoc f.names f.trees (with_observers tables seen)
+          by (Ok n) was is = held_then there (keyed_none_pending (tables.observers o)) seen is
+              (speaks_none_pending (IsKey f.names) (tables.observers o) (held.speaks o))
+          by (Err e) was is = same_held seen was
+
+      pub pending_world : OnOk r ((q : Owner) → seen q ≡ (if owner_eq o q then keyed_none_pending (tables.observers o) else tables.observers q)) →
+          OnOk r (world_from f.names f.trees (with_observers tables seen) ≡ with_part d.world (none_pending (part_of d.world o)))
+      pending_world = on_ok_weaker r (λ is.
+          subst (λ (e : DocState). world_from f.names f.trees (with_observers tables seen) ≡ with_part e.world (none_pending (part_of e.world o))) is_d
+          (seen_world f.names f.trees tables held o there (keyed_none_pending (tables.observers o)) seen is
+          (none_pending (part_of (world_from f.names f.trees tables) o))
+          (ap (with_seen f.names f.trees tables held o) (none_pending_law f.names (tables.observers o)) ∙
+          ap (λ (p : Part). none_pending p) (sym (part_seen f.names f.trees tables held o there)))))
+
+    pub pending_numbers : {Z E : Type 0} (r : Result (Vec ℕ Z) E) → IfOk r (λ v. v.items ≡ (tables.observers o).pending) →
+        IfOk r (λ v. v.items ≡ (part_of d.world o).pending)
+    pending_numbers r = subst (λ ks. IfOk r (λ v. v.items ≡ ks)) pending_is
+
+    -- an observer that is told
+    module _ (k : ℕ) where
+      pub telling_held : ((q : Owner) → seen q ≡ (if owner_eq o q then keyed_after_telling k (tables.observers o) else tables.observers q)) →
+          IsDoc f.names f.trees (with_observers tables seen)
+      telling_held is = held_then there (keyed_after_telling k (tables.observers o)) seen is
+          (speaks_telling (IsKey f.names) k (tables.observers o) (held.speaks o))
+
+      pub telling_world : ((q : Owner) → seen q ≡ (if owner_eq o q then keyed_after_telling k (tables.observers o) else tables.observers q))
+          → world_from f.names f.trees (with_observers tables seen) ≡ with_part d.world (after_telling k (part_of d.world o))
+      telling_world is =
+          subst (λ (e : DocState). world_from f.names f.trees (with_observers tables seen) ≡ with_part e.world (after_telling k (part_of e.world o))) is_d
+          (seen_world f.names f.trees tables held o there (keyed_after_telling k (tables.observers o)) seen is
+          (after_telling k (part_of (world_from f.names f.trees tables) o))
+          (ap (with_seen f.names f.trees tables held o) (telling_law f.names k (tables.observers o)) ∙
+          ap (after_telling k) (sym (part_seen f.names f.trees tables held o there))))
+
+      module _ (rs : List Record) (got : map change_of rs ≡ queue_at (tables.observers o).record_queues k) where
+        pub telling_records : map (change_in d) rs ≡ queue_of (part_of d.world o).record_queues k
+        telling_records =
+            subst (λ (e : DocState). map (change_in e) rs ≡ queue_of (part_of e.world o).record_queues k) is_d
+            (sym (map_twice change_of (named_change (name_at f.names)) rs)
+            ∙ (ap (map (named_change (name_at f.names))) got
+            ∙ (sym (queue-named f.names (tables.observers o).record_queues k)
+            ∙ ap (λ (p : Part). queue_of p.record_queues k) (sym (part_seen f.names f.trees tables held o there)))))
+
+        pub telling_nodes : AllByRecursion (NamesNodes d) rs
+        telling_nodes =
+            subst (λ (e : DocState). AllByRecursion (NamesNodes e) rs) is_d
+            (all_mapped change_of (IsChangeAt (IsKey f.names)) rs
+            (subst (AreAll (IsChangeAt (IsKey f.names))) (sym got)
+            (all_queued (IsChangeAt (IsKey f.names)) (tables.observers o).record_queues k (held.speaks o).records)))
 
   -- ---- the commands on an observer that is there
 

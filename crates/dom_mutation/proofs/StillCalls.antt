@@ -4,7 +4,7 @@ use Rattle.dom_mutation.proofs.Cited.{get_or-append_seam, length-append, NodeNam
 use Rattle.dom_mutation.proofs.Cited.{empty_part, next_name, Step, make, Trees, Node, kind_of, has_node, with_name, notified, World, find_part, part_of}
 use Rattle.dom_mutation.proofs.Cited.{with_part, is_there, component_made, world_after, owner-part_of, part_of-stepped, AllNodes, absent-any, next-absent}
 use Rattle.dom_mutation.proofs.Cited.{each-part, nodes-with_node, DocState, MakesSaying, made, name_in, owner_in, trees_in, HasNodes, HasStillAll, DropsNone}
-use Rattle.dom_mutation.proofs.Cited.{name_at}
+use Rattle.dom_mutation.proofs.Cited.{name_at, none_pending, after_telling}
 use Rattle.dom_model.proofs.Model.{stepped}
 use Rattle.dom_mutation.proofs.StillEffects.{KeepsTables, KeepsEffect, effect-still}
 use Rattle.dom_mutation.proofs.StillParts.{IsKindAt, kind-kept, kind-read, still-each, tables-same, tables-then}
@@ -97,6 +97,35 @@ module _ (was now : DocState) (e : now.names ≡ was.names) where
           iterators = λ k h. h;
           walkers = λ k h. h;
           observers = still-each (λ queues k. []) p.pending p.record_queues;
+        };
+      }) (λ q. tables-kept (part_of was.world q))))
+
+  -- After the pending observers of an owner were taken.
+  pub still-pending : (o : Owner) → now.world ≡ with_part was.world (none_pending (part_of was.world o)) → HasStillAll was now
+  still-pending o m =
+      let p = part_of was.world o in
+      still-tables
+      (subst (λ (w : World). (q : Owner) → KeepsTables (part_of was.world q) (part_of w q)) (sym m)
+      (each-part (λ q r. KeepsTables (part_of was.world q) r) was.world (none_pending p) o (owner-part_of was.world o)
+      (record {
+        trees = refl;
+        tables = record { ranges = λ k h. h; iterators = λ k h. h; walkers = λ k h. h; observers = λ k h. h };
+      }) (λ q. tables-kept (part_of was.world q))))
+
+  -- After one observer was told.
+  pub still-telling : (o : Owner) (n : ℕ) → now.world ≡ with_part was.world (after_telling n (part_of was.world o)) → HasStillAll was now
+  still-telling o n m =
+      let p = part_of was.world o in
+      still-tables
+      (subst (λ (w : World). (q : Owner) → KeepsTables (part_of was.world q) (part_of w q)) (sym m)
+      (each-part (λ q r. KeepsTables (part_of was.world q) r) was.world (after_telling n p) o (owner-part_of was.world o)
+      (record {
+        trees = refl;
+        tables = record {
+          ranges = λ k h. h;
+          iterators = λ k h. h;
+          walkers = λ k h. h;
+          observers = still-each (λ queues k. []) (n ∷ []) p.record_queues;
         };
       }) (λ q. tables-kept (part_of was.world q))))
 

@@ -1,6 +1,6 @@
 -- What a contract sees of a `Doc`: the names of its nodes by their keys, and what it holds of the world.
 use Rattle.std.specs.Prelude.{◌≡◌, ℕ, ◌+◌, ◌<◌, ◌≤◌, nat_lt, true, false, Bool, not, ◌||◌, ◌&&◌, List, [], ◌∷◌, map, length, Vec, Option, Some, None}
-use Rattle.std.specs.Prelude.{option_map, if◌then◌else◌}
+use Rattle.std.specs.Prelude.{option_map, slice_set, if◌then◌else◌}
 use Rattle.std.specs.List.{AllByRecursion}
 use Rattle.std.specs.Option.{ForSome}
 use Rattle.dom_base.specs.declared.Owner.{Owner}
@@ -16,6 +16,7 @@ use Rattle.dom_model.specs.Names.{DomString, Word, name_eq, is_empty, is_in, is_
 use Rattle.dom_model.specs.Tree.{Trees, none, node_in, kind_of, is_document, has_data, children_of, parent_of, length_of, inclusive_ancestors}
 use Rattle.dom_model.specs.Tree.{is_element, is_inclusive_ancestor}
 use Rattle.dom_model.specs.Part.{Part, empty_part, next_name, queue_of}
+use Rattle.dom_model.specs.Observers.{without_transients}
 use Rattle.dom_model.specs.Steps.{Step, queue_record}
 use Rattle.dom_model.specs.World.{World, Task, micro_task, notify_task, part_of, with_part, is_there}
 use Rattle.dom_model.specs.Command.{Command, effect}
@@ -152,6 +153,14 @@ notice_in d n = (n.0, map (change_in d) n.1.items)
 -- the pending observers with their records, in order (DOM Standard, concept: notify mutation observers)
 abbrev pub notices_of : Part → List (ℕ × List (Change NodeName))
 notices_of p = map (λ k. (k, queue_of p.record_queues k)) p.pending
+
+-- no observer is pending (DOM Standard, concept: notify mutation observers)
+abbrev pub none_pending : Part → Part
+none_pending p = record p { pending = [] }
+
+-- an observer's queue emptied, and its transient registrations gone (DOM Standard, concept: notify mutation observers)
+abbrev pub after_telling : ℕ → Part → Part
+after_telling k p = record p { record_queues = slice_set p.record_queues k []; registrations = without_transients (k ∷ []) p.registrations }
 
 -- the nodes of a record are nodes
 abbrev pub NamesNodes : DocState → KeyedChange → Type 0

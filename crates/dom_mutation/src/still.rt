@@ -12,15 +12,15 @@ ghost use Rattle.dom_model.specs.Steps.{make};
 ghost use Rattle.dom_model.specs.Tree.{Node, kind_of};
 ghost use Rattle.dom_model.specs.Turns.{notified};
 ghost use Rattle.dom_model.specs.World.{World, part_of, with_part, is_there, component_made};
-ghost use Rattle.dom_mutation.specs.Doc.{DocState, Makes, MakesSaying, made, name_in, owner_in, trees_in};
+ghost use Rattle.dom_mutation.specs.Doc.{DocState, Makes, MakesSaying, after_telling, made, name_in, none_pending, owner_in, trees_in};
 ghost use Rattle.dom_mutation.specs.Still.{HasNodes, HasStillAll, DropsNone};
 
 /// Whatever call changes a `Doc`, its nodes keep their keys, their names and so their owners, and their kinds; and each owner's live
 /// ranges, iterators, walkers and observers are still there (own rule). So it is after each
 /// call whose clause says that the world is the one that an owner's plan makes (`plans`): new nodes, insertions, removals and the operations
 /// on live ranges; after each that changes an owner's tables alone (`tables`), but where a live range is dropped; after `attach`, whose
-/// component is a new one (`attached`); after `notify` (`notified`), and where no part changes (`parts`); and so it is after one call and
-/// the next (`next`).
+/// component is a new one (`attached`); after `notify` (`notified`), `take_pending` (`pending`) and `tell` (`telling`), and where no part
+/// changes (`parts`); and so it is after one call and the next (`next`).
 pub fn law_still()
     ensures plans { (was now : DocState) (o : OwnerOf) (plan : Plan) (more : List Name) → HasNodes was → HasNodes now →
         now.names ≡ was.names ++ more → now.world ≡ made o plan was.world → HasStillAll was now }
@@ -32,6 +32,10 @@ pub fn law_still()
         HasStillAll was now }
     ensures notified { (was now : DocState) (o : OwnerOf) → now.names ≡ was.names →
         now.world ≡ with_part was.world (notified (part_of was.world o)) → HasStillAll was now }
+    ensures pending { (was now : DocState) (o : OwnerOf) → now.names ≡ was.names →
+        now.world ≡ with_part was.world (none_pending (part_of was.world o)) → HasStillAll was now }
+    ensures telling { (was now : DocState) (o : OwnerOf) (k : ℕ) → now.names ≡ was.names →
+        now.world ≡ with_part was.world (after_telling k (part_of was.world o)) → HasStillAll was now }
     ensures parts { (was now : DocState) → now.names ≡ was.names → now.world.parts ≡ was.world.parts → HasStillAll was now }
     ensures next { (a b c : DocState) → HasStillAll a b → HasStillAll b c → HasStillAll a c }
 {}

@@ -5,11 +5,13 @@ ghost use Rattle.dom_base.specs.declared.Refusal.TheVariants.{Limit, TypeFault};
 ghost use Rattle.dom_model.specs.Command.{Command, own};
 ghost use Rattle.dom_model.specs.Observers.{options_of, asks_for_nothing};
 ghost use Rattle.dom_model.specs.Output.{nothing, an_observer, a_count, recorded};
+ghost use Rattle.dom_model.specs.Part.{queue_of};
 ghost use Rattle.dom_model.specs.Turns.{notified};
 ghost use Rattle.dom_model.specs.World.{part_of, with_part, is_there};
 ghost use Rattle.dom_model.specs.CommandRefusals.{past_limit};
 ghost use Rattle.dom_observers.specs.Views.{words_of};
-ghost use Rattle.dom_mutation.specs.Doc.{name_in, owner_in, change_in, notice_in, notices_of, NamesNodes, Makes, MakesSaying, HoldsNode};
+ghost use Rattle.dom_mutation.specs.Doc.{name_in, owner_in, change_in, notice_in, notices_of, none_pending, after_telling, NamesNodes};
+ghost use Rattle.dom_mutation.specs.Doc.{Makes, MakesSaying, HoldsNode};
 
 use crate::Doc;
 use crate::parts::give_up_observers;
@@ -25,6 +27,14 @@ impl Doc {
     {
         let parts = &self.parts;
         parts.observers.has(owner, number)
+    }
+
+    /// How many observers an owner has made.
+    pub fn observer_count(&self, owner: Owner) -> usize
+        ensures { result ≡ length (part_of self.now.world owner).record_queues }
+    {
+        let parts = &self.parts;
+        parts.observers.count(owner)
     }
 
     /// Adds an observer of an owner, and gives its number (DOM Standard, constructor of MutationObserver). It is refused
@@ -97,6 +107,34 @@ impl Doc {
             unreachable!()
         };
         records
+    }
+
+    /// Empties an owner's set of pending observers, and gives their numbers, in the order in which they became pending (DOM Standard,
+    /// notify mutation observers). Where memory is refused, nothing changes.
+    /// It asks that the owner is there: `is_there` is the test.
+    pub fn take_pending(&mut self, owner: Owner) -> Result<Vec<u32>, AllocError>
+        requires { is_there self.old.world owner ≡ true }
+        ensures names { self.new.names ≡ self.old.names }
+        ensures numbers { IfOk result (λ numbers. numbers.items ≡ (part_of self.old.world owner).pending) }
+        ensures world { OnOk result (self.new.world ≡ with_part self.old.world (none_pending (part_of self.old.world owner))) }
+        ensures err { OnErr result (self.new ≡ self.old) }
+    {
+        let parts = &mut self.parts;
+        parts.observers.take_pending(owner)
+    }
+
+    /// Empties the record queue of an owner's observer, and gives the records in it, in order; the observer's transient registrations are
+    /// then gone (DOM Standard, notify mutation observers). There are none of an observer that is not there.
+    /// It asks that the owner is there: `is_there` is the test.
+    pub fn tell(&mut self, owner: Owner, number: u32) -> Vec<Record>
+        requires { is_there self.old.world owner ≡ true }
+        ensures names { self.new.names ≡ self.old.names }
+        ensures records { map (change_in self.old) result.items ≡ queue_of (part_of self.old.world owner).record_queues number }
+        ensures nodes { AllByRecursion (NamesNodes self.old) result.items }
+        ensures world { self.new.world ≡ with_part self.old.world (after_telling number (part_of self.old.world owner)) }
+    {
+        let parts = &mut self.parts;
+        parts.observers.tell(owner, number)
     }
 
     /// Empties an owner's set of pending observers, and gives each with the records of its queue, in order; their queues

@@ -1,4 +1,5 @@
-use Rattle.dom_mutation.proofs.StillCalls.{still-plan, still-attaching, still-makes, still-notified, still-parts, still-then}
+use Rattle.dom_mutation.proofs.StillCalls.{still-plan, still-attaching, still-makes, still-notified, still-pending, still-telling}
+use Rattle.dom_mutation.proofs.StillCalls.{still-parts, still-then}
 use Rattle.dom_mutation.proofs.still.law_still.Goals as goal
 
 pub returns-clause-plans : goal.returns-clause-plans
@@ -13,6 +14,12 @@ returns-clause-attached c = λ was now host more h g e w fresh. still-attaching 
 
 pub returns-clause-notified : goal.returns-clause-notified
 returns-clause-notified c = λ was now o e m. still-notified was now e o m
+
+pub returns-clause-pending : goal.returns-clause-pending
+returns-clause-pending c = λ was now o e m. still-pending was now e o m
+
+pub returns-clause-telling : goal.returns-clause-telling
+returns-clause-telling c = λ was now o k e m. still-telling was now e o k m
 
 pub returns-clause-parts : goal.returns-clause-parts
 returns-clause-parts c = still-parts
