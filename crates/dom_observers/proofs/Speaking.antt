@@ -4,7 +4,7 @@ use Rattle.dom_base.proofs.Std.{◌≡◌, ℕ, zero, suc, Bool, true, false, no
 use Rattle.dom_base.proofs.Std.{nat_eq, slice_get, slice_set, option_map, unwrap_or, if◌then◌else◌, fold, filter, list_any, ForSome}
 use Rattle.dom_model.proofs.Model.{is_in, ObserveWords, Change, child_list, attributes, character_data, Registration, Source, asked_for, copied_from}
 use Rattle.dom_model.proofs.Model.{copied_from_transient, is_transient, without_old, registrations_on, record_for, interested, transients_for, copied_source}
-use Rattle.dom_model.proofs.Model.{options_of, is_asked_for, stems_from, with_options, with_registration, fitting, asks_for_old}
+use Rattle.dom_model.proofs.Model.{options_of, is_asked_for, stems_from, with_options, with_registration, without_transients, fitting, asks_for_old}
 use Rattle.dom_observers.specs.Definitions.{TablesOf, no_tables, queue_at, with_observer, emptied, disconnected, observing, told, left, notified}
 use Rattle.dom_observers.specs.Definitions.{none_pending, after_telling, named_change, named_source, named_registration, named_tables}
 use Rattle.dom_observers.specs.Definitions.{IsSourceOf, AreRegistered, AreAll, IsChangeAt, SpeaksOf}
