@@ -12,7 +12,7 @@ LENGTHS = {"docs/ARCHITECTURE.md": 2200, "docs/DECISIONS.md": 4800, "docs/GATE.m
 PLAIN = ("README.md", "CONTRIBUTING.md", "SECURITY.md", "CHANGELOG.md", "bindings/README.md", "examples/README.md", "harness/README.md",
          *(f"docs/{name}.md" for name in ("ADDING-A-COMMAND", "ARCHITECTURE", "BROWSERS", "CRATES", "DECISIONS", "FROM-JAVASCRIPT",
                                           "FROM-PYTHON", "GATE", "GLOSSARY", "ISOLATION", "LOOK", "MOUNTING", "PERFORMANCE", "PROTOCOL",
-                                          "PROVED", "TUTORIAL")))
+                                          "PROVED", "TUTORIAL", "WRONG-DEFINITIONS")))
 CODE = re.compile(r"^```.*?^```|^ {4,}\S.*?$(?=\n\n|\n {4}|\Z)", re.MULTILINE | re.DOTALL)
 LINK = re.compile(r"\]\([^)]*\)")
 ITEM = re.compile(r"\n(?=\s*[-*] |\s*\d+\. |#|\|)")
