@@ -13,7 +13,7 @@ from machine import full_trace  # noqa: E402
 
 WIDE, APART, LEFT, TOP, DOWN = 322, 34, 18, 64, 19
 SAID = ("Two scripts with the same lines of the page and other lines of a component. Their full traces are the same: the lines of the "
-        "page, one click that leaves the closed tree, and how far the component lets the page's own click come. So the page is told the "
+        "page, one click that leaves the closed tree, and where the component stops the page's own click. So the page receives the "
         "same.")
 
 
@@ -23,21 +23,21 @@ def script_of(name):
         return file.read().splitlines()
 
 
-def far(reached):
-    """How far an event came."""
-    return "all the way" if reached is None else f"{reached} visits far"
+def stopped(reached):
+    """Where others stopped an event."""
+    return "others do not stop it" if reached is None else f"others stop it after visit {reached} at the page's nodes"
 
 
 def item_texts(item):
     """What the picture says of an item of a full trace: texts, each with its look."""
     if item[0] == "line":
-        records = [f"others let it come {far(record.reached)}, and {'cancel it' if record.cancelled else 'do not cancel it'}"
-                   for record in item[2]]
+        records = [text for record in item[2]
+                   for text in (f"{stopped(record.reached)},", "and cancel it" if record.cancelled else "and do not cancel it")]
         return [(item[1], "mono page"), *((record, "small third") for record in records)]
     _, (_, number), event, reached = item
     words = ", ".join(word for word in ("bubbles", "cancelable") if getattr(event, word))
     return [(f"a {event.type} leaves the closed tree at n{number}", "small third strong"),
-            (f"{words}; others let it come {far(reached)}", "small third")]
+            (f"{words}; {stopped(reached)}", "small third")]
 
 
 def column(number, title, texts):
@@ -70,7 +70,7 @@ def worlds_picture():
     events = [line for line in told if line.startswith("p event")]
     heard = [(f"{len(told) - len(events)} replies, the last one {told[-1]}", "small"), *((line, "mono page") for line in events)]
     width = 3 * WIDE + 2 * APART
-    parts += [svg.text(LEFT + 2, below, "what the page is told, in both", "strong"),
+    parts += [svg.text(LEFT + 2, below, "what the page receives, in both", "strong"),
               svg.box(LEFT, below + 10, width, DOWN * len(heard) + 16)]
     parts += [svg.text(LEFT + 12, below + 31 + DOWN * at, words, look) for at, (words, look) in enumerate(heard)]
     parts.append(svg.text(LEFT + 2, 28, "Two worlds that the page can't tell apart", "strong"))
