@@ -2,3 +2,4 @@ mod Options
 mod Lasts
 mod Places
 mod Giving
+mod Seeing

@@ -25,6 +25,10 @@ use Rattle.dom_calls.specs.Owners.{owner_in, named_in, node_option}
 abbrev pub span_in : DomSpan → Span
 span_in s = record { at = s.at; count = s.count }
 
+-- no part of an array
+abbrev pub no_part : Span
+no_part = record { at = 0; count = 0 }
+
 -- an attribute
 abbrev pub attribute_in : DomAttribute → AttributeSpans
 attribute_in a = record { name = span_in a.name; value = span_in a.value }

@@ -8,3 +8,4 @@ pub mod Arrays
 pub mod Statuses
 pub mod Lending
 pub mod Calls
+pub mod Looks

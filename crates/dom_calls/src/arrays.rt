@@ -2,12 +2,14 @@
 
 ghost use Rattle.std.specs.Prelude.{◌≡◌, IfSome, OnOk, [], map};
 ghost use Rattle.dom_calls.specs.Arrays.{attribute_in, kind_numbered, last_or_zero, nodes_opened, parents_after, row_in, span_in};
+ghost use Rattle.dom_calls.specs.Looks.{bare_row, parents_row};
 ghost use Rattle.dom_calls.specs.Owners.{named_in};
 
 use crate::owners::{narrowed, node_of};
 use crate::structs::{DomAttribute, DomNode, DomRow, DomSpan};
 use dom_answers::{AttributeSpans, NodeRow, Row, Span};
 use dom_base::{Fault, Kind, NodeName, Owner};
+use dom_engine::StructureRow;
 use std::alloc::Global;
 
 /// A part of an array as C has it.
@@ -74,7 +76,7 @@ fn kind_number(kind: Kind) -> u32
 }
 
 /// A node's row, with the row of its parent.
-fn row_of(owners: &[Owner], row: &NodeRow, parent: u32) -> Option<DomRow>
+pub(crate) fn row_of(owners: &[Owner], row: &NodeRow, parent: u32) -> Option<DomRow>
     ensures row { IfSome result (λ made. row_in owners.now made ≡ row.now) }
     ensures parent { IfSome result (λ made. made.parent ≡ parent) }
 {
@@ -122,6 +124,38 @@ pub(crate) fn put_rows(
                 above.pop();
             }
         }
+    }
+    Ok(())
+}
+
+/// A node of a structure, without what it has itself. The first node has the parent's row 0.
+fn bare_of(owners: &[Owner], row: &StructureRow) -> Option<DomRow>
+    ensures row { IfSome result (λ made. row_in owners.now made ≡ bare_row row.now) }
+    ensures parent { IfSome result (λ made. made.parent ≡ parents_row row.now) }
+{
+    let nothing = Span { at: 0, count: 0 };
+    let bare = NodeRow {
+        name: row.node,
+        kind: row.kind,
+        element: nothing,
+        attributes: nothing,
+        text: nothing,
+    };
+    row_of(owners, &bare, narrowed(row.parent.unwrap_or(0))?)
+}
+
+/// Puts the rows of a structure in place of what an array holds.
+pub(crate) fn put_structure(
+    out: &mut Vec<DomRow>,
+    owners: &[Owner],
+    rows: &[StructureRow],
+) -> Result<(), Fault>
+    ensures nodes { OnOk result (map (row_in owners.now) out.new.items ≡ map bare_row rows.now) }
+    ensures parents { OnOk result (map (λ row. row.parent) out.new.items ≡ map parents_row rows.now) }
+{
+    out.clear();
+    for row in rows {
+        out.push(bare_of(owners, row).ok_or(Fault::Memory)?)?;
     }
     Ok(())
 }

@@ -22,7 +22,7 @@ use std::marker::Model;
 /// every call answers `Memory`.
 #[derive(Drop)]
 pub struct Held {
-    document: Document,
+    pub(crate) document: Document,
     pub(crate) answer: Answer,
     pub(crate) has_reply: bool,
     pub(crate) owners: Vec<Owner>,
@@ -187,7 +187,7 @@ impl Held {
 }
 
 /// How the answer of a call ends: with a reply, or a refusal. None if it does not end so.
-fn ending_of(answer: &Answer) -> Option<Result<Reply, Fault>>
+pub(crate) fn ending_of(answer: &Answer) -> Option<Result<Reply, Fault>>
     ensures { EndsSo answer.now result }
 {
     match answer.last() {

@@ -11,6 +11,7 @@ mod commands;
 mod document;
 mod held;
 mod lending;
+mod looks;
 mod observing;
 mod owners;
 mod place;
@@ -30,4 +31,6 @@ pub use commands::{
 };
 pub use document::{CLOSED, DONE, DomDocument, MEMORY, OPEN, UNKNOWN};
 pub use observing::observe;
-pub use structs::{DomAnswer, DomAttribute, DomDelivery, DomNode, DomPoint, DomRow, DomSpan, NONE};
+pub use structs::{
+    DomAnswer, DomAttribute, DomDelivery, DomLinks, DomNode, DomPoint, DomRow, DomSpan, NONE,
+};

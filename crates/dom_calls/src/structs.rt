@@ -14,6 +14,17 @@ pub const NONE: DomNode = DomNode {
     number: 0,
 };
 
+/// The nodes around a node: its parent, its first and last child, and its previous and next sibling. What is not there is `NONE`.
+#[repr(C)]
+#[derive(Clone, Copy)]
+pub struct DomLinks {
+    pub parent: DomNode,
+    pub first: DomNode,
+    pub last: DomNode,
+    pub previous: DomNode,
+    pub next: DomNode,
+}
+
 /// A boundary point of a range: a node, and an offset in children or code units.
 #[repr(C)]
 #[derive(Clone, Copy)]
