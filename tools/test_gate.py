@@ -82,7 +82,7 @@ pub extern "C" fn dom_put(
 """
     HEADER = """    OWLANTIMONY_DONE = 0,
     OWLANTIMONY_NULL = 6
-uint32_t dom_put(owlantimony_session *session, const uint16_t *units, size_t units_size, bool is_last,
+uint32_t dom_put(owlantimony_session *session, const uint16_t *units, size_t unit_count, bool is_last,
                  const uint8_t **at);
 """
 
@@ -103,6 +103,15 @@ uint32_t dom_put(owlantimony_session *session, const uint16_t *units, size_t uni
         exports = self.EXPORTS + '#[unsafe(no_mangle)]\npub extern "C" fn dom_call(f: fn(u32)) -> u32\n'
         self.assertEqual(list(DECLARATIONS.differences(exports, self.HEADER)), ["2 functions are exported, and 1 are read"])
         self.assertRaises(DECLARATIONS.Unknown, DECLARATIONS.exported, self.EXPORTS.replace("&[u16]", "&[Word]"))
+
+    def test_each_other_member_of_a_structure_is_told(self) -> None:
+        kinds = "pub struct DomPart {\n    pub node: DomNode,\n    pub at: *const u16,\n    pub flags: u32,\n    pub count: u32,\n}\n"
+        header = ("typedef struct owl_part {\n    owl_node node; /* a node; it is one */\n"
+                  "    const uint16_t *at;\n    uint32_t flags, count;\n} owl_part;\n")
+        self.assertEqual(list(DECLARATIONS.typed_differences("", kinds, header)), [])
+        members = (("owl_node", "owl_point"), ("const uint16_t", "uint16_t"), ("flags, count", "count, flags"), ("flags, ", ""))
+        for old, new in (*members, ("owl_part", "owl_row")):
+            self.assertEqual(len(list(DECLARATIONS.typed_differences("", kinds, header.replace(old, new)))), 1, old)
 
 
 class Build(unittest.TestCase):

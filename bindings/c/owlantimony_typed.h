@@ -2,7 +2,9 @@
  * Owlantimony by typed calls: nodes by number, strings by code units, answers in arrays. No line of the protocol stands in between. C99, and C++
  * may include it, but not beside owlantimony_dom.h.
  *
- * The library does not export these calls yet. Until it does, bindings/standin implements them without a proof, for the tests of the bindings.
+ * The library exports these calls. It makes nothing live yet: a listener with OWL_LIVE, and an observer or a microtask that is to be live, is
+ * NOT_SUPPORTED, no call answers OWL_CALL, and no callback is ever under way. bindings/standin has what is live, without a proof, for the tests of the
+ * bindings.
  *
  *     owl_document document = OWL_DOCUMENT_INIT;
  *     owl_node root = {OWL_PAGE, 0}, div;
@@ -98,6 +100,7 @@ typedef struct owl_node {
 /* What stands for no node. */
 static const owl_node OWL_NONE = {UINT32_MAX, 0};
 
+/* The nodes around a node: its parent, its first and last child, and its previous and next sibling. */
 typedef struct owl_links {
     owl_node parent, first, last, previous, next;
 } owl_links;
@@ -161,7 +164,7 @@ typedef struct owl_delivery {
     uint32_t kind;
     uint32_t owner;  /* whose it is */
     uint32_t number; /* an event's phase: 1 on the way in, 2 at a target, 3 on the way out; a record's observer */
-    uint32_t flags;  /* of an event: BUBBLES, CANCELABLE, COMPOSED, and PREVENTED where it was cancelled before this */
+    uint32_t flags;  /* of a live event: BUBBLES, CANCELABLE, COMPOSED, and PREVENTED where it was cancelled before this */
     owl_node target, current, related; /* a record has a target alone */
     owl_node previous, next;           /* of CHILD_LIST */
     owl_span label;                    /* of the bytes: of an event and a microtask */
@@ -278,14 +281,16 @@ uint32_t dom_assigned(owl_document *document, uint32_t owner, owl_node slot, con
 /* Leaves the node and all below it as rows of the answer, in tree order. */
 uint32_t dom_rows(owl_document *document, uint32_t owner, owl_node node);
 
-/* The same without names, data and attributes. */
-uint32_t dom_structure(owl_document *document, uint32_t owner, owl_node node);
+/* ---- looks: reads that no line of the protocol asks for. They are refused as dom_parent is */
 
-/* Writes the five neighbours of a node. */
+/* Writes the five nodes around a node. */
 uint32_t dom_links(owl_document *document, uint32_t owner, owl_node node, owl_links *links);
 
-/* Writes what a node has itself, as a row. */
+/* Writes what a node has itself, as a row whose spans lie in the arrays of the answer. */
 uint32_t dom_describe(owl_document *document, uint32_t owner, owl_node node, owl_row *row);
+
+/* Lends the node and all below it as rows, in tree order, without names, data and attributes. */
+uint32_t dom_structure(owl_document *document, uint32_t owner, owl_node node, const owl_row **rows, size_t *row_count);
 
 /* ---- selectors */
 
@@ -318,7 +323,7 @@ uint32_t dom_walker_create(owl_document *document, uint32_t owner, owl_node root
                            size_t name_size, uint32_t *walker);
 
 /* SYNTAX: no OWL_MOVE. From outside the root's tree, and where the move leads nowhere, it stays, and *node is OWL_NONE. */
-uint32_t dom_walker_move(owl_document *document, uint32_t owner, uint32_t walker, uint32_t move, owl_node *node);
+uint32_t dom_walker_move(owl_document *document, uint32_t owner, uint32_t walker, uint32_t step, owl_node *node);
 uint32_t dom_walker_current(owl_document *document, uint32_t owner, uint32_t walker, owl_node *node);
 uint32_t dom_walker_set(owl_document *document, uint32_t owner, uint32_t walker, owl_node node);
 
@@ -326,16 +331,16 @@ uint32_t dom_walker_set(owl_document *document, uint32_t owner, uint32_t walker,
 
 /* Adds a listener, known by its node, type, label and whether it has CAPTURE: a second one with these does nothing. SYNTAX: an action or flags that are none,
  * a type or a label that is none. */
-uint32_t dom_listen(owl_document *document, uint32_t owner, owl_node node, const uint8_t *type, size_t type_size, const uint8_t *label,
+uint32_t dom_listen(owl_document *document, uint32_t owner, owl_node node, const uint8_t *event, size_t event_size, const uint8_t *label,
                     size_t label_size, uint32_t action, uint32_t flags);
 
 /* Removes it, if it is there, also from an event under way. */
-uint32_t dom_unlisten(owl_document *document, uint32_t owner, owl_node node, const uint8_t *type, size_t type_size, const uint8_t *label,
+uint32_t dom_unlisten(owl_document *document, uint32_t owner, owl_node node, const uint8_t *event, size_t event_size, const uint8_t *label,
                       size_t label_size, uint32_t flags);
 
 /* Fires an event, with BUBBLES, CANCELABLE, COMPOSED and a related node or OWL_NONE. OK: it is over, and *truth is false exactly where it was cancelled.
  * CALL: a callback is due. TYPE: a component's related node has another root than the target. */
-uint32_t dom_dispatch(owl_document *document, uint32_t owner, owl_node node, const uint8_t *type, size_t type_size, uint32_t flags,
+uint32_t dom_dispatch(owl_document *document, uint32_t owner, owl_node node, const uint8_t *event, size_t event_size, uint32_t flags,
                       owl_node related, bool *truth);
 
 /* ---- observers and microtasks */

@@ -142,6 +142,7 @@ static void reads_answer(uint32_t who, owl_node node, uint32_t status)
     const uint16_t *units = UNITS;
     owl_links links = {UNWRITTEN, UNWRITTEN, UNWRITTEN, UNWRITTEN, UNWRITTEN};
     owl_row row = {.node = UNWRITTEN};
+    const owl_row *rows = &row;
     size_t count = 77;
     bool is = true;
     WANT(dom_parent(&document, who, node, &found) == status && dom_owner_document(&document, who, node, &found) == status);
@@ -150,7 +151,7 @@ static void reads_answer(uint32_t who, owl_node node, uint32_t status)
     WANT(dom_contains(&document, who, node, own(who, 0), &is) == status && dom_contains(&document, who, own(who, 0), node, &is) == status);
     WANT(dom_is_connected(&document, who, node, &is) == status && dom_matches(&document, who, node, UNITS, 1, &is) == status);
     WANT(dom_get_attribute(&document, who, node, BYTES("id"), &is, &units, &count) == status && dom_rows(&document, who, node) == status);
-    WANT(dom_structure(&document, who, node) == status && dom_describe(&document, who, node, &row) == status);
+    WANT(dom_structure(&document, who, node, &rows, &count) == status && rows == &row && dom_describe(&document, who, node, &row) == status);
     WANT(dom_links(&document, who, node, &links) == status && is_same(links.parent, UNWRITTEN) && is_same(links.next, UNWRITTEN));
     WANT(dom_dispatch(&document, who, node, BYTES("e"), 0, OWL_NONE, &is) == status);
     WANT(dom_dispatch(&document, who, own(who, 0), BYTES("e"), 0, node, &is) == status || is_same(node, OWL_NONE));

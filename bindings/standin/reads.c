@@ -138,7 +138,13 @@ uint32_t dom_rows(owl_document *document, uint32_t owner, owl_node node)
     return put_rows(document, owner, node, true);
 }
 
-uint32_t dom_structure(owl_document *document, uint32_t owner, owl_node node)
+uint32_t dom_structure(owl_document *document, uint32_t owner, owl_node node, const owl_row **rows, size_t *row_count)
 {
-    return put_rows(document, owner, node, false);
+    uint32_t status = put_rows(document, owner, node, false);
+    if (!status) {
+        const standin *in = document->held;
+        *rows = in->rows.at;
+        *row_count = in->rows.count;
+    }
+    return status;
 }
