@@ -6,7 +6,7 @@ ghost use Rattle.dom_calls.specs.Calls.{Answers, ShowsNode, ShowsNothing, ShowsU
 ghost use Rattle.dom_calls.specs.Owners.{word_at};
 
 use dom_calls::{
-    DONE, DomDocument, DomNode, attribute, replace_data, set_attribute, set_data, set_text,
+    DONE, DomDocument, DomNode, asked, attribute, replace_data, set_attribute, set_data, set_text,
     unset_attribute, word,
 };
 use dom_reader::Command;
@@ -138,7 +138,7 @@ pub extern "C" fn dom_split_text(
     document.run_for_node(
         alloc,
         owner,
-        Ok(Command::Split(word(owner, text), offset)),
+        asked(Command::Split(word(owner, text), offset)),
         made,
     )
 }

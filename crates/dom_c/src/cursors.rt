@@ -5,7 +5,7 @@ ghost use Rattle.dom_calls.specs.Asked.{asks_iterator, asks_move, asks_walker};
 ghost use Rattle.dom_calls.specs.Calls.{Answers, ShowsNode, ShowsNothing, ShowsNumber, ShowsReference, told_by};
 ghost use Rattle.dom_calls.specs.Owners.{word_at};
 
-use dom_calls::{DONE, DomDocument, DomNode, new_iterator, new_walker, walk, word};
+use dom_calls::{DONE, DomDocument, DomNode, asked, new_iterator, new_walker, walk, word};
 use dom_reader::Command;
 use std::alloc::Global;
 
@@ -47,7 +47,7 @@ pub extern "C" fn dom_iterator_next(
     ensures told { document.new.told ≡ told_by document.new.held.value }
     ensures node_kept { (result ≡ DONE → ⊥) → node.new ≡ node.old }
 {
-    document.run_for_node(alloc, owner, Ok(Command::IteratorNext(iterator)), node)
+    document.run_for_node(alloc, owner, asked(Command::IteratorNext(iterator)), node)
 }
 
 /// Moves an iterator backward (DOM Standard, previousNode).
@@ -63,7 +63,12 @@ pub extern "C" fn dom_iterator_previous(
     ensures told { document.new.told ≡ told_by document.new.held.value }
     ensures node_kept { (result ≡ DONE → ⊥) → node.new ≡ node.old }
 {
-    document.run_for_node(alloc, owner, Ok(Command::IteratorPrevious(iterator)), node)
+    document.run_for_node(
+        alloc,
+        owner,
+        asked(Command::IteratorPrevious(iterator)),
+        node,
+    )
 }
 
 /// Writes down an iterator's reference, and whether its pointer is before it (DOM Standard, referenceNode).
@@ -85,7 +90,7 @@ pub extern "C" fn dom_iterator_reference(
     document.run_for_reference(
         alloc,
         owner,
-        Ok(Command::IteratorAt(iterator)),
+        asked(Command::IteratorAt(iterator)),
         node,
         before,
     )
@@ -146,7 +151,7 @@ pub extern "C" fn dom_walker_current(
     ensures told { document.new.told ≡ told_by document.new.held.value }
     ensures node_kept { (result ≡ DONE → ⊥) → node.new ≡ node.old }
 {
-    document.run_for_node(alloc, owner, Ok(Command::WalkerAt(walker)), node)
+    document.run_for_node(alloc, owner, asked(Command::WalkerAt(walker)), node)
 }
 
 /// Sets the current node of a walker (DOM Standard, currentNode).
@@ -164,6 +169,6 @@ pub extern "C" fn dom_walker_set(
     document.run(
         alloc,
         owner,
-        Ok(Command::WalkerSet(walker, word(owner, node))),
+        asked(Command::WalkerSet(walker, word(owner, node))),
     )
 }

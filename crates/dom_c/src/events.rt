@@ -6,7 +6,7 @@ ghost use Rattle.dom_calls.specs.Calls.{Answers, ShowsNothing, ShowsNumber, Show
 ghost use Rattle.dom_calls.specs.Owners.{word_at};
 
 use dom_calls::{
-    DONE, DomDocument, DomNode, dispatch, listen, micro, new_observer, unlisten, word,
+    DONE, DomDocument, DomNode, asked, dispatch, listen, micro, new_observer, unlisten, word,
 };
 use dom_reader::Command;
 use std::alloc::Global;
@@ -110,7 +110,7 @@ pub extern "C" fn dom_take_records(
     ensures told { document.new.told ≡ told_by document.new.held.value }
     ensures count_kept { (result ≡ DONE → ⊥) → count.new ≡ count.old }
 {
-    document.run_for_number(alloc, owner, Ok(Command::Take(observer)), count)
+    document.run_for_number(alloc, owner, asked(Command::Take(observer)), count)
 }
 
 /// Ends all observing of an observer (DOM Standard, disconnect).
@@ -124,7 +124,7 @@ pub extern "C" fn dom_disconnect(
     ensures answers { Answers result owner (Ok (model.disconnect observer)) ShowsNothing document.old.held.value document.new.held.value }
     ensures told { document.new.told ≡ told_by document.new.held.value }
 {
-    document.run(alloc, owner, Ok(Command::Disconnect(observer)))
+    document.run(alloc, owner, asked(Command::Disconnect(observer)))
 }
 
 /// Queues a microtask (HTML Standard, queueMicrotask). A live one is not supported.

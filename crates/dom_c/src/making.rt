@@ -5,7 +5,7 @@ ghost use Rattle.dom_model.specs.Command as model;
 ghost use Rattle.dom_calls.specs.Calls.{Answers, ShowsComponent, ShowsNode, told_by};
 ghost use Rattle.dom_calls.specs.Owners.{word_at};
 
-use dom_calls::{DONE, DomDocument, DomNode, new_comment, new_element, new_text, word};
+use dom_calls::{DONE, DomDocument, DomNode, asked, new_comment, new_element, new_text, word};
 use dom_reader::Command;
 use std::alloc::Global;
 
@@ -70,7 +70,7 @@ pub extern "C" fn dom_create_fragment(
     ensures told { document.new.told ≡ told_by document.new.held.value }
     ensures made_kept { (result ≡ DONE → ⊥) → made.new ≡ made.old }
 {
-    document.run_for_node(alloc, owner, Ok(Command::NewFragment), made)
+    document.run_for_node(alloc, owner, asked(Command::NewFragment), made)
 }
 
 /// Makes a Document (DOM Standard, 4.5).
@@ -85,7 +85,7 @@ pub extern "C" fn dom_create_document(
     ensures told { document.new.told ≡ told_by document.new.held.value }
     ensures made_kept { (result ≡ DONE → ⊥) → made.new ≡ made.old }
 {
-    document.run_for_node(alloc, owner, Ok(Command::NewDocument), made)
+    document.run_for_node(alloc, owner, asked(Command::NewDocument), made)
 }
 
 /// Gives an element a closed shadow root (DOM Standard, attach a shadow root); writes down the place of the component that owns it.
@@ -105,7 +105,7 @@ pub extern "C" fn dom_attach(
     document.run_for_component(
         alloc,
         owner,
-        Ok(Command::Attach(word(owner, element))),
+        asked(Command::Attach(word(owner, element))),
         component,
     )
 }

@@ -4,7 +4,7 @@ ghost use Rattle.dom_model.specs.Command as model;
 ghost use Rattle.dom_calls.specs.Calls.{Answers, ShowsNode, ShowsNothing, ShowsNumber, ShowsPoints, ShowsText, told_by};
 ghost use Rattle.dom_calls.specs.Owners.{word_at};
 
-use dom_calls::{DONE, DomDocument, DomNode, DomPoint, word};
+use dom_calls::{DONE, DomDocument, DomNode, DomPoint, asked, word};
 use dom_reader::Command;
 use std::alloc::Global;
 
@@ -20,7 +20,7 @@ pub extern "C" fn dom_range_create(
     ensures told { document.new.told ≡ told_by document.new.held.value }
     ensures range_kept { (result ≡ DONE → ⊥) → range.new ≡ range.old }
 {
-    document.run_for_number(alloc, owner, Ok(Command::RangeNew), range)
+    document.run_for_number(alloc, owner, asked(Command::RangeNew), range)
 }
 
 /// Sets the start of a range (DOM Standard, setStart).
@@ -40,7 +40,7 @@ pub extern "C" fn dom_range_set_start(
     document.run(
         alloc,
         owner,
-        Ok(Command::RangeStart(range, word(owner, node), offset)),
+        asked(Command::RangeStart(range, word(owner, node), offset)),
     )
 }
 
@@ -61,7 +61,7 @@ pub extern "C" fn dom_range_set_end(
     document.run(
         alloc,
         owner,
-        Ok(Command::RangeEnd(range, word(owner, node), offset)),
+        asked(Command::RangeEnd(range, word(owner, node), offset)),
     )
 }
 
@@ -77,7 +77,7 @@ pub extern "C" fn dom_range_collapse(
     ensures answers { Answers result owner (Ok (model.range_collapse range to_start)) ShowsNothing document.old.held.value document.new.held.value }
     ensures told { document.new.told ≡ told_by document.new.held.value }
 {
-    document.run(alloc, owner, Ok(Command::RangeCollapse(range, to_start)))
+    document.run(alloc, owner, asked(Command::RangeCollapse(range, to_start)))
 }
 
 /// Lets a range go.
@@ -91,7 +91,7 @@ pub extern "C" fn dom_range_drop(
     ensures answers { Answers result owner (Ok (model.range_drop range)) ShowsNothing document.old.held.value document.new.held.value }
     ensures told { document.new.told ≡ told_by document.new.held.value }
 {
-    document.run(alloc, owner, Ok(Command::RangeDrop(range)))
+    document.run(alloc, owner, asked(Command::RangeDrop(range)))
 }
 
 /// Writes down the start and the end of a range (DOM Standard, boundary points).
@@ -109,7 +109,7 @@ pub extern "C" fn dom_range_points(
     ensures start_kept { (result ≡ DONE → ⊥) → start.new ≡ start.old }
     ensures end_kept { (result ≡ DONE → ⊥) → end.new ≡ end.old }
 {
-    document.run_for_points(alloc, owner, Ok(Command::RangeGet(range)), start, end)
+    document.run_for_points(alloc, owner, asked(Command::RangeGet(range)), start, end)
 }
 
 /// Lends the text of a range (DOM Standard, 5.5).
@@ -131,7 +131,7 @@ pub extern "C" fn dom_range_text(
     document.run_for_text(
         alloc,
         owner,
-        Ok(Command::RangeText(range)),
+        asked(Command::RangeText(range)),
         units,
         unit_count,
     )
@@ -150,7 +150,7 @@ pub extern "C" fn dom_range_extract(
     ensures told { document.new.told ≡ told_by document.new.held.value }
     ensures fragment_kept { (result ≡ DONE → ⊥) → fragment.new ≡ fragment.old }
 {
-    document.run_for_node(alloc, owner, Ok(Command::Extract(range)), fragment)
+    document.run_for_node(alloc, owner, asked(Command::Extract(range)), fragment)
 }
 
 /// Removes the contents of a range (DOM Standard, deleteContents).
@@ -164,7 +164,7 @@ pub extern "C" fn dom_range_delete(
     ensures answers { Answers result owner (Ok (model.delete range)) ShowsNothing document.old.held.value document.new.held.value }
     ensures told { document.new.told ≡ told_by document.new.held.value }
 {
-    document.run(alloc, owner, Ok(Command::Delete(range)))
+    document.run(alloc, owner, asked(Command::Delete(range)))
 }
 
 /// Inserts a node at the start of a range (DOM Standard, insertNode).
@@ -182,6 +182,6 @@ pub extern "C" fn dom_range_insert(
     document.run(
         alloc,
         owner,
-        Ok(Command::InsertNode(range, word(owner, node))),
+        asked(Command::InsertNode(range, word(owner, node))),
     )
 }

@@ -4,7 +4,7 @@ ghost use Rattle.dom_model.specs.Command as model;
 ghost use Rattle.dom_calls.specs.Calls.{Answers, ShowsNode, ShowsNodes, ShowsTree, ShowsTruth, told_by};
 ghost use Rattle.dom_calls.specs.Owners.{word_at};
 
-use dom_calls::{DONE, DomDocument, DomNode, matches, query, word};
+use dom_calls::{DONE, DomDocument, DomNode, asked, matches, query, word};
 use dom_reader::Command;
 use std::alloc::Global;
 
@@ -21,7 +21,12 @@ pub extern "C" fn dom_parent(
     ensures told { document.new.told ≡ told_by document.new.held.value }
     ensures parent_kept { (result ≡ DONE → ⊥) → parent.new ≡ parent.old }
 {
-    document.run_for_node(alloc, owner, Ok(Command::Parent(word(owner, node))), parent)
+    document.run_for_node(
+        alloc,
+        owner,
+        asked(Command::Parent(word(owner, node))),
+        parent,
+    )
 }
 
 /// Asks for the node document of a node (DOM Standard, node document).
@@ -37,7 +42,12 @@ pub extern "C" fn dom_owner_document(
     ensures told { document.new.told ≡ told_by document.new.held.value }
     ensures of_kept { (result ≡ DONE → ⊥) → of.new ≡ of.old }
 {
-    document.run_for_node(alloc, owner, Ok(Command::DocumentOf(word(owner, node))), of)
+    document.run_for_node(
+        alloc,
+        owner,
+        asked(Command::DocumentOf(word(owner, node))),
+        of,
+    )
 }
 
 /// Lends the children of a node (DOM Standard, childNodes).
@@ -59,7 +69,7 @@ pub extern "C" fn dom_children(
     document.run_for_nodes(
         alloc,
         owner,
-        Ok(Command::Children(word(owner, node))),
+        asked(Command::Children(word(owner, node))),
         nodes,
         node_count,
     )
@@ -83,7 +93,7 @@ pub extern "C" fn dom_contains(
     document.run_for_truth(
         alloc,
         owner,
-        Ok(Command::Contains(word(owner, node), word(owner, other))),
+        asked(Command::Contains(word(owner, node), word(owner, other))),
         does,
     )
 }
@@ -101,7 +111,12 @@ pub extern "C" fn dom_is_connected(
     ensures told { document.new.told ≡ told_by document.new.held.value }
     ensures is_kept { (result ≡ DONE → ⊥) → is.new ≡ is.old }
 {
-    document.run_for_truth(alloc, owner, Ok(Command::Connected(word(owner, node))), is)
+    document.run_for_truth(
+        alloc,
+        owner,
+        asked(Command::Connected(word(owner, node))),
+        is,
+    )
 }
 
 /// Asks for the open shadow root of an element (DOM Standard, shadowRoot): there is none, since all are closed.
@@ -121,7 +136,7 @@ pub extern "C" fn dom_shadow_root(
     document.run_for_node(
         alloc,
         owner,
-        Ok(Command::ShadowRoot(word(owner, element))),
+        asked(Command::ShadowRoot(word(owner, element))),
         root,
     )
 }
@@ -139,7 +154,12 @@ pub extern "C" fn dom_assigned_slot(
     ensures told { document.new.told ≡ told_by document.new.held.value }
     ensures slot_kept { (result ≡ DONE → ⊥) → slot.new ≡ slot.old }
 {
-    document.run_for_node(alloc, owner, Ok(Command::SlotOf(word(owner, node))), slot)
+    document.run_for_node(
+        alloc,
+        owner,
+        asked(Command::SlotOf(word(owner, node))),
+        slot,
+    )
 }
 
 /// Lends the nodes that are assigned to a slot of a component (DOM Standard, find slottables).
@@ -161,7 +181,7 @@ pub extern "C" fn dom_assigned(
     document.run_for_nodes(
         alloc,
         owner,
-        Ok(Command::Assigned(word(owner, slot))),
+        asked(Command::Assigned(word(owner, slot))),
         nodes,
         node_count,
     )
@@ -178,7 +198,7 @@ pub extern "C" fn dom_rows(
     ensures answers { Answers result owner (Ok (model.tree (word_at owner node))) ShowsTree document.old.held.value document.new.held.value }
     ensures told { document.new.told ≡ told_by document.new.held.value }
 {
-    document.run_for_rows(alloc, owner, Ok(Command::Tree(word(owner, node))))
+    document.run_for_rows(alloc, owner, asked(Command::Tree(word(owner, node))))
 }
 
 /// Lends the elements below a node that match a selector, in tree order (DOM Standard, querySelectorAll).

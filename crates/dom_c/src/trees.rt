@@ -4,7 +4,7 @@ ghost use Rattle.dom_model.specs.Command as model;
 ghost use Rattle.dom_calls.specs.Calls.{Answers, ShowsNothing, told_by};
 ghost use Rattle.dom_calls.specs.Owners.{word_at};
 
-use dom_calls::{DomDocument, DomNode, word};
+use dom_calls::{DomDocument, DomNode, asked, word};
 use dom_reader::Command;
 use std::alloc::Global;
 
@@ -24,7 +24,7 @@ pub extern "C" fn dom_append(
     document.run(
         alloc,
         owner,
-        Ok(Command::Append(word(owner, parent), word(owner, node))),
+        asked(Command::Append(word(owner, parent), word(owner, node))),
     )
 }
 
@@ -45,7 +45,7 @@ pub extern "C" fn dom_insert(
     document.run(
         alloc,
         owner,
-        Ok(Command::Insert(word(owner, parent), word(owner, node), word(owner, child))),
+        asked(Command::Insert(word(owner, parent), word(owner, node), word(owner, child))),
     )
 }
 
@@ -66,7 +66,7 @@ pub extern "C" fn dom_replace(
     document.run(
         alloc,
         owner,
-        Ok(Command::Replace(word(owner, parent), word(owner, node), word(owner, child))),
+        asked(Command::Replace(word(owner, parent), word(owner, node), word(owner, child))),
     )
 }
 
@@ -81,7 +81,7 @@ pub extern "C" fn dom_remove(
     ensures answers { Answers result owner (Ok (model.remove (word_at owner node))) ShowsNothing document.old.held.value document.new.held.value }
     ensures told { document.new.told ≡ told_by document.new.held.value }
 {
-    document.run(alloc, owner, Ok(Command::Remove(word(owner, node))))
+    document.run(alloc, owner, asked(Command::Remove(word(owner, node))))
 }
 
 /// Gives a node another node document (DOM Standard, adoptNode).
@@ -100,7 +100,7 @@ pub extern "C" fn dom_adopt(
     document.run(
         alloc,
         owner,
-        Ok(Command::Adopt(word(owner, to), word(owner, node))),
+        asked(Command::Adopt(word(owner, to), word(owner, node))),
     )
 }
 
@@ -115,5 +115,5 @@ pub extern "C" fn dom_normalize(
     ensures answers { Answers result owner (Ok (model.normalize (word_at owner node))) ShowsNothing document.old.held.value document.new.held.value }
     ensures told { document.new.told ≡ told_by document.new.held.value }
 {
-    document.run(alloc, owner, Ok(Command::Normalize(word(owner, node))))
+    document.run(alloc, owner, asked(Command::Normalize(word(owner, node))))
 }

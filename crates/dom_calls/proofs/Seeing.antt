@@ -94,7 +94,7 @@ none-before f (x ∷ z ∷ zs) y e = absurd (true≢false (ap has_second e))
 -- and the last is that one
 last-is-one : (f : Item → Output) (items : List Item) (y : Output) (item : Item) → map f items ≡ y ∷ []
     → slice_get items (length items - 1) ≡ Some item → f item ≡ y
-unfolding has_second, has_none, first_or
+unfolding has_second has_none first_or
 last-is-one f [] y item e last = absurd (true≢false (ap has_none e))
 last-is-one f (x ∷ []) y item e last = ap f (sym (ap (λ (o : Option Item). unwrap_or o x) last)) ∙ ap (first_or (f x)) e
 last-is-one f (x ∷ z ∷ zs) y item e last = absurd (true≢false (ap has_second e))

@@ -7,7 +7,7 @@ ghost use Rattle.dom_base.specs.declared.Refusal.TheVariants.{Syntax};
 ghost use Rattle.std.specs.Str.Lossy.{utf8_lossy};
 ghost use Rattle.dom_base.specs.declared.Fault.TheVariants.{Refused};
 ghost use Rattle.dom_model.specs.Command as model;
-ghost use Rattle.dom_reader.specs.Views.{word_view, filter_view};
+ghost use Rattle.dom_reader.specs.Views.{command_view, word_view, filter_view};
 ghost use Rattle.dom_calls.specs.Asked.{IsAsked, IsMemory, asks_event, asks_iterator, asks_listener, asks_micro, asks_move, asks_observer};
 ghost use Rattle.dom_calls.specs.Asked.{asks_unlisten, asks_walker, filter_with, is_label as spec_is_label, related_at};
 ghost use Rattle.dom_calls.specs.Owners.{word_at};
@@ -27,6 +27,13 @@ pub fn word(owner: u32, node: DomNode) -> NodeWord
     } else {
         NodeWord::Foreign
     }
+}
+
+/// A command that owns no text, as what the words of a call ask.
+pub fn asked(command: Command) -> Result<Command, Fault>
+    ensures { IsAsked result (Ok (command_view command)) }
+{
+    Ok(command)
 }
 
 /// A name as a text of its own.

@@ -25,7 +25,7 @@ mod told;
 mod words;
 
 pub use commands::{
-    attribute, dispatch, listen, matches, micro, new_comment, new_element, new_iterator,
+    asked, attribute, dispatch, listen, matches, micro, new_comment, new_element, new_iterator,
     new_observer, new_text, new_walker, query, replace_data, set_attribute, set_data, set_text,
     unlisten, unset_attribute, walk, word,
 };
