@@ -13,13 +13,13 @@ use Rattle.dom_model.specs.Output.{Output, says, replied, a_tree}
 use Rattle.dom_model.specs.Tree.{Trees, none}
 use Rattle.dom_admission.specs.Handled.{let_pass, passing}
 use Rattle.dom_answers.specs.Arrays.{output_of}
-use Rattle.dom_answers.specs.Told.{Contents, empty, told}
+use Rattle.dom_answers.specs.Told.{Contents, empty, shown_trees, told}
 use Rattle.dom_answers.specs.declared.items.Item.{Item}
-use Rattle.dom_query_commands.specs.Looks.{IsAllowed}
+use Rattle.dom_query_commands.specs.Looks.{IsAllowed, node_alone}
 use Rattle.dom_calls.specs.declared.structs.DomNode.{DomNode}
 use Rattle.dom_calls.specs.declared.structs.DomRow.{DomRow}
 use Rattle.dom_calls.specs.Calls.{deliveries_of}
-use Rattle.dom_calls.specs.Looks.{EndsWithRow, IsSeen, Looks, Sees, Stays, refusal_of, row_alone}
+use Rattle.dom_calls.specs.Looks.{EndsWithRow, IsSeen, Looks, Sees, SeesRow, Stays, read_of, refusal_of, row_alone}
 use Rattle.dom_calls.specs.State.{CallState}
 use Rattle.dom_calls.proofs.Giving.{left_by, not_closed, not_zero, one_more}
 
@@ -128,10 +128,12 @@ row-told s row o trees alone ends =
     let same = last-is-one (output_of s.answer.arrays) s.answer.items y ends.1.0 alone ends.1.1.0 in
     ap trees_told (sym ends.1.1.1 ∙ same)
 
--- what holds of what an option holds
-pub both-hold : {X : Type 0} {P Q : X → Type 0} (o : Option X) → IfSome o P → IfSome o Q → IfSome o (λ x. P x × Q x)
-both-hold (Some x) p q = (p, q)
-both-hold None p q = tt
+-- so the row that was found is of the node that was read
+pub row-seen : {place : ℕ} {node : DomNode} {was is : CallState} (found : Option DomRow) (o : Owner) (trees : Trees)
+    → told is.answer ≡ says o (replied (a_tree (shown_trees trees))) ∷ [] → trees ≡ read_of node_alone place node was
+    → IfSome found (EndsWithRow is) → IfSome found (λ row. row.parent ≡ 0) → IfSome found (λ row. SeesRow place node row was is)
+row-seen {is = is} (Some row) o trees alone same ends parent = (row-told is row o (shown_trees trees) alone ends ∙ ap shown_trees same, parent)
+row-seen None o trees alone same ends parent = tt
 
 -- ---- the status of a look that found nothing
 
