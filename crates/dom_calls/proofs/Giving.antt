@@ -22,13 +22,13 @@ use Rattle.dom_calls.specs.State.{CallState}
 
 -- ---- a call that was not done
 
-pub not_zero : (n : ℕ) → n ≡ 0 → 1 ≤ n → ⊥
+not_zero : (n : ℕ) → n ≡ 0 → 1 ≤ n → ⊥
 not_zero n e h = omega arith
 
-pub not_closed : (n : ℕ) → n ≡ 15 → n ≤ 14 → ⊥
+not_closed : (n : ℕ) → n ≡ 15 → n ≤ 14 → ⊥
 not_closed n e h = omega arith
 
-pub one_more : (n : ℕ) → n ≤ 14 → n ≤ 15
+one_more : (n : ℕ) → n ≤ 14 → n ≤ 15
 one_more n h = omega arith
 
 -- what has the status of a fault
@@ -109,7 +109,7 @@ pub keeps : (mid is : CallState) → HoldsOn mid is → KeepsAnswer mid is
 keeps mid is h = (h.0, (h.1.0, (h.1.1.0, h.1.1.1.1)))
 
 -- the deliveries of an answer
-pub left_by : Contents → Bool → List Output
+left_by : Contents → Bool → List Output
 left_by a b = map (output_of a.arrays) (if b then take (length a.items - 1) a.items else a.items)
 
 same-deliveries : (mid is : CallState) → KeepsAnswer mid is → deliveries_of mid ≡ deliveries_of is
