@@ -83,27 +83,29 @@ row-told s row o trees alone ends =
     ap trees_told (sym ends.1.1.1 ∙ same)
 
 -- what is read in the same world, by the same owner, of the same word is the same
-pub same-read : {X : Type 0} (f : World → Owner → NodeWord → X) (w v : World) (o p : Owner) (x y : NodeWord) → w ≡ v → o ≡ p → x ≡ y → f w o x ≡ f v p y
-same-read f w v o p x y same_world same_owner same_word =
-    ap (λ (u : World). f u o x) same_world ∙ (ap (λ (q : Owner). f v q x) same_owner ∙ ap (λ (z : NodeWord). f v p z) same_word)
+module _ {X : Type 0} (f : World → Owner → NodeWord → X) (w v : World) (o p : Owner) (x y : NodeWord) where
+  pub same-read : w ≡ v → o ≡ p → x ≡ y → f w o x ≡ f v p y
+  same-read same_world same_owner same_word =
+      ap (λ (u : World). f u o x) same_world ∙ (ap (λ (q : Owner). f v q x) same_owner ∙ ap (λ (z : NodeWord). f v p z) same_word)
 
 -- what a description gives, if the row that was found is of the node that was told
-pub row-seen : (place : ℕ) (node : DomNode) (was is : CallState) (result : Result DomRow Fault) (found : Option DomRow) (o : Owner) (trees : Trees)
-    → result ≡ ok_or found fault.Memory → was.has_failed ≡ false → Stays was is → is.has_reply ≡ true
-    → told is.answer ≡ says o (replied (a_tree (shown_trees trees))) ∷ [] → refusal_of place node was ≡ None → trees ≡ read_of node_alone place node was
-    → IfSome found (EndsWithRow is) → IfSome found (λ row. row.parent ≡ 0) → IsSeen place node (SeesRow place node) was is result
-row-seen place node was is result (Some row) o trees gives sound stays answers alone passes same ends parent =
-    let seen : Sees place node None was is = record {
-      sound = sound;
-      still = stays.1.1 ∙ sound;
-      refused = passes;
-      world = stays.0;
-      owners = stays.1.0;
-      told = alone-quiet is (says o (replied (a_tree (shown_trees trees)))) answers alone;
-    } in
-    let here : IsSeen place node (SeesRow place node) was is (Ok row) =
-    (seen, (row-told is row o (shown_trees trees) alone ends ∙ ap shown_trees same, parent)) in
-    subst (λ (r : Result DomRow Fault). IsSeen place node (SeesRow place node) was is r) (sym gives) here
-row-seen place node was is result None o trees gives sound stays answers alone passes same ends parent =
-    let here : IsSeen place node (SeesRow place node) was is (Err fault.Memory) = stays in
-    subst (λ (r : Result DomRow Fault). IsSeen place node (SeesRow place node) was is r) (sym gives) here
+module _ (place : ℕ) (node : DomNode) (was is : CallState) (o : Owner) (trees : Trees) (sound : was.has_failed ≡ false) (stays : Stays was is)
+    (answers : is.has_reply ≡ true) (alone : told is.answer ≡ says o (replied (a_tree (shown_trees trees))) ∷ []) (passes : refusal_of place node was ≡ None)
+    (same : trees ≡ read_of node_alone place node was) where
+  pub row-seen : (result : Result DomRow Fault) (found : Option DomRow) → result ≡ ok_or found fault.Memory → IfSome found (EndsWithRow is)
+      → IfSome found (λ row. row.parent ≡ 0) → IsSeen place node (SeesRow place node) was is result
+  row-seen result (Some row) gives ends parent =
+      let seen : Sees place node None was is = record {
+        sound = sound;
+        still = stays.1.1 ∙ sound;
+        refused = passes;
+        world = stays.0;
+        owners = stays.1.0;
+        told = alone-quiet is (says o (replied (a_tree (shown_trees trees)))) answers alone;
+      } in
+      let here : IsSeen place node (SeesRow place node) was is (Ok row) =
+      (seen, (row-told is row o (shown_trees trees) alone ends ∙ ap shown_trees same, parent)) in
+      subst (λ (r : Result DomRow Fault). IsSeen place node (SeesRow place node) was is r) (sym gives) here
+  row-seen result None gives ends parent =
+      let here : IsSeen place node (SeesRow place node) was is (Err fault.Memory) = stays in
+      subst (λ (r : Result DomRow Fault). IsSeen place node (SeesRow place node) was is r) (sym gives) here

@@ -21,9 +21,10 @@ returns-in-Ok c =
     let same_world = ap (λ (s : CallState). s.world) view in
     let table = c.deref.ensures.value ∙ ap (λ (s : CallState). s.owners) view in
     let same_owner = c.owner_in-owner.ensures ∙ ap (λ (os : List Owner). owner_in os place) table in
-    let passes = allowed c.self.inside.document.has_failed (Ok c.in-Ok.field-0) (look_refusal before owner said) c.in-Ok.ensures.allowed c.in-Ok.ensures.failed in
+    let passes = allowed c.self.inside.document.has_failed (Ok c.in-Ok.field-0) (look_refusal before owner said) c.in-Ok.ensures.allowed
+    c.in-Ok.ensures.failed in
     let refusal = same-read look_refusal before was.world owner (owner_in was.owners place) said named same_world same_owner c.word.ensures in
     let read = same-read (seen_at node_alone) before was.world owner (owner_in was.owners place) said named same_world same_owner c.word.ensures in
-    row-seen place c.args.node was _ c.ok_or.result c.told_row.result owner (seen_at node_alone before owner said) c.ok_or.ensures.value
-    (sym c.has_failed.ensures ∙ c.if-has_failed.false) (same_world, (ap (λ (s : CallState). s.owners) view, ap (λ (s : CallState). s.has_failed) view)) refl
-    c.in-Ok.ensures.told (sym refusal ∙ passes) read c.told_row.ensures.row c.told_row.ensures.parent
+    row-seen place c.args.node was _ owner (seen_at node_alone before owner said) (sym c.has_failed.ensures ∙ c.if-has_failed.false)
+    (same_world, (ap (λ (s : CallState). s.owners) view, ap (λ (s : CallState). s.has_failed) view)) refl c.in-Ok.ensures.told (sym refusal ∙ passes) read
+    c.ok_or.result c.told_row.result c.ok_or.ensures.value c.told_row.ensures.row c.told_row.ensures.parent
