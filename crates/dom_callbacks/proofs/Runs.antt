@@ -1,0 +1,38 @@
+-- Runs that push a frame, and runs that are over.
+use Rattle.dom_base.proofs.Std.{◌≡◌, List, [], ◌∷◌, map, refl, sym, ap, ◌∙◌, subst, Option, Some, None, option_to_list, Bool, true, false, cond-true, cond-false}
+use Rattle.dom_model.specs.Output.{Output}
+use Rattle.dom_model.specs.World.{World}
+use Rattle.dom_live.specs.Documents.{Live}
+use Rattle.dom_live.specs.Frames as live
+use Rattle.dom_live.specs.Lines.{LiveRun, LiveOutput, still}
+use Rattle.dom_live.specs.SmallSteps.{pushed}
+use Rattle.dom_callbacks.specs.declared.calling.Calling.{Calling}
+use Rattle.dom_callbacks.specs.Bare.{bare_frame, bare}
+use Rattle.dom_callbacks.specs.Outputs.{lines_in, calls_in}
+use Rattle.dom_callbacks.specs.States.{Ran}
+
+-- what a run with a frame pushed leaves
+pub pushed-bare : (s now : Live World) (f g : live.Frame) → bare s ≡ s → now ≡ pushed f s → f ≡ bare_frame g → now ≡ bare (pushed g s)
+pushed-bare s now f g bares n e =
+    n ∙ ap (λ h. pushed h s) e ∙ ap (λ (t : Live World). pushed (bare_frame g) t) (sym bares)
+
+module _ {A : Type 0} (adds : A → List Output → A → Type 0) where
+  -- a run that is another
+  pub ran-as : (r q : LiveRun (Live World)) (now : Live World) (a b : A) (k : Option Calling) → r ≡ q → Ran adds q now a b k → Ran adds r now a b k
+  ran-as r q now a b k e h = subst (λ (t : LiveRun (Live World)). Ran adds t now a b k) (sym e) h
+
+  -- a run that pushes a frame, and writes these
+  pub ran-pushed : (s now : Live World) (f g : live.Frame) (outputs : List LiveOutput) (a b : A) (k : Option Calling) → bare s ≡ s → now ≡ pushed f s →
+      f ≡ bare_frame g → adds a (lines_in outputs) b → option_to_list k ≡ calls_in outputs → Ran adds (pushed g s, outputs) now a b k
+  ran-pushed s now f g outputs a b k bares n e told calls = record { state = pushed-bare s now f g bares n e; told = told; call = calls }
+
+  -- and nothing
+  pub ran-still : (s now : Live World) (f g : live.Frame) (a : A) (k : Option Calling) → bare s ≡ s → now ≡ pushed f s → f ≡ bare_frame g →
+      adds a [] a → k ≡ None → Ran adds (still (pushed g s)) now a a k
+  ran-still s now f g a k bares n e told none =
+      record { state = pushed-bare s now f g bares n e; told = told; call = ap option_to_list none }
+
+  -- a run that leaves the state
+  pub ran-over : (s : Live World) (outputs : List LiveOutput) (a b : A) (k : Option Calling) → bare s ≡ s → adds a (lines_in outputs) b →
+      k ≡ None → calls_in outputs ≡ [] → Ran adds (s, outputs) s a b k
+  ran-over s outputs a b k bares told none calls = record { state = sym bares; told = told; call = ap option_to_list none ∙ sym calls }

@@ -1,0 +1,4 @@
+pub mod Views
+pub mod Outputs
+pub mod Bare
+pub mod States
