@@ -1,6 +1,9 @@
-pub mod Texts
-pub mod Removing
-pub mod Walked
-pub mod Views
-pub mod Runs
-pub mod Readiness
+mod Texts
+mod Removing
+mod Walked
+mod Views
+mod Runs
+mod Readiness
+mod Telling
+mod Firsts
+mod EventRuns

@@ -1,5 +1,5 @@
 -- Listeners that are removed.
-use Rattle.dom_base.proofs.Std.{◌≡◌, Bool, true, not, ◌&&◌, List, [], ◌∷◌, ◌++◌, map, filter, refl, sym, ap, ◌∙◌, ℕ, suc, zero, take, drop, set, get_or, length, ◌<◌, rules, arith}
+use Rattle.dom_base.proofs.Std.{◌≡◌, Bool, true, not, ◌&&◌, List, map, filter, length, length-map, refl, sym, ap, ◌∙◌}
 use Rattle.dom_base.specs.declared.NodeName.{NodeName}
 use Rattle.dom_model.specs.Command.{ListenerWords}
 use Rattle.dom_model.specs.Names.{Word, name_eq}
@@ -28,3 +28,7 @@ pub visit-without : (v : Visiting) (x : NodeName) (event label : Word) (capture 
     name_eq v.visit.current x ≡ true → calls ≡ with_listener_removed name_eq x event label capture v.calls →
     record v { calls = calls } ≡ without_call x event label capture v
 visit-without v x event label capture calls e h = rw (e, h) refl
+
+-- where the views are changed one by one, there are as many
+pub as-many : {X Y : Type 0} (view : X → Y) (change : Y → Y) (xs ys : List X) → map view ys ≡ map change (map view xs) → length ys ≡ length xs
+as-many view change xs ys e = sym (length-map ys view) ∙ ap length e ∙ length-map (map view xs) change ∙ length-map xs view

@@ -1,5 +1,5 @@
 -- Runs that push a frame, and runs that are over.
-use Rattle.dom_base.proofs.Std.{◌≡◌, List, [], ◌∷◌, map, refl, sym, ap, ◌∙◌, subst, Option, Some, None, option_to_list, Bool, true, false, cond-true, cond-false}
+use Rattle.dom_base.proofs.Std.{◌≡◌, List, [], ◌∷◌, map, refl, sym, ap, ◌∙◌, subst, Option, Some, None, option_to_list, Result, Ok, Err, OnOk, IfOk}
 use Rattle.dom_model.specs.Output.{Output}
 use Rattle.dom_model.specs.World.{World}
 use Rattle.dom_live.specs.Documents.{Live}
@@ -10,6 +10,11 @@ use Rattle.dom_callbacks.specs.declared.calling.Calling.{Calling}
 use Rattle.dom_callbacks.specs.Bare.{bare_frame, bare}
 use Rattle.dom_callbacks.specs.Outputs.{lines_in, calls_in}
 use Rattle.dom_callbacks.specs.States.{Ran}
+
+-- what holds where there is a result, and what holds of it
+both : {X E : Type 0} (r : Result X E) {P : Type 0} {Q R : X → Type 0} → ((x : X) → P → Q x → R x) → OnOk r P → IfOk r Q → IfOk r R
+both (Ok x) f p q = f x p q
+both (Err e) f p q = tt
 
 -- what a run with a frame pushed leaves
 pub pushed-bare : (s now : Live World) (f g : live.Frame) → bare s ≡ s → now ≡ pushed f s → f ≡ bare_frame g → now ≡ bare (pushed g s)
@@ -36,3 +41,16 @@ module _ {A : Type 0} (adds : A → List Output → A → Type 0) where
   pub ran-over : (s : Live World) (outputs : List LiveOutput) (a b : A) (k : Option Calling) → bare s ≡ s → adds a (lines_in outputs) b →
       k ≡ None → calls_in outputs ≡ [] → Ran adds (s, outputs) s a b k
   ran-over s outputs a b k bares told none calls = record { state = sym bares; told = told; call = ap option_to_list none ∙ sym calls }
+
+  module _ {E : Type 0} (r : Result (Option Calling) E) (run : LiveRun (Live World)) (s now : Live World) where
+    -- what a step that may fail makes of a run that pushes a frame, and writes nothing
+    pub pushed-still : (f g : live.Frame) (a : A) → bare s ≡ s → run ≡ still (pushed g s) → f ≡ bare_frame g → adds a [] a →
+        OnOk r (now ≡ pushed f s) → IfOk r (λ k. k ≡ None) → IfOk r (λ k. Ran adds run now a a k)
+    pushed-still f g a bares is e told state none =
+        both r (λ k n m. ran-as run (still (pushed g s)) now a a k is (ran-still s now f g a k bares n e told m)) state none
+
+    -- and of a run that leaves the state
+    pub over : (outputs : List LiveOutput) (a b : A) → bare s ≡ s → run ≡ (s, outputs) → calls_in outputs ≡ [] →
+        OnOk r (adds a (lines_in outputs) b) → IfOk r (λ k. k ≡ None) → IfOk r (λ k. Ran adds run s a b k)
+    over outputs a b bares is calls told none =
+        both r (λ k t m. ran-as run (s, outputs) s a b k is (ran-over s outputs a b k bares t m calls)) told none

@@ -4,11 +4,15 @@
 
 mod acts;
 mod calling;
+mod checkpoints;
 mod documents;
 mod events;
 mod frames;
+mod live_tasks;
+mod notifications;
 mod removal;
 mod state;
+mod steps;
 mod visits;
 mod words;
 

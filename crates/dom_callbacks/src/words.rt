@@ -1,5 +1,6 @@
 //! Which listener it is: the tests of names, types and labels.
 ghost use Rattle.std.specs.Prelude.{◌≡◌, map, string_bytes};
+ghost use Rattle.std.specs.List.{list_any};
 ghost use Rattle.dom_model.specs.Names.{name_eq, owner_eq, text_eq};
 ghost use Rattle.dom_model.specs.Listeners.{is_listener, with_listener_removed};
 ghost use Rattle.dom_live.specs.Documents.{is_live};
@@ -49,8 +50,22 @@ pub(crate) fn is_live_listener(
 {
     let event = words.event.as_bytes();
     let label = words.label.as_bytes();
-    let capture = words.capture;
-    listeners.iter().any(|listener| is_listener(listener, node, event, label, capture))
+    has_listener(listeners, node, event, label, words.capture)
+}
+
+/// Whether the listener of a node with this type, label and capture is live.
+fn has_listener(
+    listeners: &[LiveListener],
+    node: &NodeName,
+    event: &[u8],
+    label: &[u8],
+    capture: bool,
+) -> bool
+    ensures { result ≡ list_any (λ l. is_listener name_eq node.now event.now label.now capture (live_listener l)) listeners.now }
+{
+    listeners
+        .iter()
+        .any(|listener| is_listener(listener, node, event, label, capture))
 }
 
 /// Whether a live listener is the one of a node with this type, label and capture.
