@@ -7,3 +7,5 @@ mod Readiness
 mod Telling
 mod Firsts
 mod EventRuns
+mod NotificationRuns
+mod TaskRuns

@@ -54,3 +54,10 @@ module _ {A : Type 0} (adds : A → List Output → A → Type 0) where
         OnOk r (adds a (lines_in outputs) b) → IfOk r (λ k. k ≡ None) → IfOk r (λ k. Ran adds run s a b k)
     over outputs a b bares is calls told none =
         both r (λ k t m. ran-as run (s, outputs) s a b k is (ran-over s outputs a b k bares t m calls)) told none
+
+    -- and of one that writes nothing, whatever it does
+    pub moved : (x : Live World) (a : A) → bare now ≡ now → run ≡ still x → adds a [] a → OnOk r (now ≡ x) → IfOk r (λ k. k ≡ None) →
+        IfOk r (λ k. Ran adds run now a a k)
+    moved x a bares is told state none =
+        both r (λ k n m. ran-as run (still x) now a a k is
+        (record { state = sym bares ∙ ap (λ (t : Live World). bare t) n; told = told; call = ap option_to_list m })) state none

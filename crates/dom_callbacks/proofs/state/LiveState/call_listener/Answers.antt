@@ -3,10 +3,10 @@ use Rattle.dom_model.specs.Listeners.{line_of, may_cancel}
 use Rattle.dom_model.specs.Output.{says, event_seen}
 use Rattle.dom_live.specs.Documents.{is_live, world_documents}
 use Rattle.dom_live.specs.Frames.{acted}
-use Rattle.dom_live.specs.SmallSteps.{after_once}
+use Rattle.dom_live.specs.SmallSteps.{after_once, calling}
 use Rattle.dom_reader.specs.Views.{event_view, listener_view}
 use Rattle.dom_callbacks.specs.Bare.{bare_event}
-use Rattle.dom_callbacks.specs.Views.{under_way, visit_view, visiting_view}
+use Rattle.dom_callbacks.specs.Views.{listener_at, under_way, visiting_view}
 use Rattle.dom_callbacks.specs.States.{live_listener, live_of, Ran}
 use Rattle.dom_callbacks.proofs.EventRuns.{called-live, called-plain}
 use Rattle.dom_callbacks.proofs.Views.{bare-state}
@@ -19,7 +19,8 @@ returns-then-is_live-clause-ran g c =
     let v = visiting_view c.args.visit in
     let x = c.args.visit.visit.current in
     let w = listener_view c.args.words.value in
-    subst (λ k. Ran g.A.Answers.adds _ (live_of world c.push.new.self) c.args.answer.now c.tell_event.new.answer (Some k)) (sym c.call_of-calling.ensures)
+    subst (λ k. Ran g.A.Answers.adds (calling world_documents s (under_way c.args.event) v (listener_at x c.args.words.value))
+    (live_of world c.push.new.self) c.args.answer.now c.tell_event.new.answer (Some k)) (sym c.call_of-calling.ensures)
     (called-live g.A.Answers.adds s (live_of world c.remove_once.new.self) (live_of world c.push.new.self) (under_way c.args.event) v w
     c.args.answer.now c.tell_event.new.answer
     (bare-state world c.remove_once.new.self) refl
