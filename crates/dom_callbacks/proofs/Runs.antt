@@ -16,6 +16,11 @@ both : {X E : Type 0} (r : Result X E) {P : Type 0} {Q R : X → Type 0} → ((x
 both (Ok x) f p q = f x p q
 both (Err e) f p q = tt
 
+-- what holds anyway
+pub on-ok : {X E P : Type 0} (r : Result X E) → P → OnOk r P
+on-ok (Ok x) p = p
+on-ok (Err e) p = tt
+
 -- what a run with a frame pushed leaves
 pub pushed-bare : (s now : Live World) (f g : live.Frame) → bare s ≡ s → now ≡ pushed f s → f ≡ bare_frame g → now ≡ bare (pushed g s)
 pushed-bare s now f g bares n e =
@@ -42,6 +47,18 @@ module _ {A : Type 0} (adds : A → List Output → A → Type 0) where
       k ≡ None → calls_in outputs ≡ [] → Ran adds (s, outputs) s a b k
   ran-over s outputs a b k bares told none calls = record { state = sym bares; told = told; call = ap option_to_list none ∙ sym calls }
 
+  -- a run that writes nothing, whatever it does
+  pub ran-moved : (run : LiveRun (Live World)) (x now : Live World) (a : A) → bare now ≡ now → run ≡ still x → adds a [] a → now ≡ x →
+      Ran adds run now a a None
+  ran-moved run x now a bares is told n =
+      ran-as run (still x) now a a None is (record { state = sym bares ∙ ap (λ (t : Live World). bare t) n; told = told; call = refl })
+
+  -- a step whose run is another
+  pub run-same : {E : Type 0} (r : Result (Option Calling) E) (run other : LiveRun (Live World)) (now : Live World) (a b : A) → run ≡ other →
+      IfOk r (λ k. Ran adds other now a b k) → IfOk r (λ k. Ran adds run now a b k)
+  run-same (Ok k) run other now a b e h = ran-as run other now a b k e h
+  run-same (Err x) run other now a b e h = tt
+
   module _ {E : Type 0} (r : Result (Option Calling) E) (run : LiveRun (Live World)) (s now : Live World) where
     -- what a step that may fail makes of a run that pushes a frame, and writes nothing
     pub pushed-still : (f g : live.Frame) (a : A) → bare s ≡ s → run ≡ still (pushed g s) → f ≡ bare_frame g → adds a [] a →
@@ -59,5 +76,4 @@ module _ {A : Type 0} (adds : A → List Output → A → Type 0) where
     pub moved : (x : Live World) (a : A) → bare now ≡ now → run ≡ still x → adds a [] a → OnOk r (now ≡ x) → IfOk r (λ k. k ≡ None) →
         IfOk r (λ k. Ran adds run now a a k)
     moved x a bares is told state none =
-        both r (λ k n m. ran-as run (still x) now a a k is
-        (record { state = sym bares ∙ ap (λ (t : Live World). bare t) n; told = told; call = ap option_to_list m })) state none
+        both r (λ k n m. subst (λ j. Ran adds run now a a j) (sym m) (ran-moved run x now a bares is told n)) state none

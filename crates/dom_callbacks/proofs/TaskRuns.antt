@@ -16,9 +16,13 @@ use Rattle.dom_callbacks.specs.States.{Ran}
 use Rattle.dom_callbacks.proofs.NotificationRuns.{with_documents}
 use Rattle.dom_callbacks.proofs.Runs.{ran-as, ran-over, ran-pushed}
 
+-- the state with these entries of microtasks
+abbrev pub with_tasks : Live World → List (Owner × Bool) → Live World
+with_tasks s es = record s { live_tasks = es }
+
 -- the state once a microtask has begun
 abbrev pub begun_state : Live World → Owner → Live World
-begun_state s o = record s { live_tasks = without_first o s.live_tasks }
+begun_state s o = with_tasks s (without_first o s.live_tasks)
 
 -- the call of its owner
 abbrev pub microtask_call : Owner → Calling

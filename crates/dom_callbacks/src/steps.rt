@@ -1,17 +1,29 @@
 //! One small step of what is under way.
-ghost use Rattle.std.specs.Prelude.{◌≡◌, is_some, IfOk, OnOk};
+ghost use Rattle.std.specs.Prelude.{◌≡◌, is_some, if◌then◌else◌, option_map, IfOk, OnOk};
 ghost use Rattle.dom_live.specs.Documents.{world_documents};
-ghost use Rattle.dom_live.specs.Frames.{caller, returned};
+ghost use Rattle.dom_live.specs.Frames.{caller, returned, returned_visit};
+ghost use Rattle.dom_live.specs.Lines.{still};
 ghost use Rattle.dom_live.specs.SmallSteps.{advance, frame_step, put_back};
-ghost use Rattle.dom_callbacks.specs.Views.{frame_view};
+ghost use Rattle.dom_callbacks.specs.Views.{frame_view, under_way};
 ghost use Rattle.dom_callbacks.specs.States.{live_of, Ran, HasSlots, IsReady};
 
 use crate::calling::Calling;
 use crate::documents::Documents;
-use crate::frames::Frame;
+use crate::frames::{EventUnderWay, Frame};
 use crate::state::LiveState;
 use dom_answers::Answers;
 use std::alloc::AllocError;
+
+impl EventUnderWay {
+    /// The call that is under way returns, if one is.
+    fn return_call(&mut self)
+        ensures { under_way self.new ≡ record (under_way self.old) { visiting = option_map returned_visit (under_way self.old).visiting } }
+    {
+        if let Some(visit) = &mut self.visiting {
+            visit.called = None;
+        }
+    }
+}
 
 impl Frame {
     /// Whether a call of an owner is under way in the frame.
@@ -60,9 +72,7 @@ impl<D: Documents> LiveState<D> {
     {
         match frame {
             Frame::Event(mut event) => {
-                if let Some(visit) = &mut event.visiting {
-                    visit.called = None;
-                }
+                event.return_call();
                 self.push(Frame::Event(event))
             }
             Frame::Notification(mut notification) => {
@@ -74,23 +84,36 @@ impl<D: Documents> LiveState<D> {
         }
     }
 
-    /// One small step of the innermost frame. A call that is under way in it returns.
-    pub(crate) fn advance<A: Answers>(
+    /// A small step of a frame, where a call that is under way in it returns. The frames are those around it.
+    fn step_or_return<A: Answers>(
         &mut self,
+        frame: Frame,
         answer: &mut A,
     ) -> Result<Option<Calling>, AllocError>
-        requires { IsReady D.world self.old }
-        ensures ran { IfOk result (λ called. Ran A.adds (advance world_documents (live_of D.world self.old)) (live_of D.world self.new)
-            answer.old answer.new called) }
+        requires ready { IsReady D.world self.old }
+        requires slots { HasSlots (D.world self.old.documents) frame }
+        ensures ran { IfOk result (λ called. Ran A.adds (let s = live_of D.world self.old in let f = frame_view frame in
+            if is_some (caller f) then still (put_back (returned f) s) else frame_step world_documents s f)
+            (live_of D.world self.new) answer.old answer.new called) }
         ensures ready { OnOk result (IsReady D.world self.new) }
     {
-        let Some(frame) = self.frames.pop_front() else {
-            return Ok(None);
-        };
         if frame.is_called() {
             self.put_back(frame)?;
             return Ok(None);
         }
         self.step(frame, answer)
+    }
+
+    /// One small step of the innermost frame. A call that is under way in it returns. Answers the call that begins, if one does.
+    pub fn advance<A: Answers>(&mut self, answer: &mut A) -> Result<Option<Calling>, AllocError>
+        requires { IsReady D.world self.old }
+        ensures ran { IfOk result (λ called. Ran A.adds (advance world_documents (live_of D.world self.old)) (live_of D.world self.new)
+            answer.old answer.new called) }
+        ensures ready { OnOk result (IsReady D.world self.new) }
+    {
+        match self.frames.pop_front() {
+            None => Ok(None),
+            Some(frame) => self.step_or_return(frame, answer),
+        }
     }
 }

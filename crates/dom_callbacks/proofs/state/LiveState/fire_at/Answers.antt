@@ -16,5 +16,5 @@ returns-clause-state g c =
     let within = pushed (a_notification (notification_view c.args.notification)) s in
     c.in_ok-push-2.ensures.state
     ∙ ap (pushed (an_event (under_way c.fired_with.result))) c.in_ok-push.ensures.state
-    ∙ ap (λ t. pushed (an_event t) within) (c.fired_with.ensures x c.in_ok-slotchange.ensures
-    ∙ ap (λ vs. bare_event (fired_at x vs)) (c.in_ok-visits.ensures ∙ ap (λ t. world_visits s.documents x None t) c.in_ok-slotchange.ensures))
+    ∙ ap (λ t. pushed (an_event t) within) (c.fired_with.ensures x c.in_ok-event.ensures
+    ∙ ap (λ vs. bare_event (fired_at x vs)) (c.in_ok-visits.ensures ∙ ap (λ t. world_visits s.documents x None t) c.in_ok-event.ensures))
