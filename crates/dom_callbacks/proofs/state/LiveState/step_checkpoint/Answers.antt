@@ -43,5 +43,5 @@ returns-in_ok-push-in-Some-clause-ran g c =
     run-same g.A.Answers.adds c.start.result (checkpoint_step world_documents s p s.documents.tasks) (starting world_documents t mid)
     (live_of g.D.Documents.world c.start.new.self) c.args.answer.now c.start.new.answer
     (task-begins s w c.next_task.ensures.world p t (ap (option_map task_view) (sym c.in-Some.is) ∙ c.next_task.ensures.task)
-    ∙ ap (starting world_documents t) (sym c.in_ok-push.ensures.state))
+    ∙ ap (starting world_documents t) (sym c.in_ok-push-in-Some.ensures.state))
     c.start.ensures.ran
