@@ -39,6 +39,6 @@ module _ {Y : Type 0} (change : Y → Y) where
       view y ≡ change (view (get_or xs i d)) → map view (slice_set xs i y) ≡ so_far vs (i + 1)
   next-view view vs xs i d y e changed =
       let there : view (get_or xs i d) ≡ get_or vs i (view d) =
-          sym (seen view xs i d) ∙ ap (λ l. get_or l i (view d)) e ∙ here vs i (view d) in
+      sym (seen view xs i d) ∙ ap (λ l. get_or l i (view d)) e ∙ here vs i (view d) in
       map-set view xs i y ∙ ap (λ l. set l i (view y)) e ∙ ap (set (so_far vs i) i) (changed ∙ ap change there)
       ∙ walked vs i (view d) ∙ ap (so_far vs) (sym (add-one i))

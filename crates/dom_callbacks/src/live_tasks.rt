@@ -33,7 +33,5 @@ pub(crate) fn take_first(tasks: &mut Vec<(Owner, bool)>, owner: &Owner) -> bool
 pub(crate) fn is_live_observer(observers: &[(Owner, u32)], owner: &Owner, number: u32) -> bool
     ensures { result ≡ list_any (is_observer owner.now number) observers.now }
 {
-    observers
-        .iter()
-        .any(|entry| is_same_owner(&entry.0, owner) && entry.1 == number)
+    observers.iter().any(|entry| is_same_owner(&entry.0, owner) && entry.1 == number)
 }

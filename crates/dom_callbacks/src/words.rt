@@ -63,9 +63,7 @@ fn has_listener(
 ) -> bool
     ensures { result ≡ list_any (λ l. is_listener name_eq node.now event.now label.now capture (live_listener l)) listeners.now }
 {
-    listeners
-        .iter()
-        .any(|listener| is_listener(listener, node, event, label, capture))
+    listeners.iter().any(|listener| is_listener(listener, node, event, label, capture))
 }
 
 /// Whether a live listener is the one of a node with this type, label and capture.

@@ -60,7 +60,7 @@ returns-clause-ran g c =
     let n = notification_view c.args.notification in
     let live = c.is_live_observer-is_live.ensures ∙ ap (list_any (is_observer n.owner c.args.observer)) c.as_slice.ensures.value in
     let plain : is_told s n c.args.observer ≡ false = elim c.else-is_live.branch [
-      else-is_live-via-then-is_live+else-any r ↦ tests live c.in_ok-any.ensures.any r.if-is_live.true r.if-any.false
+      | else-is_live-via-then-is_live+else-any r ↦ tests live c.in_ok-any.ensures.any r.if-is_live.true r.if-any.false
       | else-is_live-via-else-is_live r ↦ first (not (is_empty (queue_of (part_of s.documents n.owner).record_queues c.args.observer))) live r.if-is_live.false
     ] in
     told-plain g.A.Answers.adds s (with_documents s w) (live_of g.D.Documents.world c.push-2.new.self) n c.args.observer c.args.answer.now
