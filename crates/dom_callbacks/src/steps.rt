@@ -104,7 +104,12 @@ impl<D: Documents> LiveState<D> {
         self.step(frame, answer)
     }
 
-    /// One small step of the innermost frame. A call that is under way in it returns. Answers the call that begins, if one does.
+    /// Makes one small step of the innermost frame that is under way, if there is one. If an owner's call is under way in that frame, the call returns.
+    /// Else an event goes to its next visit or calls its next listener, a notification tells its next observer or fires at its next slot, a checkpoint
+    /// begins its first task, or the frame is over. What owners are told is added to `answer`. The result is the call that begins, if one does: its
+    /// owner has it until the next step of this frame. The state is ready where each slot that waits in a notification is a node, and it stays so.
+    /// Where memory is refused the result is an error, and nothing is promised of the state or of the answer (DOM Standard, concept: dispatch; notify
+    /// mutation observers; HTML Standard, perform a microtask checkpoint).
     pub fn advance<A: Answers>(&mut self, answer: &mut A) -> Result<Option<Calling>, AllocError>
         requires { IsReady D.world self.old }
         ensures ran { IfOk result (λ called. Ran A.adds (advance world_documents (live_of D.world self.old)) (live_of D.world self.new)
