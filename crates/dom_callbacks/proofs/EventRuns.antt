@@ -1,5 +1,5 @@
 -- Small steps of an event under way, as runs.
-use Rattle.dom_base.proofs.Std.{◌≡◌, Bool, true, false, not, List, [], ◌∷◌, refl, sym, ap, ◌∙◌, Option, Some, None, cond-true, cond-false}
+use Rattle.dom_base.proofs.Std.{◌≡◌, true, false, not, List, [], ◌∷◌, refl, sym, ap, ◌∙◌, Option, Some, None, cond-true, cond-false}
 use Rattle.dom_base.specs.declared.Owner.{Owner}
 use Rattle.dom_base.specs.declared.NodeName.{NodeName}
 use Rattle.dom_model.specs.Command.{ListenerWords}
@@ -7,10 +7,10 @@ use Rattle.dom_model.specs.Listeners.{Listener, Visit, line_of, may_cancel}
 use Rattle.dom_model.specs.Output.{Output, says, replied, a_truth, event_seen}
 use Rattle.dom_model.specs.World.{World}
 use Rattle.dom_live.specs.Documents.{Live, world_documents, is_live}
-use Rattle.dom_live.specs.Frames.{UnderWay, Visiting, Frame, an_event, told_to, acted}
-use Rattle.dom_live.specs.Lines.{LiveRun, written, calls, at_event, still}
+use Rattle.dom_live.specs.Frames.{UnderWay, Visiting, an_event, told_to, acted}
+use Rattle.dom_live.specs.Lines.{written, calls, at_event, still}
 use Rattle.dom_live.specs.SmallSteps.{answered, after_once, begun_visit, between_visits, calling, going_on, pushed}
-use Rattle.dom_callbacks.specs.Bare.{bare_event, bare_frame, bare}
+use Rattle.dom_callbacks.specs.Bare.{bare_event, bare}
 use Rattle.dom_callbacks.specs.Outputs.{calls_in, call_at_event}
 use Rattle.dom_callbacks.specs.States.{Ran}
 use Rattle.dom_callbacks.proofs.Runs.{ran-as, ran-pushed}

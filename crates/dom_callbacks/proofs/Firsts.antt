@@ -1,6 +1,6 @@
 -- The first entry of an owner, taken out where it is found.
-use Rattle.dom_base.proofs.Std.{◌≡◌, ℕ, zero, suc, ◌+◌, Bool, true, false, not, List, [], ◌∷◌, length, get_or, remove, find, position, position_or_len}
-use Rattle.dom_base.proofs.Std.{Option, Some, None, option_map_or, refl, sym, ap, ◌∙◌, cond, if◌then◌else◌, nat_lt, arith, one-add, true≢false}
+use Rattle.dom_base.proofs.Std.{◌≡◌, ℕ, suc, ◌+◌, Bool, true, false, not, List, [], ◌∷◌, length, get_or, remove, find, position, position_or_len}
+use Rattle.dom_base.proofs.Std.{Some, None, option_map_or, refl, sym, ap, ◌∙◌, cond, if◌then◌else◌, nat_lt, arith, one-add, true≢false}
 use Rattle.dom_base.proofs.Std.{ltb-true, ltb-false, lt-ltb, le-ltb, none-some, same_Some}
 use Rattle.dom_base.specs.declared.Owner.{Owner}
 use Rattle.dom_live.specs.Documents.{is_entry_of, first_is_live, without_first}

@@ -1,9 +1,7 @@
 -- Small steps of a notification, as runs.
-use Rattle.dom_base.proofs.Std.{◌≡◌, ℕ, Bool, true, false, not, ◌&&◌, List, [], ◌∷◌, ◌++◌, map, filter_map, filter_map-append, append-nil, slice_set}
-use Rattle.dom_base.proofs.Std.{refl, sym, ap, ◌∙◌, subst, Option, Some, None, cond-true, cond-false, list_any}
-use Rattle.dom_base.specs.declared.NodeName.{NodeName}
+use Rattle.dom_base.proofs.Std.{◌≡◌, ℕ, Bool, true, false, not, ◌&&◌, List, [], ◌∷◌, ◌++◌, map, filter_map-append, append-nil, slice_set}
+use Rattle.dom_base.proofs.Std.{refl, sym, ap, ◌∙◌, subst, Some, None, cond-true, cond-false, list_any}
 use Rattle.dom_model.specs.Command.{EventWords}
-use Rattle.dom_model.specs.Listeners.{Visit}
 use Rattle.dom_model.specs.Names.{is_empty}
 use Rattle.dom_model.specs.Observers.{without_transients}
 use Rattle.dom_model.specs.Output.{Output}
@@ -12,7 +10,7 @@ use Rattle.dom_model.specs.Turns.{records_of}
 use Rattle.dom_model.specs.World.{World, part_of}
 use Rattle.dom_live.specs.Documents.{Live, world_documents}
 use Rattle.dom_live.specs.Frames.{UnderWay, Notification, a_notification}
-use Rattle.dom_live.specs.Lines.{LiveOutput, written, calls, at_observer}
+use Rattle.dom_live.specs.Lines.{written, calls, at_observer}
 use Rattle.dom_live.specs.SmallSteps.{is_observer, pushed, telling}
 use Rattle.dom_callbacks.specs.declared.calling.Calling.{Calling}
 use Rattle.dom_callbacks.specs.Bare.{bare}

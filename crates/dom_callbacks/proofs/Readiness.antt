@@ -1,12 +1,10 @@
 -- The slots of notifications stay there.
-use Rattle.dom_base.proofs.Std.{◌≡◌, List, [], ◌∷◌, AllByRecursion, sym, ap, subst}
-use Rattle.dom_base.specs.declared.NodeName.{NodeName}
+use Rattle.dom_base.proofs.Std.{List, AllByRecursion}
 use Rattle.dom_model.specs.World.{World}
 use Rattle.dom_worlds.proofs.ListLemmas.{all-then}
 use Rattle.dom_callbacks.specs.declared.frames.Frame.{Frame}
 use Rattle.dom_callbacks.specs.declared.frames.Frame.TheVariants as frames
-use Rattle.dom_callbacks.specs.declared.state.LiveState.{LiveState}
-use Rattle.dom_callbacks.specs.States.{IsNode, KeepsNodes, HasSlots, IsReady}
+use Rattle.dom_callbacks.specs.States.{IsNode, KeepsNodes, HasSlots}
 
 -- where the nodes stay, a frame's slots do
 pub slots-stay : (v w : World) → KeepsNodes v w → (f : Frame) → HasSlots v f → HasSlots w f

@@ -1,5 +1,5 @@
 -- Runs that push a frame, and runs that are over.
-use Rattle.dom_base.proofs.Std.{◌≡◌, List, [], ◌∷◌, map, refl, sym, ap, ◌∙◌, subst, Option, Some, None, option_to_list, Result, Ok, Err, OnOk, IfOk}
+use Rattle.dom_base.proofs.Std.{◌≡◌, List, [], refl, sym, ap, ◌∙◌, subst, Option, None, option_to_list, Result, Ok, Err, OnOk, IfOk}
 use Rattle.dom_model.specs.Output.{Output}
 use Rattle.dom_model.specs.World.{World}
 use Rattle.dom_live.specs.Documents.{Live}

@@ -1,5 +1,5 @@
 -- Small steps of a checkpoint, as runs.
-use Rattle.dom_base.proofs.Std.{◌≡◌, Bool, true, false, List, [], ◌∷◌, drop, refl, sym, ap, ◌∙◌, Option, Some, None, cond-true, cond-false, none-some, same_Some}
+use Rattle.dom_base.proofs.Std.{◌≡◌, Bool, true, false, List, [], ◌∷◌, drop, refl, sym, ap, ◌∙◌, Some, None, cond-true, cond-false, none-some, same_Some}
 use Rattle.dom_base.proofs.Std.{slice_get}
 use Rattle.dom_base.specs.declared.Owner.{Owner}
 use Rattle.dom_model.specs.Names.{Word}

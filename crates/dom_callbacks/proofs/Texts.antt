@@ -1,5 +1,5 @@
 -- The code's test of texts is that of the definitions.
-use Rattle.dom_base.proofs.Std.{◌≡◌, Bool, ◌&&◌, List, [], ◌∷◌, map, refl, ap, ◌∙◌, nat_eq, bytes_eq, ℕ, list_any, ◌||◌}
+use Rattle.dom_base.proofs.Std.{◌≡◌, Bool, ◌&&◌, List, [], ◌∷◌, map, refl, ap, nat_eq, bytes_eq, ℕ, list_any, ◌||◌}
 use Rattle.dom_model.specs.Names.{text_eq}
 
 -- of two texts

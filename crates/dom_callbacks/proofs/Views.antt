@@ -1,7 +1,6 @@
 -- The views of frames have nothing that stands for the theorem alone.
-use Rattle.dom_base.proofs.Std.{◌≡◌, List, [], ◌∷◌, map, refl, ap, ap₂, cond, Bool, true, false, ◌||◌, Option}
+use Rattle.dom_base.proofs.Std.{◌≡◌, List, [], ◌∷◌, map, refl, ap, ap₂}
 use Rattle.dom_base.specs.declared.Owner.{Owner}
-use Rattle.dom_base.specs.declared.Action.{Action}
 use Rattle.dom_model.specs.World.{World}
 use Rattle.dom_live.specs.Documents.{Live}
 use Rattle.dom_live.specs.Frames as live

@@ -8,7 +8,6 @@ use Rattle.dom_model.specs.Tree.{has_node}
 use Rattle.dom_model.specs.World.{World, part_of}
 use Rattle.dom_live.specs.Documents.{Live}
 use Rattle.dom_live.specs.Lines.{LiveRun}
-use Rattle.dom_live.specs.Frames as live
 use Rattle.dom_callbacks.specs.declared.calling.Calling.{Calling}
 use Rattle.dom_callbacks.specs.declared.frames.Frame.{Frame}
 use Rattle.dom_callbacks.specs.declared.frames.Frame.TheVariants as frames

@@ -1,4 +1,4 @@
-use Rattle.dom_base.proofs.Std.{◌≡◌, ◌∙◌, ap, sym, Option, Some, None, ℕ, List, Bool, position}
+use Rattle.dom_base.proofs.Std.{◌≡◌, ◌∙◌, ap, sym, Option, ℕ, List, Bool, position}
 use Rattle.dom_base.specs.declared.Owner.{Owner}
 use Rattle.dom_live.specs.Documents.{is_entry_of}
 use Rattle.dom_callbacks.proofs.Firsts.{removed-at, live-at, kept-whole, none-live}

@@ -1,4 +1,4 @@
-use Rattle.dom_base.proofs.Std.{◌≡◌, ◌∙◌, ap, sym, not, map, rules, tests, filter_same}
+use Rattle.dom_base.proofs.Std.{◌∙◌, ap, sym, not, map, rules, tests, filter_same}
 use Rattle.dom_model.specs.Names.{name_eq}
 use Rattle.dom_model.specs.Listeners.{is_listener}
 use Rattle.dom_worlds.proofs.ListLemmas.{filter-map}

@@ -1,4 +1,4 @@
-use Rattle.dom_base.proofs.Std.{◌≡◌, List, ◌∙◌, ap, sym, subst, map, is_some, if◌then◌else◌, AllByRecursion, nil_from_length}
+use Rattle.dom_base.proofs.Std.{List, ◌∙◌, ap, sym, subst, map, is_some, if◌then◌else◌, AllByRecursion, nil_from_length}
 use Rattle.dom_model.specs.World.{World}
 use Rattle.dom_live.specs.Documents.{Live, world_documents}
 use Rattle.dom_live.specs.Frames as live

@@ -1,10 +1,10 @@
-use Rattle.dom_base.proofs.Std.{◌≡◌, ◌∙◌, ap, sym, refl, subst, map, Some, ◌∷◌, []}
+use Rattle.dom_base.proofs.Std.{◌∙◌, ap, sym, refl, subst, map, Some, ◌∷◌, []}
 use Rattle.dom_model.specs.Listeners.{line_of, may_cancel}
 use Rattle.dom_model.specs.Output.{says, event_seen}
 use Rattle.dom_live.specs.Documents.{is_live, world_documents}
 use Rattle.dom_live.specs.Frames.{acted}
 use Rattle.dom_live.specs.SmallSteps.{after_once, calling}
-use Rattle.dom_reader.specs.Views.{event_view, listener_view}
+use Rattle.dom_reader.specs.Views.{listener_view}
 use Rattle.dom_callbacks.specs.Bare.{bare_event}
 use Rattle.dom_callbacks.specs.Views.{listener_at, under_way, visiting_view}
 use Rattle.dom_callbacks.specs.States.{live_listener, live_of, Ran}

@@ -1,9 +1,7 @@
-use Rattle.dom_base.proofs.Std.{◌≡◌, ◌∙◌, ap, None}
-use Rattle.dom_model.specs.Turns as turns
+use Rattle.dom_base.proofs.Std.{◌∙◌, ap, None}
 use Rattle.dom_live.specs.Documents.{world_visits}
 use Rattle.dom_live.specs.Frames.{a_notification, an_event}
 use Rattle.dom_live.specs.SmallSteps.{fired_at, pushed}
-use Rattle.dom_reader.specs.Views.{event_view}
 use Rattle.dom_callbacks.specs.Bare.{bare_event}
 use Rattle.dom_callbacks.specs.Views.{notification_view, under_way}
 use Rattle.dom_callbacks.specs.States.{live_of}

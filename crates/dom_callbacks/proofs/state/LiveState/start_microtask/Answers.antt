@@ -1,4 +1,4 @@
-use Rattle.dom_base.proofs.Std.{◌≡◌, ◌∙◌, ap, sym, subst, ◌∷◌, []}
+use Rattle.dom_base.proofs.Std.{◌∙◌, ap, sym, subst, ◌∷◌, []}
 use Rattle.dom_model.specs.Output.{says, micro_ran}
 use Rattle.dom_model.specs.World.{World}
 use Rattle.dom_live.specs.Documents.{Live}

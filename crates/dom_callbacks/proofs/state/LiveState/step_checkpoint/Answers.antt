@@ -1,4 +1,4 @@
-use Rattle.dom_base.proofs.Std.{◌≡◌, ◌∙◌, ap, sym, option_map}
+use Rattle.dom_base.proofs.Std.{◌∙◌, ap, sym, option_map}
 use Rattle.dom_live.specs.Documents.{Live, world_documents}
 use Rattle.dom_live.specs.SmallSteps.{checked, checkpoint_step, starting}
 use Rattle.dom_model.specs.World.{World}

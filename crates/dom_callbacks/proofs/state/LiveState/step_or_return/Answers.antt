@@ -1,4 +1,4 @@
-use Rattle.dom_base.proofs.Std.{◌∙◌, sym, refl, is_some, if◌then◌else◌, cond-true, cond-false}
+use Rattle.dom_base.proofs.Std.{◌∙◌, sym, is_some, if◌then◌else◌, cond-true, cond-false}
 use Rattle.dom_live.specs.Documents.{world_documents}
 use Rattle.dom_live.specs.Frames.{caller, returned}
 use Rattle.dom_live.specs.Lines.{still}

@@ -1,4 +1,4 @@
-use Rattle.dom_base.proofs.Std.{◌≡◌, ◌∙◌, ap, ap₂, sym, not, Bool, true, false, ◌&&◌, list_any}
+use Rattle.dom_base.proofs.Std.{◌≡◌, ◌∙◌, ap, ap₂, sym, not, Bool, false, ◌&&◌, list_any}
 use Rattle.dom_model.specs.Names.{is_empty}
 use Rattle.dom_model.specs.Part.{queue_of}
 use Rattle.dom_model.specs.World.{World, part_of}
