@@ -70,13 +70,13 @@ module _ {A : Type 0} (adds : A → List Output → A → Type 0) (s mid now : L
       (ap an_event (sym e ∙ sym (bare-told node.owner called))) told refl)
 
   -- one that is not does what it does
-  pub called-plain : (f : UnderWay) → bare mid ≡ mid → mid ≡ after_once world_documents node w s → now ≡ pushed (an_event f) mid →
-      f ≡ bare_event (acted node.owner (may_cancel u.event w) w.action (record u { visiting = Some v })) →
-      is_live s.live_listeners node w ≡ false → adds a seen b →
-      Ran adds (calling world_documents s u v (record { node = node; words = w })) now a b None
-  called-plain f bares m n e plain told =
-      let outputs = written (says node.owner (event_seen (line_of v.visit w))) ∷ [] in
-      let g = an_event (acted node.owner (may_cancel u.event w) w.action (record u { visiting = Some v })) in
-      ran-as adds _ (pushed g mid, outputs) now a b None
-      (cond-false (is_live s.live_listeners node w) _ _ plain ∙ ap (λ (t : Live World). (pushed g t, outputs)) (sym m))
-      (ran-pushed adds mid now (an_event f) g outputs a b None bares n (ap an_event e) told refl)
+  module _ (f : UnderWay) where
+    pub called-plain : bare mid ≡ mid → mid ≡ after_once world_documents node w s → now ≡ pushed (an_event f) mid → f
+        ≡ bare_event (acted node.owner (may_cancel u.event w) w.action (record u { visiting = Some v })) → is_live s.live_listeners node w ≡ false →
+        adds a seen b → Ran adds (calling world_documents s u v (record { node = node; words = w })) now a b None
+    called-plain bares m n e plain told =
+        let outputs = written (says node.owner (event_seen (line_of v.visit w))) ∷ [] in
+        let g = an_event (acted node.owner (may_cancel u.event w) w.action (record u { visiting = Some v })) in
+        ran-as adds _ (pushed g mid, outputs) now a b None
+        (cond-false (is_live s.live_listeners node w) _ _ plain ∙ ap (λ (t : Live World). (pushed g t, outputs)) (sym m))
+        (ran-pushed adds mid now (an_event f) g outputs a b None bares n (ap an_event e) told refl)

@@ -30,7 +30,8 @@ module _ (o : Owner) where
     where
       by : (b : Bool) → (nat_lt (place es) (length es) ≡ true → (get_or es (place es) d).1 ≡ first_is_live o es) →
           nat_lt (cond (not b) (1 + place es) 0) (suc (length es)) ≡ true →
-          (get_or (e ∷ es) (cond (not b) (1 + place es) 0) d).1 ≡ option_map_or (λ (t : Owner × Bool). t.1) (if b then Some e else find (is_entry_of o) es) false
+          (get_or (e ∷ es) (cond (not b) (1 + place es) 0) d).1 ≡ option_map_or (λ (t : Owner × Bool). t.1)
+          (if b then Some e else find (is_entry_of o) es) false
       by true rest m = refl
       by false rest m =
           let l : nat_lt (place es) (length es) ≡ true = lt-ltb (place es) (length es) (omega (arith, ltb-true (1 + place es) (suc (length es)) m)) in

@@ -9,11 +9,11 @@ seen view (x ∷ xs) zero d = refl
 seen view (x ∷ xs) (suc i) d = seen view xs i d
 
 -- where one item has changed, and has what it had, all have it
-pub all-changed : {X : Type 0} (P : X → Type 0) (xs : List X) (i : ℕ) (d y : X) → (P (get_or xs i d) → P y) → AllByRecursion P xs →
-    AllByRecursion P (slice_set xs i y)
-all-changed P [] i d y k h = tt
-all-changed P (z ∷ xs) zero d y k h = (k h.0, h.1)
-all-changed P (z ∷ xs) (suc i) d y k h = (h.0, all-changed P xs i d y k h.1)
+module _ {X : Type 0} (P : X → Type 0) where
+  pub all-changed : (xs : List X) (i : ℕ) (d y : X) → (P (get_or xs i d) → P y) → AllByRecursion P xs → AllByRecursion P (slice_set xs i y)
+  all-changed [] i d y k h = tt
+  all-changed (z ∷ xs) zero d y k h = (k h.0, h.1)
+  all-changed (z ∷ xs) (suc i) d y k h = (h.0, all-changed xs i d y k h.1)
 
 module _ {Y : Type 0} (change : Y → Y) where
   -- the views so far
@@ -35,10 +35,10 @@ module _ {Y : Type 0} (change : Y → Y) where
   walked (v ∷ vs) (suc i) d = ap (λ t. change v ∷ t) (walked vs i d)
 
   -- the views once the next item has changed
-  pub next-view : {X : Type 0} (view : X → Y) (vs : List Y) (xs : List X) (i : ℕ) (d y : X) → map view xs ≡ so_far vs i →
-      view y ≡ change (view (get_or xs i d)) → map view (slice_set xs i y) ≡ so_far vs (i + 1)
-  next-view view vs xs i d y e changed =
-      let there : view (get_or xs i d) ≡ get_or vs i (view d) =
-      sym (seen view xs i d) ∙ ap (λ l. get_or l i (view d)) e ∙ here vs i (view d) in
-      map-set view xs i y ∙ ap (λ l. set l i (view y)) e ∙ ap (set (so_far vs i) i) (changed ∙ ap change there)
-      ∙ walked vs i (view d) ∙ ap (so_far vs) (sym (add-one i))
+  module _ {X : Type 0} (view : X → Y) (vs : List Y) (xs : List X) (i : ℕ) (d y : X) where
+    pub next-view : map view xs ≡ so_far vs i → view y ≡ change (view (get_or xs i d)) → map view (slice_set xs i y) ≡ so_far vs (i + 1)
+    next-view e changed =
+        let there : view (get_or xs i d) ≡ get_or vs i (view d) =
+        sym (seen view xs i d) ∙ ap (λ l. get_or l i (view d)) e ∙ here vs i (view d) in
+        map-set view xs i y ∙ ap (λ l. set l i (view y)) e ∙ ap (set (so_far vs i) i) (changed ∙ ap change there)
+        ∙ walked vs i (view d) ∙ ap (so_far vs) (sym (add-one i))
