@@ -18,7 +18,7 @@ try:
     from owlantimony import fastparser, html
     from owlantimony.markup import Walker
 except ImportError:
-    html = fastparser = None
+    html = fastparser = html5lib = None
 
 PAGES = os.path.join(os.path.dirname(os.path.abspath(__file__)), "..", "..", "..", "examples", "pages")
 
