@@ -15,7 +15,8 @@ pub use Rattle.dom_model.proofs.Model.{limit_on, micro_task, name_eq, name_eq-sa
 pub use Rattle.dom_model.proofs.Model.{next, next_sibling, no_node, Node, node_in, node_of, node_or_null, NodeName, nodes, NodeWord, none, nothing}
 pub use Rattle.dom_model.proofs.Model.{notified_lines, of_any_type, of_class, of_id, of_type, of_walker, on_top, opening_turn, options_of, or_else, Output, own}
 pub use Rattle.dom_model.proofs.Model.{own_refusal, Owner, owner-part_of, owner_depth, Page, parent_of, parse_selectors, Part, part_matches, part_of, query_all}
-pub use Rattle.dom_model.proofs.Model.{queue_of, recorded, Refusal, Refused, replied, roots, says, Selector, selector_matches, selectors_of, sets_walker}
+pub use Rattle.dom_model.proofs.Model.{queue_of, recorded, records_of, Refusal, Refused, replied, roots, says, Selector, selector_matches, selectors_of}
+pub use Rattle.dom_model.proofs.Model.{sets_walker}
 pub use Rattle.dom_model.proofs.Model.{siblings, Simple, simple, simple_matches, subtree, Task, text_eq, times_in, tree, Trees, trees_below, with_registration}
 pub use Rattle.dom_model.proofs.Model.{with_value, Word, World}
 pub use Rattle.dom_admission.proofs.Finding.{key_of, read_at, read_by_key, read_of, told_here}
@@ -34,7 +35,7 @@ pub use Rattle.dom_printer.specs.Names.{name_view}
 pub use Rattle.dom_printer.specs.Steps.{attribute_view, attributes_in, attributes_view, data_in, shown, shown_as, shown_steps, step_view, steps_view}
 pub use Rattle.dom_printer.specs.declared.trees.Attribute.{Attribute}
 pub use Rattle.dom_printer.specs.declared.trees.NodeContent.{NodeContent}
-pub use Rattle.dom_query_commands.specs.Recorded.{IsNotice, notice_lines, record_lines}
+pub use Rattle.dom_query_commands.specs.Recorded.{IsNotice, IsRecord, notice_lines, record_lines}
 pub use Rattle.dom_query_commands.specs.Requests.{command_of, cursor_count, cursor_new, thing_of}
 pub use Rattle.dom_query_commands.specs.declared.cursors.Cursor.{Cursor}
 pub use Rattle.dom_query_commands.specs.declared.things.Request.{Request}

@@ -1,7 +1,8 @@
 -- The lines of a notification are those of the records that each pending observer is given.
 use Rattle.dom_query_commands.proofs.Cited.{Vec, flat_map, map, ◌≡◌, ℕ, List, [], ◌∷◌, ◌++◌, sym, ap, ◌∙◌, refl, NodeName, Owner, Output, Change, says}
 use Rattle.dom_query_commands.proofs.Cited.{recorded, queue_of, notified_lines, World, part_of, owner-part_of, DocState, change_in, notice_in, notices_of}
-use Rattle.dom_query_commands.proofs.Cited.{record_lines, notice_lines}
+use Rattle.dom_query_commands.proofs.Cited.{record_lines, notice_lines, records_of, not, length, is_empty}
+use Rattle.dom_base.proofs.Std.{◌==◌, arith, ne_eqb}
 use Rattle.dom_observers.specs.declared.change.Change.{Change as KeyedChange}
 
 lines_mapped : {X Y Z : Type 0} (f : Y → List Z) (g : X → Y) (xs : List X) → flat_map f (map g xs) ≡ flat_map (λ x. f (g x)) xs
@@ -30,3 +31,17 @@ notice_lines_are {Z} d w o list is =
     ∙ sym (lines_mapped (told_lines o) (notice_in d) list) ∙ ap (flat_map (told_lines o)) is
     ∙ lines_mapped (told_lines o) (λ k. (k, queue_of (part_of w o).record_queues k)) (part_of w o).pending
     ∙ ap (λ q. flat_map (λ k. map (λ c. says q (recorded k c)) (queue_of (part_of w o).record_queues k)) (part_of w o).pending) (sym (owner-part_of w o))
+
+-- the lines of what one observer is told are those of its records
+pub record_lines_are : (d : DocState) (w : World) (o : Owner) (k : ℕ) (rs : List KeyedChange) →
+    map (change_in d) rs ≡ queue_of (part_of w o).record_queues k → record_lines d.names o k rs ≡ records_of (part_of w o) k
+record_lines_are d w o k rs is =
+    sym (map_twice (change_in d) (λ c. says o (recorded k c)) rs) ∙ ap (map (λ c. says o (recorded k c))) is
+    ∙ ap (λ q. map (λ c. says q (recorded k c)) (queue_of (part_of w o).record_queues k)) (sym (owner-part_of w o))
+
+-- it is told something where it has records
+pub any_told : (d : DocState) (rs : List KeyedChange) {queue : List (Change NodeName)} → map (change_in d) rs ≡ queue →
+    not (length rs == 0) ≡ not (is_empty queue)
+any_told d [] is = ap (λ (q : List (Change NodeName)). not (is_empty q)) is
+any_told d (r ∷ rs) is =
+    ap not (ne_eqb (length (r ∷ rs)) 0 (λ e. omega (arith, e))) ∙ ap (λ (q : List (Change NodeName)). not (is_empty q)) is

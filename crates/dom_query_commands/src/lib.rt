@@ -11,6 +11,7 @@ pub mod reads;
 mod records;
 pub mod selecting;
 mod structure;
+pub mod telling;
 pub mod things;
 mod tree_text;
 
