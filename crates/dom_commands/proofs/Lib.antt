@@ -13,4 +13,6 @@ mod Looking
 mod Machines
 mod Opening
 mod RangePlans
+mod Rewritten
+mod ToldOwners
 mod SameWorlds

@@ -7,6 +7,7 @@ mod commands;
 mod events;
 mod looks;
 mod machine;
+mod notifying;
 mod path_text;
 mod ranging;
 mod tasks;
@@ -14,3 +15,4 @@ mod turns;
 
 pub use dom_query_commands::{NodeLinks, StructureRow};
 pub use machine::Machine;
+pub use notifying::Pending;
