@@ -107,7 +107,7 @@ impl Machine {
 }
 
 /// Lets the line of a dispatch pass, or says why it is refused.
-fn admit_event(
+pub(crate) fn admit_event(
     state: &State,
     owner: Owner,
     target: NodeWord,

@@ -10,6 +10,7 @@ mod machine;
 mod notifying;
 mod path_text;
 mod ranging;
+mod refusing;
 mod tasks;
 mod turns;
 
