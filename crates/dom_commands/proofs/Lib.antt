@@ -16,3 +16,4 @@ mod RangePlans
 mod Rewritten
 mod ToldOwners
 mod SameWorlds
+mod HeardNodes

@@ -3,3 +3,4 @@ pub mod CommandGroups
 pub mod WithListeners
 pub mod Machine
 pub mod RangeWorlds
+pub mod Written

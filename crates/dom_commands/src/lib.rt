@@ -5,6 +5,7 @@ mod answering;
 mod calls;
 mod commands;
 mod events;
+mod hearing;
 mod looks;
 mod machine;
 mod notifying;
@@ -14,6 +15,7 @@ mod refusing;
 mod tasks;
 mod turns;
 
+pub use dom_dispatch::HeldWords;
 pub use dom_query_commands::{NodeLinks, StructureRow};
 pub use machine::Machine;
 pub use notifying::Pending;
