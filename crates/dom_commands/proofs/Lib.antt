@@ -17,3 +17,4 @@ mod Rewritten
 mod ToldOwners
 mod SameWorlds
 mod HeardNodes
+mod Visiting

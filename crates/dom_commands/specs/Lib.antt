@@ -3,4 +3,5 @@ pub mod CommandGroups
 pub mod WithListeners
 pub mod Machine
 pub mod RangeWorlds
+pub mod Visits
 pub mod Written

@@ -14,8 +14,10 @@ mod ranging;
 mod refusing;
 mod tasks;
 mod turns;
+mod visits;
 
 pub use dom_dispatch::HeldWords;
 pub use dom_query_commands::{NodeLinks, StructureRow};
 pub use machine::Machine;
 pub use notifying::Pending;
+pub use visits::Visit;
