@@ -1,5 +1,5 @@
 -- The commands on listeners, in a world with listeners.
-use Rattle.dom_commands.proofs.Cited.{◌≡◌, ◌≢◌, ℕ, ◌<◌, Bool, true, false, List, [], ◌∷◌, ◌++◌, length, Option, Some, None, Result, Ok, Err, refl, sym, ap}
+use Rattle.dom_commands.proofs.Cited.{◌≡◌, ◌≢◌, ℕ, ◌<◌, Bool, true, false, List, [], ◌∷◌, length, Option, Some, None, Result, Ok, Err, refl, sym, ap}
 use Rattle.dom_commands.proofs.Cited.{subst, ◌∙◌, true≢false, nat_eq, is_some, IsErrAnd, AllByRecursion, IsReached, IsWhole, which_way, either_way}
 use Rattle.dom_commands.proofs.Cited.{name_at, TellApart, IsListenerAt, IsDone, IsHandled, heard, own_listeners, MachineNow, machine_now, IsAtRest}
 use Rattle.dom_commands.proofs.Cited.{KeepsListeners, DocState, owner-named, MayAct, opened-there}

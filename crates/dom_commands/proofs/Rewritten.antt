@@ -1,7 +1,7 @@
 -- A world as the machine reaches it stays one where an owner's part is written with other listeners, record queues, registrations and pending
 -- observers, and where the owner's slots are not signalled any more.
-use Rattle.dom_commands.proofs.Cited.{◌≡◌, ℕ, ◌<◌, true, false, not, List, length, filter, refl, sym, ap, ◌∙◌, subst, true≢false, AllByRecursion}
-use Rattle.dom_commands.proofs.Cited.{all-filter, all-then, each-part, has_owner, HasBounds, IsBounded, IsNodeIn, IsReached, IsThere, IsWhole, owners_in}
+use Rattle.dom_commands.proofs.Cited.{◌≡◌, ℕ, ◌<◌, true, not, List, length, filter, refl, sym, ap, ◌∙◌, subst, true≢false, AllByRecursion}
+use Rattle.dom_commands.proofs.Cited.{all-filter, all-then, each-part, has_owner, HasBounds, IsBounded, IsNodeIn, IsThere, owners_in}
 use Rattle.dom_commands.proofs.Cited.{owners-put, Stands, task_owner, there-listed, there-with_part, MachineNow, IsAtRest, AreAtNodes, option_to_list}
 use Rattle.dom_model.proofs.Model.{Owner, Page, NodeName, World, Part, part_of, with_part, is_there, Listener, owner-part_of, without_signals}
 use Rattle.dom_model.proofs.Model.{is_owned_by, Change, Registration, first_node, first_of}

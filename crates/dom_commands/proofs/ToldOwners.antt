@@ -1,7 +1,7 @@
 -- A notification, one observer after another, in a world with listeners.
-use Rattle.dom_commands.proofs.Cited.{◌≡◌, ℕ, ◌<◌, true, not, ◌&&◌, List, [], ◌∷◌, filter, length, map, refl, sym, ap, ◌∙◌, subst, AllByRecursion, nat_eq}
-use Rattle.dom_commands.proofs.Cited.{all-filter, name_at, DocState, IsListenerAt, IsAtRest, IsThere, MachineNow, machine_now, hearing, heard, own_listeners}
-use Rattle.dom_model.proofs.Model.{NodeName, Owner, Listener, Part, World, Output, part_of, with_part, is_there, is_owned_by, without_signals, records_of}
+use Rattle.dom_commands.proofs.Cited.{◌≡◌, ℕ, ◌<◌, true, not, ◌&&◌, List, [], ◌∷◌, filter, length, map, sym, ap, ◌∙◌, subst, AllByRecursion, nat_eq}
+use Rattle.dom_commands.proofs.Cited.{all-filter, name_at, DocState, IsListenerAt, IsAtRest, MachineNow, machine_now, hearing, heard, own_listeners}
+use Rattle.dom_model.proofs.Model.{NodeName, Owner, Listener, Part, World, part_of, with_part, is_there, is_owned_by, without_signals, records_of}
 use Rattle.dom_model.proofs.Model.{is_in, is_transient, queue_of, Registration, without_transients}
 use Rattle.dom_base.proofs.Std.{length-set, slice_set, Err, Ok, OnOk, Result}
 use Rattle.dom_mutation.specs.Definitions.{after_telling, none_pending}
