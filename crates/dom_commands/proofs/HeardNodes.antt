@@ -1,10 +1,12 @@
 -- Listeners of a node that is given by its name: what is found by keys is what the world has.
-use Rattle.dom_commands.proofs.Cited.{◌≡◌, ℕ, ◌<◌, Bool, true, false, not, ◌&&◌, ◌||◌, List, [], ◌∷◌, filter, length, map, refl, sym, ap, ◌∙◌, subst, true≢false}
-use Rattle.dom_commands.proofs.Cited.{AllByRecursion, list_any, nat_eq, beq, cond-true, cond-false, and_parts, any-filter_same, filter-wider, key-test, by_cases}
+use Rattle.dom_commands.proofs.Cited.{◌≡◌, ℕ, ◌<◌, Bool, true, false, not, ◌&&◌, ◌||◌, List, [], ◌∷◌, filter, length, map, refl, sym, ap, ◌∙◌}
+use Rattle.dom_commands.proofs.Cited.{subst, true≢false, by_cases}
+use Rattle.dom_commands.proofs.Cited.{AllByRecursion, list_any, nat_eq, beq, cond-true, cond-false, and_parts, any-filter_same, filter-wider, key-test}
 use Rattle.dom_commands.proofs.Cited.{all-filter, name_at, TellApart, DocState, IsListenerAt, is_of_owner, listener_named, IsAtRest, MachineNow}
 use Rattle.dom_commands.proofs.Cited.{machine_now, own_listeners, with_part-same}
 use Rattle.dom_base.proofs.Std.{◌≢◌}
-use Rattle.dom_model.proofs.Model.{NodeName, Owner, EventWords, Listener, ListenerWords, Visit, Word, Trees, Part, World, has_node, hears, is_listener, is_there, name_eq}
+use Rattle.dom_model.proofs.Model.{NodeName, Owner, EventWords, Listener, ListenerWords, Visit, Word, Trees, Part, World, has_node, hears}
+use Rattle.dom_model.proofs.Model.{is_listener, is_there, name_eq}
 use Rattle.dom_model.proofs.Model.{name_eq-true, node_of, owner_eq, owner_eq-same, owner-part_of, part_of, text_eq, with_listener_removed, with_part}
 use Rattle.dom_worlds.specs.Definitions.{IsListenerIn}
 use Rattle.dom_dispatch.specs.Definitions.{hears_at}
@@ -185,8 +187,9 @@ module _ (s : DocState) (ls : List (Listener ℕ)) (m : MachineNow) (seen : mach
       left_world =
           let at = seen_at s ls m seen sound in
           let remove = λ (y : NodeName) (ms : List (Listener NodeName)). with_listener_removed name_eq y event label capture ms in
+          let gone = own-unlistened s.names apart ls at k within event label capture in
           let mine : own_listeners s.names less x.owner ≡ remove x (of x.owner) =
-          subst (λ (y : NodeName). own_listeners s.names less y.owner ≡ remove y (of y.owner)) is (own-unlistened s.names apart ls at k within event label capture) in
+          subst (λ (y : NodeName). own_listeners s.names less y.owner ≡ remove y (of y.owner)) is gone in
           let others : (q : Owner) → x.owner ≢ q → own_listeners s.names less q ≡ of q =
           λ q other. others-unlistened s.names apart ls at k within event label capture q (λ e. other (ap (λ (y : NodeName). y.owner) (sym is) ∙ e)) in
           sym (written-heard of (own_listeners s.names less) s.world fits

@@ -101,14 +101,15 @@ path-nodes names (v ∷ vs) (suc i) ks all is = path-nodes names vs i ks all.1 i
 -- ---- in the world
 
 -- what is shown along the path in the world of a machine at rest
-pub visits-world : (f : NamedTrees) (hosts : List ShadowHost) (s : DocState) (ls : List (Listener ℕ)) (m : MachineNow) → IsShownAtRest s ls m f hosts →
-    (vs : List (View ℕ)) (k : ℕ) (r : Option ℕ) (composed : Bool) →
-    ((w : World) → IsWorldOf f hosts w →
-    map (view_named f.names) vs ≡ views w (name_at f.names k) (option_map (name_at f.names) r) composed) →
-    map (view_named f.names) vs ≡ views m.world (name_at s.names k) (option_map (name_at s.names) r) composed
-visits-world f hosts s ls m is vs k r composed all =
-    let fits = fits-own s.names s.world is.there ls (seen_at s ls m is.seen is.sound) in
-    let shown : IsShownBy (shadows f hosts) m.world =
-    subst (λ (n : MachineNow). IsShownBy (shadows f hosts) n.world) is.seen (shown-heard (own_listeners s.names ls) (shadows f hosts) s.world fits is.shown) in
-    all m.world (record { shown = shown; reached = is.sound.reached; whole = is.sound.whole })
-    ∙ ap (λ (ns : List NodeName). views m.world (name_at ns k) (option_map (name_at ns) r) composed) is.names
+module _ (f : NamedTrees) (hosts : List ShadowHost) (s : DocState) (ls : List (Listener ℕ)) (m : MachineNow) (is : IsShownAtRest s ls m f hosts)
+    (vs : List (View ℕ)) (k : ℕ) (r : Option ℕ) (composed : Bool) where
+  pub visits-world :
+      ((w : World) → IsWorldOf f hosts w →
+      map (view_named f.names) vs ≡ views w (name_at f.names k) (option_map (name_at f.names) r) composed) →
+      map (view_named f.names) vs ≡ views m.world (name_at s.names k) (option_map (name_at s.names) r) composed
+  visits-world all =
+      let fits = fits-own s.names s.world is.there ls (seen_at s ls m is.seen is.sound) in
+      let heard = shown-heard (own_listeners s.names ls) (shadows f hosts) s.world fits is.shown in
+      let shown : IsShownBy (shadows f hosts) m.world = subst (λ (n : MachineNow). IsShownBy (shadows f hosts) n.world) is.seen heard in
+      all m.world (record { shown = shown; reached = is.sound.reached; whole = is.sound.whole })
+      ∙ ap (λ (ns : List NodeName). views m.world (name_at ns k) (option_map (name_at ns) r) composed) is.names
