@@ -128,7 +128,8 @@ fn row_told(answer: &Answer) -> Option<NodeRow> {
 
 /// Whether an attribute has this name and value.
 fn is_attribute(answer: &Answer, spans: &AttributeSpans, name: &[u8], value: &[u16]) -> bool {
-    part(spans.name, answer.bytes()) == Some(name) && part(spans.value, answer.units()) == Some(value)
+    part(spans.name, answer.bytes()) == Some(name)
+        && part(spans.value, answer.units()) == Some(value)
 }
 
 /// What is told of a node of the tree.
