@@ -128,7 +128,7 @@ pub(crate) fn put_rows(
     Ok(())
 }
 
-/// A node of a structure, without what it has itself. The first node has the parent's row 0.
+/// A node of a structure, without what it has itself. The parent of the first node is given as 0.
 fn bare_of(owners: &[Owner], row: &StructureRow) -> Option<DomRow>
     ensures row { IfSome result (λ made. row_in owners.now made ≡ bare_row row.now) }
     ensures parent { IfSome result (λ made. made.parent ≡ parents_row row.now) }
